@@ -1,0 +1,86 @@
+-- What the definitions of lanes say: document 01, "Lanes: 1 is the low byte, 2 the high, 3 both. An unselected byte is
+-- ignored in a write and 0 in an answer". Each law goes by cases on which bytes are selected.
+use Prim.Native.Nat.{ℕ, _+_, _*_, _/_, _%_, _<_}
+use native.Mathlib.Omega.{arith}
+use mathlib.Core.Path.{_≡_, refl}
+use mathlib.Core.Bool.{Bool, true, false, false≢true, cond, _||_}
+use mathlib.Core.Logic.{_⊎_, inl, inr, ⊎-elim, _↔_}
+use lib.Dec.{eqb}
+use borrow.Author.Tests.{eqb-true, eqb-false}
+use Rattle.words.specs.Bytes.{lo, hi, takes-low, takes-high, lay, shown, replaced}
+
+-- ---- which lanes select a byte
+one-of : (n j k : ℕ) → (eqb n j || eqb n k) ≡ true ↔ (n ≡ j) ⊎ (n ≡ k)
+one-of n j k = go (eqb n j) (eqb n k) refl refl
+  where
+    go : (s t : Bool) → eqb n j ≡ s → eqb n k ≡ t → (s || t) ≡ true ↔ (n ≡ j) ⊎ (n ≡ k)
+    go true t e f = (λ _. inl (eqb-true n j e), λ _. refl)
+    go false true e f = (λ _. inr (eqb-true n k f), λ _. refl)
+    go false false e f = (λ x. absurd (false≢true x), λ x. absurd (⊎-elim (eqb-false n j e) (eqb-false n k f) x))
+
+pub low-lanes : (lanes : ℕ) → takes-low lanes ≡ true ↔ (lanes ≡ 1) ⊎ (lanes ≡ 3)
+unfolding takes-low
+low-lanes lanes = one-of lanes 1 3
+
+pub high-lanes : (lanes : ℕ) → takes-high lanes ≡ true ↔ (lanes ≡ 2) ⊎ (lanes ≡ 3)
+unfolding takes-high
+high-lanes lanes = one-of lanes 2 3
+
+-- ---- a word is its two bytes
+pub low-of : (l h : ℕ) → l < 256 → lo (l + 256 * h) ≡ l
+low-of l h p = omega arith
+
+pub high-of : (l h : ℕ) → l < 256 → h < 256 → hi (l + 256 * h) ≡ h
+high-of l h p q = omega arith
+
+pub whole-word : (w : ℕ) → w < 65536 → lo w + 256 * hi w ≡ w
+whole-word w p = omega arith
+
+-- ---- bytes laid over a word: a selected byte is the new one, any other the old one
+byte-below : (t : Bool) (x y : ℕ) → x < 256 → y < 256 → cond t x y < 256
+byte-below true x y p q = p
+byte-below false x y p q = q
+
+module _ (lanes old l h : ℕ) (p : l < 256) (q : h < 256) where
+  low-below : cond (takes-low lanes) l (lo old) < 256
+  low-below = byte-below (takes-low lanes) l (lo old) p (omega arith)
+
+  high-below : cond (takes-high lanes) h (hi old) < 256
+  high-below = byte-below (takes-high lanes) h (hi old) q (omega arith)
+
+  pub laid-word : lay lanes old l h < 65536
+  unfolding lay
+  laid-word = omega (arith, low-below, high-below)
+
+  pub laid-low : lo (lay lanes old l h) ≡ cond (takes-low lanes) l (lo old)
+  unfolding lay
+  laid-low = low-of _ _ low-below
+
+  pub laid-high : hi (lay lanes old l h) ≡ cond (takes-high lanes) h (hi old)
+  unfolding lay
+  laid-high = high-of _ _ low-below high-below
+
+-- ---- a write
+pub replaced-low : (lanes old new : ℕ) → lo (replaced lanes old new) ≡ cond (takes-low lanes) (lo new) (lo old)
+replaced-low lanes old new = laid-low lanes old (lo new) (hi new) (omega arith) (omega arith)
+
+pub replaced-high : (lanes old new : ℕ) → hi (replaced lanes old new) ≡ cond (takes-high lanes) (hi new) (hi old)
+replaced-high lanes old new = laid-high lanes old (lo new) (hi new) (omega arith) (omega arith)
+
+pub replaced-word : (lanes old new : ℕ) → replaced lanes old new < 65536
+replaced-word lanes old new = laid-word lanes old (lo new) (hi new) (omega arith) (omega arith)
+
+pub replaced-whole : (old w : ℕ) → w < 65536 → replaced 3 old w ≡ w
+unfolding lay takes-low takes-high
+replaced-whole old w p = whole-word w p
+
+-- ---- an answer
+pub shown-low : (lanes w : ℕ) → lo (shown lanes w) ≡ cond (takes-low lanes) (lo w) 0
+shown-low lanes w = laid-low lanes 0 (lo w) (hi w) (omega arith) (omega arith)
+
+pub shown-high : (lanes w : ℕ) → hi (shown lanes w) ≡ cond (takes-high lanes) (hi w) 0
+shown-high lanes w = laid-high lanes 0 (lo w) (hi w) (omega arith) (omega arith)
+
+pub shown-whole : (w : ℕ) → w < 65536 → shown 3 w ≡ w
+unfolding lay takes-low takes-high
+shown-whole w p = whole-word w p

@@ -1,0 +1,67 @@
+-- What the definitions of one word of memory say: found again where it was stored, filler and nothing beyond the end.
+-- Each law goes by cases on whether the word is in memory.
+use Prim.Native.Nat.{ℕ, _<_, _≤_}
+use native.Mathlib.Omega.{arith}
+use mathlib.Core.Path.{_≡_, refl, sym, ap, _∙_}
+use mathlib.Core.Bool.{Bool, true, false, cond}
+use mathlib.Core.List.{List}
+use mathlib.Core.Logic.{_↔_, _≢_, ⊎-elim}
+use lib.ListN.{length, getD, set, length-set}
+use lib.Seq.{getD-set-same, getD-set-other, set-getD}
+use borrow.Author.Tests.{ltb-true, lt-ltb}
+use Rattle.words.specs.Memory.{in-memory, fetch-at, store-at}
+use Rattle.words.specs.declared.WordNumber.{WordNumber}
+use Rattle.words.specs.declared.Fetched.{Fetched}
+use Rattle.words.proofs.Choices.{either-way}
+
+module _ (m : List ℕ) (n : WordNumber) where
+  -- A word is in the lent memory exactly if its number is below the memory's length.
+  pub in-memory-when : in-memory m n ≡ true ↔ n .0 < length m
+  in-memory-when = (ltb-true (n .0) (length m), lt-ltb (n .0) (length m))
+
+  -- A fetch brings memory's word, or FFFFh.
+  pub fetched-inside : in-memory m n ≡ true → fetch-at m n ≡ record { word = getD m (n .0) 0; inside = true }
+  unfolding fetch-at
+  fetched-inside e = rw e
+
+  pub fetched-beyond : in-memory m n ≡ false → fetch-at m n ≡ record { word = 65535; inside = false }
+  unfolding fetch-at
+  fetched-beyond e = rw e
+
+  -- A store beyond memory is dropped; one inside changes its own word and no other.
+  pub stored-beyond : (w : ℕ) → in-memory m n ≡ false → store-at m n w ≡ m
+  unfolding store-at
+  stored-beyond w e = rw e
+
+  pub stored-here : (w : ℕ) → in-memory m n ≡ true → getD (store-at m n w) (n .0) 0 ≡ w
+  unfolding store-at
+  stored-here w e = rw e (getD-set-same m (n .0) w 0 (ltb-true _ _ e))
+
+  pub stored-elsewhere : (w k : ℕ) → k ≢ n .0 → getD (store-at m n w) k 0 ≡ getD m k 0
+  unfolding store-at
+  stored-elsewhere w k d = go (in-memory m n)
+    where
+      go : (t : Bool) → getD (cond t (set m (n .0) w) m) k 0 ≡ getD m k 0
+      go true = getD-set-other m (n .0) k w 0 d
+      go false = refl
+
+  pub stored-length : (w : ℕ) → length (store-at m n w) ≡ length m
+  unfolding store-at
+  stored-length w = go (in-memory m n)
+    where
+      go : (t : Bool) → length (cond t (set m (n .0) w) m) ≡ length m
+      go true = length-set m (n .0) w
+      go false = refl
+
+  -- What was stored is fetched; what was fetched, stored again, changes nothing.
+  pub fetch-stored : (w : ℕ) → in-memory m n ≡ true → fetch-at (store-at m n w) n ≡ record { word = w; inside = true }
+  unfolding fetch-at
+  fetch-stored w e = rw (stored-length w, e, stored-here w e)
+
+  pub store-fetched : store-at m n (fetch-at m n .word) ≡ m
+  unfolding store-at fetch-at
+  store-fetched = go (in-memory m n)
+    where
+      go : (t : Bool) → cond t (set m (n .0) (cond t (getD m (n .0) 0) 65535)) m ≡ m
+      go true = set-getD m (n .0) 0
+      go false = refl

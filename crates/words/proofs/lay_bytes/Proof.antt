@@ -1,0 +1,55 @@
+-- `words::lay_bytes` meets its contract: each byte is the one that `choose_byte` chose.
+use borrow.Author.Needs.{needs}
+use Rattle.words.specs.Bytes.{lay}
+use Rattle.words.proofs.lay_bytes.Statement.{statement}
+use Rattle.words.proofs.lay_bytes.Tie as tie
+
+selects-low-requires : tie.Need-selects-low-requires
+selects-low-requires c κs = search needs
+
+low-byte-requires : tie.Need-low-byte-requires
+low-byte-requires c κs = search needs
+
+choose-byte-requires : tie.Need-choose-byte-requires
+choose-byte-requires c κs = search needs
+
+selects-high-requires : tie.Need-selects-high-requires
+selects-high-requires c κs = search needs
+
+high-byte-requires : tie.Need-high-byte-requires
+high-byte-requires c κs = search needs
+
+choose-byte-requires-2 : tie.Need-choose-byte-requires-2
+choose-byte-requires-2 c κs = search needs
+
+cast-result : tie.Need-cast-result
+cast-result c = search needs
+
+cast-result-2 : tie.Need-cast-result-2
+cast-result-2 c = search needs
+
+mul-result : tie.Need-mul-result
+mul-result c = search needs
+
+add-result : tie.Need-add-result
+add-result c = search needs
+
+returns : tie.Need-returns
+unfolding lay
+returns c = cc
+
+pub lay-bytes-spec : {M : Type 1} → statement M
+lay-bytes-spec =
+    tie.close
+    (tie.spec
+    selects-low-requires
+    low-byte-requires
+    choose-byte-requires
+    selects-high-requires
+    high-byte-requires
+    choose-byte-requires-2
+    cast-result
+    cast-result-2
+    mul-result
+    add-result
+    returns)

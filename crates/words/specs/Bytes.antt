@@ -1,0 +1,38 @@
+-- Bytes, lanes and bits of a 16-bit word: document 01, 'Memory and addresses' and, for lanes, 'The four host registers'.
+--   lo w, hi w               the low and the high byte of a word
+--   bit w i                  bit i of a word
+--   takes-low, takes-high    these lanes select the low byte, the high byte
+--   lay lanes old l h        the word old with its selected bytes made l (the low one) and h (the high one)
+--   shown lanes w            a word as an answer shows it
+--   replaced lanes old new   the word old after a write of new
+use Prim.Native.Nat.{ℕ, _+_, _*_, _/_, _%_, _^_}
+use mathlib.Core.Bool.{Bool, cond, _||_}
+use lib.Dec.{eqb}
+
+abbrev pub lo : ℕ → ℕ
+lo w = w % 256
+
+abbrev pub hi : ℕ → ℕ
+hi w = w / 256 % 256
+
+-- "bit 0 the least significant"
+unfoldable pub bit : ℕ → ℕ → Bool
+bit w i = eqb (w / 2 ^ i % 2) 1
+
+-- "Lanes: 1 is the low byte, 2 the high, 3 both"
+unfoldable pub takes-low : ℕ → Bool
+takes-low lanes = eqb lanes 1 || eqb lanes 3
+
+unfoldable pub takes-high : ℕ → Bool
+takes-high lanes = eqb lanes 2 || eqb lanes 3
+
+unfoldable pub lay : ℕ → ℕ → ℕ → ℕ → ℕ
+lay lanes old l h = cond (takes-low lanes) l (lo old) + 256 * cond (takes-high lanes) h (hi old)
+
+-- "An unselected byte is .. 0 in an answer"
+abbrev pub shown : ℕ → ℕ → ℕ
+shown lanes w = lay lanes 0 (lo w) (hi w)
+
+-- "An unselected byte is ignored in a write"
+abbrev pub replaced : ℕ → ℕ → ℕ → ℕ
+replaced lanes old new = lay lanes old (lo new) (hi new)

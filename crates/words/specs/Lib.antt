@@ -1,0 +1,3 @@
+pub mod Addresses
+pub mod Bytes
+pub mod Memory
