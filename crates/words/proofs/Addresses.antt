@@ -1,5 +1,5 @@
 -- What the definitions of addresses say: a word has sixteen bit addresses, and the pointer's step goes one word on.
-use Prim.Native.Nat.{ℕ, suc, _+_, _*_, _/_, _%_, _^_, _<_}
+use Prim.Native.Nat.{ℕ, suc, _+_, _*_, _%_, _^_, _<_}
 use native.Mathlib.Omega.{arith}
 use mathlib.Core.Path.{_≡_, refl}
 use Rattle.words.specs.Addresses.{address, word-at, step}

@@ -1,8 +1,8 @@
 -- A word done byte by byte, in either order, ends as the word done whole: the heart of demand 3.
 -- The order is a Bool, the way LBL has it: true for the high byte first and the low byte last.
-use Prim.Native.Nat.{ℕ, _+_, _*_, _/_, _%_, _<_}
+use Prim.Native.Nat.{ℕ, _+_, _<_}
 use native.Mathlib.Omega.{arith}
-use mathlib.Core.Path.{_≡_, refl}
+use mathlib.Core.Path.{_≡_}
 use mathlib.Core.Bool.{Bool, true, false, cond}
 use Rattle.words.specs.Bytes.{lo, hi, takes-low, takes-high, lay, shown, replaced}
 use Rattle.words.proofs.Lanes.{low-of, high-of}

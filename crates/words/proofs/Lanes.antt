@@ -1,6 +1,6 @@
 -- What the definitions of lanes say: document 01, "Lanes: 1 is the low byte, 2 the high, 3 both. An unselected byte is
 -- ignored in a write and 0 in an answer". Each law goes by cases on which bytes are selected.
-use Prim.Native.Nat.{ℕ, _+_, _*_, _/_, _%_, _<_}
+use Prim.Native.Nat.{ℕ, _+_, _*_, _<_}
 use native.Mathlib.Omega.{arith}
 use mathlib.Core.Path.{_≡_, refl}
 use mathlib.Core.Bool.{Bool, true, false, false≢true, cond, _||_}

@@ -1,18 +1,15 @@
 -- What the definitions of one word of memory say: found again where it was stored, filler and nothing beyond the end.
 -- Each law goes by cases on whether the word is in memory.
-use Prim.Native.Nat.{ℕ, _<_, _≤_}
-use native.Mathlib.Omega.{arith}
-use mathlib.Core.Path.{_≡_, refl, sym, ap, _∙_}
+use Prim.Native.Nat.{ℕ, _<_}
+use mathlib.Core.Path.{_≡_, refl}
 use mathlib.Core.Bool.{Bool, true, false, cond}
 use mathlib.Core.List.{List}
-use mathlib.Core.Logic.{_↔_, _≢_, ⊎-elim}
+use mathlib.Core.Logic.{_↔_, _≢_}
 use lib.ListN.{length, getD, set, length-set}
 use lib.Seq.{getD-set-same, getD-set-other, set-getD}
 use borrow.Author.Tests.{ltb-true, lt-ltb}
 use Rattle.words.specs.Memory.{in-memory, fetch-at, store-at}
 use Rattle.words.specs.declared.WordNumber.{WordNumber}
-use Rattle.words.specs.declared.Fetched.{Fetched}
-use Rattle.words.proofs.Choices.{either-way}
 
 module _ (m : List ℕ) (n : WordNumber) where
   -- A word is in the lent memory exactly if its number is below the memory's length.

@@ -1,6 +1,5 @@
 -- `words::step_address` meets its contract: the supplied wrapping sum is the definition's.
 use borrow.Author.Needs.{needs}
-use mathlib.Core.Path.{_≡_}
 use Rattle.words.proofs.step_address.Statement.{statement}
 use Rattle.words.proofs.step_address.Tie as tie
 

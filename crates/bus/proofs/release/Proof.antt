@@ -1,0 +1,21 @@
+-- `bus::release` meets its contract: its test on hold is the definition's.
+use borrow.Author.Needs.{needs}
+use mathlib.Core.Path.{ap}
+use Rattle.bus.specs.Order.{with-source, released}
+use Rattle.bus.specs.declared.Bus.{Bus}
+use Rattle.bus.proofs.release.Statement.{statement}
+use Rattle.bus.proofs.release.Tie as tie
+
+set-source-requires : tie.Need-set-source-requires
+set-source-requires c κs = search needs
+
+returns : tie.Need-returns
+unfolding released with-source
+returns c = rw (c .before .if1 .taken) (ap (λ (b : Bus). record { number = 0; bus = b }) (c .set-source .ensures))
+
+returns-2 : tie.Need-returns-2
+unfolding released
+returns-2 c = rw (c .if1 .left)
+
+pub release-spec : {M : Type 1} → statement M
+release-spec = tie.close (tie.spec set-source-requires returns returns-2)

@@ -1,0 +1,44 @@
+-- `port::host::refusal_of` meets its contract: the tests are the definition's, in its order.
+use borrow.Author.Needs.{needs}
+use mathlib.Core.Path.{sym, _∙_}
+use borrow.Author.Tests.{lt-ltb, le-ltb}
+use Rattle.port.specs.Host.{refusal}
+use Rattle.port.proofs.host.refusal_of.Statement.{statement}
+use Rattle.port.proofs.host.refusal_of.Tie as tie
+
+is-over-limit-requires : tie.Need-is-over-limit-requires
+is-over-limit-requires c κs = search needs
+
+returns : tie.Need-returns
+unfolding refusal
+returns c = rw (sym (c .before .is-over-limit .ensures) ∙ c .if1 .taken)
+
+returns-2 : tie.Need-returns-2
+unfolding refusal
+returns-2 c = rw (sym (c .before .before .is-over-limit .ensures) ∙ c .before .if1 .left, lt-ltb _ _ (c .if2 .taken))
+
+either-requires : tie.Need-either-requires
+either-requires c κs = search needs
+
+either-requires-2 : tie.Need-either-requires-2
+either-requires-2 c κs = search needs
+
+returns-3 : tie.Need-returns-3
+unfolding refusal
+returns-3 c = rw (sym (c .before .before .before .before .before .is-over-limit .ensures) ∙ c .before .before .before .before .if1 .left, le-ltb _ _ (c .before .before .before .if2 .left), sym (c .before .before .either .ensures), sym (c .before .either2 .ensures) ∙ c .if3 .taken)
+
+returns-4 : tie.Need-returns-4
+unfolding refusal
+returns-4 c = rw (sym (c .before .before .before .before .before .is-over-limit .ensures) ∙ c .before .before .before .before .if1 .left, le-ltb _ _ (c .before .before .before .if2 .left), sym (c .before .before .either .ensures), sym (c .before .either2 .ensures) ∙ c .if3 .left)
+
+pub refusal-of-spec : {M : Type 1} → statement M
+refusal-of-spec =
+    tie.close
+    (tie.spec
+    is-over-limit-requires
+    returns
+    returns-2
+    either-requires
+    either-requires-2
+    returns-3
+    returns-4)

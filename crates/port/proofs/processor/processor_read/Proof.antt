@@ -1,0 +1,20 @@
+-- `port::processor::processor_read` meets its contract, by cases on the register's number.
+use borrow.Author.Needs.{needs}
+use borrow.Author.Tests.{lt-ltb, le-ltb}
+use Rattle.port.specs.Processor.{processor-reads}
+use Rattle.port.proofs.processor.processor_read.Statement.{statement}
+use Rattle.port.proofs.processor.processor_read.Tie as tie
+
+returns : tie.Need-returns
+unfolding processor-reads
+returns c = rw (lt-ltb _ _ (c .if1 .taken))
+
+look-requires : tie.Need-look-requires
+look-requires c κs = search needs
+
+returns-2 : tie.Need-returns-2
+unfolding processor-reads
+returns-2 c = rw (le-ltb _ _ (c .before .if1 .left), c .look .ensures)
+
+pub processor-read-spec : {M : Type 1} → statement M
+processor-read-spec = tie.close (tie.spec returns look-requires returns-2)

@@ -1,0 +1,20 @@
+-- `port::processor::processor_write` meets its contract, by cases on the register's number.
+use borrow.Author.Needs.{needs}
+use borrow.Author.Tests.{lt-ltb, le-ltb}
+use Rattle.port.specs.Processor.{processor-writes}
+use Rattle.port.proofs.processor.processor_write.Statement.{statement}
+use Rattle.port.proofs.processor.processor_write.Tie as tie
+
+returns : tie.Need-returns
+unfolding processor-writes
+returns c = rw (lt-ltb _ _ (c .if1 .taken))
+
+put-requires : tie.Need-put-requires
+put-requires c κs = search needs
+
+returns-2 : tie.Need-returns-2
+unfolding processor-writes
+returns-2 c = rw (le-ltb _ _ (c .before .if1 .left), c .put .ensures)
+
+pub processor-write-spec : {M : Type 1} → statement M
+processor-write-spec = tie.close (tie.spec returns put-requires returns-2)

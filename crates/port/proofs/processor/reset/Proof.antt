@@ -1,0 +1,13 @@
+-- `port::processor::reset` meets its contract: the bus record is the quiet one.
+use borrow.Author.Needs.{needs}
+use Rattle.port.proofs.processor.reset.Statement.{statement}
+use Rattle.port.proofs.processor.reset.Tie as tie
+
+idle-requires : tie.Need-idle-requires
+idle-requires c κs = search needs
+
+returns : tie.Need-returns
+returns c = rw (c .idle .ensures)
+
+pub reset-spec : {M : Type 1} → statement M
+reset-spec = tie.close (tie.spec idle-requires returns)

@@ -1,0 +1,4 @@
+pub mod Registers
+pub mod Cycle
+pub mod Host
+pub mod Processor
