@@ -2,3 +2,4 @@ pub mod Registers
 pub mod Cycle
 pub mod Host
 pub mod Processor
+pub mod Runs

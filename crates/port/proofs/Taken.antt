@@ -1,0 +1,39 @@
+-- An access that is accepted is begun and carried out; one that is refused changes nothing.
+-- What every law about a whole access starts from.
+use Prim.Native.Nat.{ℕ}
+use mathlib.Core.Path.{_≡_, refl, sym}
+use mathlib.Core.Bool.{Bool, true, false, cond}
+use mathlib.Core.List.{List}
+use mathlib.Core.Logic.{_≢_}
+use lib.Dec.{eqb}
+use borrow.Author.Tests.{eq-eqb, ne-eqb, eqb-true}
+use Rattle.port.specs.Cycle.{memory-after}
+use Rattle.port.specs.Host.{begin-access, number-for, refused, done, access, access-memory}
+use Rattle.port.specs.declared.Registers.{Registers}
+use Rattle.port.specs.declared.Access.{Access}
+
+module _ (r : Registers) (m : List ℕ) (a : Access) where
+  pub taken : number-for m a ≡ 0 → access r m a ≡ done (begin-access r a) m
+  unfolding access
+  taken e = rw (eq-eqb _ _ e)
+
+  pub taken-memory : number-for m a ≡ 0 → access-memory r m a ≡ memory-after (begin-access r a .registers) (begin-access r a .due) m
+  unfolding access-memory
+  taken-memory e = rw (eq-eqb _ _ e)
+
+  pub barred : number-for m a ≢ 0 → access r m a ≡ refused (number-for m a) r
+  unfolding access
+  barred n = rw (ne-eqb _ _ n)
+
+  pub barred-memory : number-for m a ≢ 0 → access-memory r m a ≡ m
+  unfolding access-memory
+  barred-memory n = rw (ne-eqb _ _ n)
+
+  -- The number answered is the number that applies.
+  pub number-is : access r m a .answer .number ≡ number-for m a
+  unfolding access done
+  number-is = go (eqb (number-for m a) 0) refl
+    where
+      go : (t : Bool) → eqb (number-for m a) 0 ≡ t → cond t (done (begin-access r a) m) (refused (number-for m a) r) .answer .number ≡ number-for m a
+      go true e = sym (eqb-true _ _ e)
+      go false e = refl
