@@ -5,6 +5,7 @@
 --   host-low, processor-low        the low byte after a write by either side
 --   control-laid low lanes c w     HSTCTL after a write, by the writer's rule for the low byte
 --   closes, fetches                what LBL decides: the closing byte, and the half of the pointer that fetches
+--   first-lane, last-lane          a word's two bytes in the order that LBL commands
 use Prim.Native.Nat.{ℕ, _+_, _*_, _/_, _%_}
 use mathlib.Core.Bool.{Bool, cond, _&&_, _||_}
 use lib.Dec.{eqb}
@@ -60,3 +61,10 @@ closes c lanes = cond (lbl c) (takes-low lanes) (takes-high lanes)
 -- "the register is 1 with LBL 0, or 0 with LBL 1"
 unfoldable pub fetches : ℕ → ℕ → Bool
 fetches c register = cond (lbl c) (eqb register 0) (eqb register 1)
+
+-- "A word done byte by byte ends with its closing byte": the byte that goes first, and the one that goes last
+abbrev pub first-lane : ℕ → ℕ
+first-lane c = cond (lbl c) 2 1
+
+abbrev pub last-lane : ℕ → ℕ
+last-lane c = cond (lbl c) 1 2

@@ -6,9 +6,8 @@
 --   answers, ends               a sequence done whole: what it answers, and where it ends
 --   byte-answers, byte-ends     the same sequence done by bytes
 use Prim.Native.Nat.{ℕ, _+_}
-use mathlib.Core.Bool.{cond}
 use mathlib.Core.List.{List, [], _∷_}
-use Rattle.control.specs.Control.{lbl}
+use Rattle.control.specs.Control.{first-lane, last-lane}
 use Rattle.port.specs.Host.{access, access-memory}
 use Rattle.port.specs.declared.Registers.{Registers}
 use Rattle.port.specs.declared.Access.{Access}
@@ -37,13 +36,6 @@ pub data Sixteen : Type 0 where
 abbrev pub on : ℕ → Sixteen → Access
 on lanes (load register) = Read register lanes
 on lanes (save register w) = Write register lanes w
-
--- "A word done byte by byte ends with its closing byte": the low byte with LBL 1, the high byte with LBL 0
-abbrev pub first-lane : ℕ → ℕ
-first-lane c = cond (lbl c) 2 1
-
-abbrev pub last-lane : ℕ → ℕ
-last-lane c = cond (lbl c) 1 2
 
 -- the two byte accesses are fixed "when it begins": by the control word before the first of them
 abbrev pub opening : Machine → Sixteen → Access

@@ -1,13 +1,13 @@
 -- What `bit` says: bit i of a number is its binary digit of weight 2^i.
 -- The number is split at bit i by `split`, once for i and once for the bit above it.
-use Prim.Native.Nat.{ℕ, zero, suc, _+_, _*_, _/_, _%_, _^_, _<_, _≤_}
+use Prim.Native.Nat.{ℕ, zero, suc, _+_, _-_, _*_, _/_, _%_, _^_, _<_, _≤_}
 use native.Mathlib.Nat.{div-eq-of-lt, lt-of-lt-of-le}
 use native.Mathlib.Omega.{arith}
-use mathlib.Core.Path.{_≡_, sym, ap, _∙_}
+use mathlib.Core.Path.{_≡_, sym, ap, subst, _∙_}
 use mathlib.Core.Bool.{false, cond}
 use lib.Dec.{eqb}
-use lib.Pow.{pow-mono, split, shr-shr, pow-add}
-use Rattle.words.specs.Bytes.{bit}
+use lib.Pow.{pow-mono, split, shr-shr, pow-add, field, mod-mod-pow}
+use Rattle.words.specs.Bytes.{lo, hi, bit}
 
 -- A number below 2^k has no bit k, nor any above it.
 pub bit-above : (k : ℕ) {w i : ℕ} → w < 2 ^ k → k ≤ i → bit w i ≡ false
@@ -33,3 +33,23 @@ pub split-at-bit : (w i : ℕ) → w ≡ w / 2 ^ (i + 1) * 2 ^ (i + 1) + cond (b
 unfolding bit
 split-at-bit w i =
     sym (split w i) ∙ digit (w / 2 ^ i) (2 ^ i) (w % 2 ^ i) ∙ rw (shr-shr w i 1, pow-add 2 i 1)
+
+-- The low k bits are those of the remainder by 2^k, the others those of the quotient.
+pub bit-of-quotient : (w k i : ℕ) → bit (w / 2 ^ k) i ≡ bit w (k + i)
+unfolding bit
+bit-of-quotient w k i = rw (shr-shr w k i)
+
+remainder-by : (w j i : ℕ) → bit (w % 2 ^ (j + 1 + i)) i ≡ bit w i
+unfolding bit
+remainder-by w j i = rw (field w (j + 1) i, mod-mod-pow (w / 2 ^ i) j 1)
+
+pub bit-of-remainder : (w k i : ℕ) → i < k → bit (w % 2 ^ k) i ≡ bit w i
+bit-of-remainder w k i h =
+    subst (λ (n : ℕ). bit (w % 2 ^ n) i ≡ bit w i) (omega arith) (remainder-by w (k - suc i) i)
+
+-- The bits of a word's two bytes are the word's own.
+pub bit-of-low : (w i : ℕ) → i < 8 → bit (lo w) i ≡ bit w i
+bit-of-low w i h = bit-of-remainder w 8 i h
+
+pub bit-of-high : (w i : ℕ) → i < 8 → bit (hi w) i ≡ bit w (8 + i)
+bit-of-high w i h = bit-of-remainder (w / 256) 8 i h ∙ bit-of-quotient w 8 i

@@ -1,0 +1,4 @@
+pub mod LowByte
+pub mod BitTen
+pub mod ClosingByte
+pub mod HighLane
