@@ -1,2 +1,4 @@
 pub mod Taken
 pub mod Numbers
+pub mod Pairs
+pub mod Alike

@@ -1,0 +1,139 @@
+-- Demand 3 over the registers alone: of a sixteen-bit access done as two byte accesses, the first calls for no cycle, and the
+-- second leaves the registers and calls for the cycle that the whole access does. By cases on the register.
+use Prim.Native.Nat.{ℕ, zero, suc, _+_, _<_}
+use native.Mathlib.Omega.{arith}
+use mathlib.Core.Path.{_≡_, refl, sym, ap, _∙_}
+use mathlib.Core.Bool.{Bool, true, false, cond, _&&_}
+use lib.Dec.{eqb}
+use borrow.Author.Tests.{ne-eqb}
+use Rattle.words.specs.Bytes.{lo, hi, replaced}
+use Rattle.words.specs.declared.BitAddress.{BitAddress}
+use Rattle.words.proofs.Lanes.{replaced-word}
+use Rattle.words.proofs.ByBytes.{lay-both, replaced-both, shown-both}
+use Rattle.control.specs.Control.{lbl, bare, host-low, control-laid, closes, fetches, first-lane, last-lane}
+use Rattle.control.proofs.LowByte.{host-parts}
+use Rattle.control.proofs.ClosingByte.{first-is-open, last-closes, both-close}
+use Rattle.port.specs.Registers.{low-half, high-half, halves, with-pointer, with-latch, with-control, register-word, written}
+use Rattle.port.specs.Host.{read-due, write-due, begin-access}
+use Rattle.port.specs.Runs.{Sixteen, load, save, on}
+use Rattle.port.specs.declared.Registers.{Registers}
+use Rattle.port.specs.declared.Due.{Due}
+use Rattle.port.specs.declared.Due.the-variants.{Nothing}
+use Rattle.port.specs.declared.Begun.{Begun}
+
+-- b is a whole access, b₁ and b₂ its two byte accesses
+pub record Paired (b b₁ b₂ : Begun) : Type 0 where
+  pub word : b₁ .word + b₂ .word ≡ b .word
+  pub hollow-first : b₁ .hollow ≡ b .hollow
+  pub hollow-last : b₂ .hollow ≡ b .hollow
+  pub no-cycle : b₁ .due ≡ Nothing
+  pub due : b₂ .due ≡ b .due
+  pub registers : b₂ .registers ≡ b .registers
+
+abbrev pub first-of : Registers → Sixteen → Begun
+first-of r a = begin-access r (on (first-lane (r .control)) a)
+
+abbrev pub last-of : Registers → Sixteen → Begun
+last-of r a = begin-access (first-of r a .registers) (on (last-lane (r .control)) a)
+
+-- ---- the pointer's halves
+low-of-halves : (l h : ℕ) → l < 65536 → low-half (halves l h) ≡ l
+low-of-halves l h p = omega arith
+
+high-of-halves : (l h : ℕ) → l < 65536 → h < 65536 → high-half (halves l h) ≡ h
+high-of-halves l h p q = omega arith
+
+-- the pointer after a write of one half
+abbrev low-written : ℕ → BitAddress → ℕ → BitAddress
+low-written lanes a w = halves (replaced lanes (low-half a) w) (high-half a)
+
+abbrev high-written : ℕ → BitAddress → ℕ → BitAddress
+high-written lanes a w = halves (low-half a) (replaced lanes (high-half a) w)
+
+module _ (b : Bool) (a : BitAddress) (w : ℕ) where
+  low-both : low-written (cond b 1 2) (low-written (cond b 2 1) a w) w ≡ low-written 3 a w
+  low-both =
+      let p = replaced-word (cond b 2 1) (low-half a) w in
+      rw (low-of-halves _ (high-half a) p, high-of-halves _ (high-half a) p (omega arith), replaced-both b (low-half a) w)
+
+  high-both : high-written (cond b 1 2) (high-written (cond b 2 1) a w) w ≡ high-written 3 a w
+  high-both =
+      let p = replaced-word (cond b 2 1) (high-half a) w in
+      rw (low-of-halves (low-half a) (replaced (cond b 2 1) (high-half a) w) (omega arith), high-of-halves (low-half a) _ (omega arith) p, replaced-both b (high-half a) w)
+
+-- ---- the control register, which takes what is none of the first three
+module _ (k : ℕ) (h : 2 < k) where
+  writes-control : (r : Registers) (lanes w : ℕ) → written r k lanes w ≡ with-control r (control-laid host-low lanes (r .control) w)
+  unfolding written
+  writes-control r lanes w = rw (ne-eqb k 0 (omega arith), ne-eqb k 1 (omega arith), ne-eqb k 2 (omega arith))
+
+  -- It calls for no cycle at any control word, so it is harmless that LBL changes in mid-word.
+  calls-none : (c lanes : ℕ) → write-due c k lanes ≡ Nothing
+  unfolding write-due fetches
+  calls-none c lanes =
+      rw (ne-eqb k 2 (omega arith), ne-eqb k 0 (omega arith), ne-eqb k 1 (omega arith)) (go (closes c lanes) (lbl c) _)
+    where
+      go : (t b : Bool) (d : Due) → cond t (cond (cond b false false) d Nothing) Nothing ≡ Nothing
+      go true true d = refl
+      go true false d = refl
+      go false b d = refl
+
+  control-both : (r : Registers) (w : ℕ) →
+      written (written r k (first-lane (r .control)) w) k (last-lane (r .control)) w ≡ written r k 3 w
+  control-both r w =
+      let c = r .control in
+      rw (writes-control r (first-lane c) w, writes-control r 3 w)
+      (writes-control (with-control r (control-laid host-low (first-lane c) c w)) (last-lane c) w ∙
+      ap (with-control r) (lay-both (lbl c) (λ x. host-low x (lo w)) c (hi (bare w)) (λ x. host-parts x (lo w) .byte) (omega arith)))
+
+-- ---- a read changes no register, whatever register it is of
+read-pair : (r : Registers) (k : ℕ) → Paired (begin-access r (on 3 (load k))) (first-of r (load k)) (last-of r (load k))
+unfolding begin-access read-due
+read-pair r k =
+    let c = r .control in
+    record {
+      word = shown-both (lbl c) (register-word r k);
+      hollow-first = refl;
+      hollow-last = refl;
+      no-cycle = rw (first-is-open c) (go (eqb k 2) _);
+      due = rw (last-closes c, both-close c);
+      registers = refl;
+    }
+  where
+    go : (t : Bool) (d : Due) → cond (t && false) d Nothing ≡ Nothing
+    go true d = refl
+    go false d = refl
+
+-- ---- a write: the first byte of any register calls for no cycle
+module _ (r : Registers) where
+  abbrev c : ℕ
+  c = r .control
+
+  write-pair : (k w : ℕ) →
+      last-of r (save k w) .due ≡ begin-access r (on 3 (save k w)) .due →
+      last-of r (save k w) .registers ≡ begin-access r (on 3 (save k w)) .registers →
+      Paired (begin-access r (on 3 (save k w))) (first-of r (save k w)) (last-of r (save k w))
+  unfolding begin-access write-due
+  write-pair k w d e = record {
+    word = refl;
+    hollow-first = refl;
+    hollow-last = refl;
+    no-cycle = rw (first-is-open c);
+    due = d;
+    registers = e;
+  }
+
+  pub begin-pair : (a : Sixteen) → Paired (begin-access r (on 3 a)) (first-of r a) (last-of r a)
+  unfolding begin-access write-due written
+  begin-pair (load k) = read-pair r k
+  begin-pair (save zero w) =
+      write-pair 0 w (rw (last-closes c, both-close c)) (ap (with-pointer r) (low-both (lbl c) (r .pointer) w))
+  begin-pair (save (suc zero) w) =
+      write-pair 1 w (rw (last-closes c, both-close c)) (ap (with-pointer r) (high-both (lbl c) (r .pointer) w))
+  begin-pair (save (suc (suc zero)) w) =
+      write-pair 2 w (rw (last-closes c, both-close c)) (ap (λ (v : ℕ). with-latch r v (r .hollow)) (replaced-both (lbl c) (r .latch) w))
+  begin-pair (save (suc (suc (suc k))) w) =
+      let h : 2 < suc (suc (suc k)) = omega arith in
+      write-pair (suc (suc (suc k))) w
+      (calls-none (suc (suc (suc k))) h _ (last-lane c) ∙ sym (calls-none (suc (suc (suc k))) h c 3))
+      (control-both (suc (suc (suc k))) h r w)
