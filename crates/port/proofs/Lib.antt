@@ -2,3 +2,9 @@ pub mod Taken
 pub mod Numbers
 pub mod Pairs
 pub mod Alike
+pub mod One
+pub mod ProcessorSide
+pub mod AfterReset
+pub mod Leaves
+pub mod DataRegister
+pub mod OtherRegisters

@@ -1,7 +1,6 @@
 -- `bus::ask` meets its contract: its two tests are the definition's, in the same order.
 use borrow.Author.Needs.{needs}
 use borrow.Author.Tests.{lt-ltb, le-ltb}
-use mathlib.Core.Path.{sym, _∙_}
 use Rattle.bus.specs.Order.{asked}
 use Rattle.bus.proofs.ask.Statement.{statement}
 use Rattle.bus.proofs.ask.Tie as tie
@@ -11,18 +10,22 @@ is-waiting-requires c κs = search needs
 
 returns : tie.Need-returns
 unfolding asked
-returns c = rw (sym (c .before .is-waiting .ensures) ∙ c .if1 .taken)
+returns c = rw (← c .before .is-waiting .ensures, c .if1 .taken)
 
 returns-2 : tie.Need-returns-2
 unfolding asked
-returns-2 c = rw (sym (c .before .before .is-waiting .ensures) ∙ c .before .if1 .left, lt-ltb _ _ (c .if2 .taken))
+returns-2 c =
+    rw (← c .before .before .is-waiting .ensures, c .before .if1 .left, lt-ltb _ _ (c .if2 .taken))
 
 set-source-requires : tie.Need-set-source-requires
 set-source-requires c κs = search needs
 
 returns-3 : tie.Need-returns-3
 unfolding asked
-returns-3 c = rw (sym (c .before .before .before .is-waiting .ensures) ∙ c .before .before .if1 .left, le-ltb _ _ (c .before .if2 .left), c .set-source .ensures)
+returns-3 c =
+    let tested = c .before in
+    rw (← tested .before .before .is-waiting .ensures, tested .before .if1 .left, le-ltb _ _ (tested .if2 .left))
+    (rw (c .set-source .ensures))
 
 pub ask-spec : {M : Type 1} → statement M
 ask-spec = tie.close (tie.spec is-waiting-requires returns returns-2 set-source-requires returns-3)

@@ -1,7 +1,6 @@
 -- `bus::grant` meets its contract: its tests on the highest waiting source are the definition's.
 use borrow.Author.Needs.{needs}
 use borrow.Author.Tests.{eq-eqb, ne-eqb}
-use mathlib.Core.Path.{sym}
 use Rattle.bus.specs.Order.{granted}
 use Rattle.bus.proofs.grant.Statement.{statement}
 use Rattle.bus.proofs.grant.Tie as tie
@@ -11,18 +10,22 @@ highest-of-requires c κs = search needs
 
 returns : tie.Need-returns
 unfolding granted
-returns c = rw (sym (c .before .highest-of .ensures), eq-eqb _ _ (c .if1 .taken))
+returns c = rw (← c .before .highest-of .ensures, eq-eqb _ _ (c .if1 .taken))
 
 returns-2 : tie.Need-returns-2
 unfolding granted
-returns-2 c = rw (sym (c .before .before .highest-of .ensures), ne-eqb _ _ (c .before .if1 .left), eq-eqb _ _ (c .if2 .taken))
+returns-2 c =
+    rw (← c .before .before .highest-of .ensures, ne-eqb _ _ (c .before .if1 .left), eq-eqb _ _ (c .if2 .taken))
 
 set-source-requires : tie.Need-set-source-requires
 set-source-requires c κs = search needs
 
 returns-3 : tie.Need-returns-3
 unfolding granted
-returns-3 c = rw (sym (c .before .before .before .highest-of .ensures), ne-eqb _ _ (c .before .before .if1 .left), ne-eqb _ _ (c .before .if2 .left), c .set-source .ensures)
+returns-3 c =
+    let tested = c .before in
+    rw (← tested .before .before .highest-of .ensures, ne-eqb _ _ (tested .before .if1 .left))
+    (rw (ne-eqb _ _ (tested .if2 .left), c .set-source .ensures))
 
 pub grant-spec : {M : Type 1} → statement M
 grant-spec =

@@ -17,15 +17,20 @@ returns-3 c = rw (c .before .before .if1 .left, c .before .if2 .left, c .if3 .ta
 
 returns-4 : tie.Need-returns-4
 unfolding highest
-returns-4 c = rw (c .before .before .before .if1 .left, c .before .before .if2 .left, c .before .if3 .left, c .if4 .taken)
+returns-4 c =
+    rw (c .before .before .before .if1 .left, c .before .before .if2 .left, c .before .if3 .left, c .if4 .taken)
 
 returns-5 : tie.Need-returns-5
 unfolding highest
-returns-5 c = rw (c .before .before .before .before .if1 .left, c .before .before .before .if2 .left, c .before .before .if3 .left, c .before .if4 .left, c .if5 .taken)
+returns-5 c =
+    let third = c .before .before in
+    rw (third .before .before .if1 .left, third .before .if2 .left, third .if3 .left, c .before .if4 .left, c .if5 .taken)
 
 returns-6 : tie.Need-returns-6
 unfolding highest
-returns-6 c = rw (c .before .before .before .before .if1 .left, c .before .before .before .if2 .left, c .before .before .if3 .left, c .before .if4 .left, c .if5 .left)
+returns-6 c =
+    let third = c .before .before in
+    rw (third .before .before .if1 .left, third .before .if2 .left, third .if3 .left, c .before .if4 .left, c .if5 .left)
 
 pub highest-of-spec : {M : Type 1} → statement M
 highest-of-spec = tie.close (tie.spec returns returns-2 returns-3 returns-4 returns-5 returns-6)

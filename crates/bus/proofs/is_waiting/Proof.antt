@@ -28,7 +28,8 @@ returns-6 : tie.Need-returns-6
 unfolding waits
 returns-6 c =
     let none = c .match .rest in
-    rw (ne-eqb _ _ (none .0 .0 .0 .0 .1), ne-eqb _ _ (none .0 .0 .0 .1), ne-eqb _ _ (none .0 .0 .1), ne-eqb _ _ (none .0 .1), ne-eqb _ _ (none .1))
+    rw (ne-eqb _ _ (none .0 .0 .0 .0 .1), ne-eqb _ _ (none .0 .0 .0 .1), ne-eqb _ _ (none .0 .0 .1))
+    (rw (ne-eqb _ _ (none .0 .1), ne-eqb _ _ (none .1)))
 
 pub is-waiting-spec : {M : Type 1} → statement M
 is-waiting-spec = tie.close (tie.spec returns returns-2 returns-3 returns-4 returns-5 returns-6)

@@ -1,8 +1,6 @@
 -- `bus::release` meets its contract: its test on hold is the definition's.
 use borrow.Author.Needs.{needs}
-use mathlib.Core.Path.{ap}
-use Rattle.bus.specs.Order.{with-source, released}
-use Rattle.bus.specs.declared.Bus.{Bus}
+use Rattle.bus.specs.Order.{released}
 use Rattle.bus.proofs.release.Statement.{statement}
 use Rattle.bus.proofs.release.Tie as tie
 
@@ -10,8 +8,8 @@ set-source-requires : tie.Need-set-source-requires
 set-source-requires c κs = search needs
 
 returns : tie.Need-returns
-unfolding released with-source
-returns c = rw (c .before .if1 .taken) (ap (λ (b : Bus). record { number = 0; bus = b }) (c .set-source .ensures))
+unfolding released
+returns c = rw (c .set-source .ensures, c .before .if1 .taken)
 
 returns-2 : tie.Need-returns-2
 unfolding released

@@ -21,7 +21,10 @@ choose-requires-5 c κs = search needs
 
 returns : tie.Need-returns
 unfolding with-source
-returns c = rw (c .choose5 .ensures, c .before .choose4 .ensures, c .before .before .choose3 .ensures, c .before .before .before .choose2 .ensures, c .before .before .before .before .choose .ensures)
+returns c =
+    let third = c .before .before in
+    rw (third .before .before .choose .ensures, third .before .choose2 .ensures, third .choose3 .ensures)
+    (rw (c .before .choose4 .ensures, c .choose5 .ensures))
 
 pub set-source-spec : {M : Type 1} → statement M
 set-source-spec =

@@ -1,0 +1,51 @@
+-- Register 2, HSTDATA, sentence by sentence: document 01, 'The four host registers', over any registers and memory.
+-- By what the access leaves (`Leaves`), where the closing byte is selected and where it is not.
+use Prim.Native.Nat.{ℕ}
+use mathlib.Core.Path.{_≡_, refl, ap, _∙_}
+use mathlib.Core.Bool.{true, false}
+use mathlib.Core.List.{List}
+use Rattle.words.specs.Addresses.{address, word-at, step}
+use Rattle.words.specs.Bytes.{replaced}
+use Rattle.words.specs.Memory.{store-at}
+use Rattle.words.proofs.Addresses.{step-wraps}
+use Rattle.control.specs.Control.{incr, incw, closes}
+use Rattle.port.specs.Registers.{with-latch, written}
+use Rattle.port.specs.Cycle.{carried, memory-after}
+use Rattle.port.specs.Host.{read-due, write-due, begin-access, access, access-memory}
+use Rattle.port.specs.declared.Registers.{Registers}
+use Rattle.port.specs.declared.Access.the-variants.{Read, Write}
+use Rattle.port.proofs.Leaves.{stepped-from, fetched-at, stored-at, fetch-leaves, store-leaves, left-by, memory-by}
+
+module _ (r : Registers) (m : List ℕ) where
+  abbrev c : ℕ
+  c = r .control
+
+  module _ (lanes : ℕ) (n : access r m (Read 2 lanes) .answer .number ≡ 0) where
+    -- "If the closing byte is selected, then: with INCR 1 the pointer gains 16; then a fetch": the step comes first.
+    pub read-fetches : closes c lanes ≡ true → access r m (Read 2 lanes) .registers ≡ fetched-at r m (stepped-from (incr c) (r .pointer))
+    unfolding begin-access read-due
+    read-fetches e = left-by r m (Read 2 lanes) n ∙ rw e (fetch-leaves r m (incr c))
+
+    pub read-open : closes c lanes ≡ false → access r m (Read 2 lanes) .registers ≡ r
+    unfolding begin-access read-due carried
+    read-open e = left-by r m (Read 2 lanes) n ∙ rw e
+
+  module _ (lanes w : ℕ) (n : access r m (Write 2 lanes w) .answer .number ≡ 0) where
+    -- "the whole of HSTDATA is stored at the pointer, the hollow mark clears, then with INCW 1 the pointer gains 16": the step
+    -- comes last, and all but the storing happens beyond memory too.
+    pub write-stores : closes c lanes ≡ true → access-memory r m (Write 2 lanes w) ≡ store-at m (word-at (r .pointer)) (replaced lanes (r .latch) w)
+    unfolding begin-access write-due written memory-after
+    write-stores e = memory-by r m (Write 2 lanes w) n ∙ rw e
+
+    pub write-steps : closes c lanes ≡ true → access r m (Write 2 lanes w) .registers ≡ stored-at r (replaced lanes (r .latch) w) (incw c)
+    unfolding begin-access write-due written
+    write-steps e = left-by r m (Write 2 lanes w) n ∙ rw e (store-leaves (with-latch r (replaced lanes (r .latch) w) (r .hollow)) m (incw c))
+
+    -- A byte that does not close the word is laid into HSTDATA, and nothing else happens.
+    pub write-open : closes c lanes ≡ false → access r m (Write 2 lanes w) .registers ≡ with-latch r (replaced lanes (r .latch) w) (r .hollow)
+    unfolding begin-access write-due written carried
+    write-open e = left-by r m (Write 2 lanes w) n ∙ rw e
+
+    pub write-open-memory : closes c lanes ≡ false → access-memory r m (Write 2 lanes w) ≡ m
+    unfolding begin-access write-due memory-after
+    write-open-memory e = memory-by r m (Write 2 lanes w) n ∙ rw e

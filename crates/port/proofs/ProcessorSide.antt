@@ -1,0 +1,96 @@
+-- The processor's side, sentence by sentence: document 01, 'The processor's side'. Demand 1 for its calls: number 2 when, and only
+-- when, the register is none of the five; a refusal answers zeros and leaves the registers.
+-- By cases on the test for number 2; the rest computes.
+use Prim.Native.Nat.{ℕ, _+_, _*_, _/_, _%_, _<_, _≤_}
+use native.Mathlib.Omega.{arith}
+use mathlib.Core.Path.{_≡_, refl, ap, _∙_}
+use mathlib.Core.Bool.{Bool, true, false, cond}
+use mathlib.Core.Logic.{_↔_, _≢_}
+use lib.Dec.{eqb, ltb}
+use borrow.Author.Tests.{ltb-true, ltb-false, ne-eqb, le-ltb}
+use Rattle.words.specs.Bytes.{lo, hi, takes-low, takes-high, lay}
+use Rattle.words.specs.declared.BitAddress.{BitAddress}
+use Rattle.words.proofs.Lanes.{replaced-whole}
+use Rattle.control.specs.Control.{bare, processor-low, control-laid}
+use Rattle.port.specs.Registers.{low-half, high-half, halves, with-pointer, with-latch, with-control, register-word, written}
+use Rattle.port.specs.Processor.{processor-word, processor-written, processor-reads, processor-writes}
+use Rattle.port.specs.declared.Registers.{Registers}
+use Rattle.port.specs.declared.ProcessorRead.{ProcessorRead}
+use Rattle.port.specs.declared.ProcessorWrite.{ProcessorWrite}
+
+-- ---- demand 1
+-- n is the number of a call that names register k
+pub record Numbered (k n : ℕ) : Type 0 where
+  pub done : n ≡ 0 ↔ k ≤ 4
+  pub unlisted : n ≡ 2 ↔ 4 < k
+
+pub record ReadSays (k : ℕ) (x : ProcessorRead) : Type 0 where
+  pub number : Numbered k (x .number)
+  pub refused : x .number ≢ 0 → x .word ≡ 0
+
+pub record WriteSays (r : Registers) (k : ℕ) (x : ProcessorWrite) : Type 0 where
+  pub number : Numbered k (x .number)
+  pub refused : x .number ≢ 0 → x .registers ≡ r
+
+pub read-says : (r : Registers) (k : ℕ) → ReadSays k (processor-reads r k)
+unfolding processor-reads
+read-says r k = go (ltb 4 k) refl
+  where
+    go : (t : Bool) → ltb 4 k ≡ t → ReadSays k (cond t (record { number = 2; word = 0 }) (record { number = 0; word = processor-word r k }))
+    go true e = record { number = omega (arith, ltb-true 4 k e); refused = λ _. refl }
+    go false e = record { number = omega (arith, ltb-false 4 k e); refused = λ n. absurd (n refl) }
+
+pub write-says : (r : Registers) (k w : ℕ) → WriteSays r k (processor-writes r k w)
+unfolding processor-writes
+write-says r k w = go (ltb 4 k) refl
+  where
+    go : (t : Bool) → ltb 4 k ≡ t → WriteSays r k (cond t (record { number = 2; registers = r }) (record { number = 0; registers = processor-written r k w }))
+    go true e = record { number = omega (arith, ltb-true 4 k e); refused = λ _. refl }
+    go false e = record { number = omega (arith, ltb-false 4 k e); refused = λ n. absurd (n refl) }
+
+-- ---- what it reads
+module _ (r : Registers) where
+  -- HSTADRL, HSTADRH and HSTDATA are the pointer's halves and HSTDATA; HSTCTLL is HSTCTL's low byte, HSTCTLH its high byte over a
+  -- zero low byte, and both hide bit 10.
+  pub record Reads : Type 0 where
+    pub low : processor-reads r 0 .word ≡ low-half (r .pointer)
+    pub high : processor-reads r 1 .word ≡ high-half (r .pointer)
+    pub data-register : processor-reads r 2 .word ≡ r .latch
+    pub low-control : processor-reads r 3 .word ≡ lo (bare (r .control))
+    pub high-control : processor-reads r 4 .word ≡ 256 * hi (bare (r .control))
+
+  pub reads : Reads
+  unfolding processor-reads processor-word register-word lay takes-low takes-high
+  reads = record { low = refl; high = refl; data-register = refl; low-control = omega arith; high-control = omega arith }
+
+  -- ---- what it writes: one register, and nothing besides
+  module _ (w : ℕ) where
+    pub record Writes : Type 0 where
+      pub low : w < 65536 → processor-writes r 0 w .registers ≡ with-pointer r (halves w (high-half (r .pointer)))
+      pub high : w < 65536 → processor-writes r 1 w .registers ≡ with-pointer r (halves (low-half (r .pointer)) w)
+      pub data-register : processor-writes r 2 w .registers ≡ with-latch r w false
+      pub low-control : processor-writes r 3 w .registers ≡ with-control r (processor-low (lo (r .control)) (lo w) + 256 * hi (r .control))
+      pub high-control : processor-writes r 4 w .registers ≡ with-control r (lo (r .control) + 256 * hi (bare w))
+
+    pub writes : Writes
+    unfolding processor-writes processor-written written lay takes-low takes-high
+    writes = record {
+      low = λ h. ap (λ (v : ℕ). with-pointer r (halves v (high-half (r .pointer)))) (replaced-whole (low-half (r .pointer)) w h);
+      high = λ h. ap (λ (v : ℕ). with-pointer r (halves (low-half (r .pointer)) v)) (replaced-whole (high-half (r .pointer)) w h);
+      data-register = refl;
+      low-control = refl;
+      high-control = refl;
+    }
+
+-- "It never starts a cycle or moves the pointer": it is lent no memory, and a write of any register but the pointer's own halves
+-- leaves the pointer.
+pub pointer-stays : (r : Registers) (k w : ℕ) → 1 < k → processor-writes r k w .registers .pointer ≡ r .pointer
+unfolding processor-writes processor-written
+pointer-stays r k w h = rw (le-ltb k 2 (omega arith)) (go (ltb 4 k) (eqb k 2) (eqb k 3) _ _ _ refl refl refl)
+  where
+    go : (s t u : Bool) (x y z : Registers) → x .pointer ≡ r .pointer → y .pointer ≡ r .pointer → z .pointer ≡ r .pointer →
+        cond {A = ProcessorWrite} s (record { number = 2; registers = r }) (record { number = 0; registers = cond t x (cond u y z) }) .registers .pointer ≡ r .pointer
+    go true t u x y z e f g = refl
+    go false true u x y z e f g = e
+    go false false true x y z e f g = f
+    go false false false x y z e f g = g
