@@ -1,9 +1,7 @@
 -- What reset leaves, in document 01's words: "all registers 0 except HLT 1, hollow true .., no bus request waiting".
-use Prim.Native.Nat.{ℕ, _/_, _%_, _^_}
+use Prim.Native.Nat.{ℕ, _%_, _^_}
 use mathlib.Core.Path.{_≡_, refl}
 use mathlib.Core.Bool.{true, false}
-use mathlib.Core.List.{List}
-use lib.Dec.{eqb}
 use Rattle.words.specs.Addresses.{address}
 use Rattle.words.specs.Bytes.{bit}
 use Rattle.bus.specs.Order.{waits}

@@ -1,20 +1,20 @@
 -- Register 2, HSTDATA, sentence by sentence: document 01, 'The four host registers', over any registers and memory.
 -- By what the access leaves (`Leaves`), where the closing byte is selected and where it is not.
 use Prim.Native.Nat.{ℕ}
-use mathlib.Core.Path.{_≡_, refl, ap, _∙_}
+use mathlib.Core.Path.{_≡_, ap, _∙_}
 use mathlib.Core.Bool.{true, false}
 use mathlib.Core.List.{List}
-use Rattle.words.specs.Addresses.{address, word-at, step}
+use Rattle.words.specs.Addresses.{address, word-at}
 use Rattle.words.specs.Bytes.{replaced}
 use Rattle.words.specs.Memory.{store-at}
-use Rattle.words.proofs.Addresses.{step-wraps}
 use Rattle.control.specs.Control.{incr, incw, closes}
 use Rattle.port.specs.Registers.{with-latch, written}
 use Rattle.port.specs.Cycle.{carried, memory-after}
 use Rattle.port.specs.Host.{read-due, write-due, begin-access, access, access-memory}
+use Rattle.port.specs.Table.{standing}
 use Rattle.port.specs.declared.Registers.{Registers}
 use Rattle.port.specs.declared.Access.the-variants.{Read, Write}
-use Rattle.port.proofs.Leaves.{stepped-from, fetched-at, stored-at, fetch-leaves, store-leaves, left-by, memory-by}
+use Rattle.port.proofs.Leaves.{stepped-from, stored-at, fetch-leaves, store-leaves, left-by, memory-by}
 
 module _ (r : Registers) (m : List ℕ) where
   abbrev c : ℕ
@@ -22,7 +22,7 @@ module _ (r : Registers) (m : List ℕ) where
 
   module _ (lanes : ℕ) (n : access r m (Read 2 lanes) .answer .number ≡ 0) where
     -- "If the closing byte is selected, then: with INCR 1 the pointer gains 16; then a fetch": the step comes first.
-    pub read-fetches : closes c lanes ≡ true → access r m (Read 2 lanes) .registers ≡ fetched-at r m (stepped-from (incr c) (r .pointer))
+    pub read-fetches : closes c lanes ≡ true → access r m (Read 2 lanes) .registers ≡ standing m c (stepped-from (incr c) (r .pointer))
     unfolding begin-access read-due
     read-fetches e = left-by r m (Read 2 lanes) n ∙ rw e (fetch-leaves r m (incr c))
 
@@ -49,3 +49,12 @@ module _ (r : Registers) (m : List ℕ) where
     pub write-open-memory : closes c lanes ≡ false → access-memory r m (Write 2 lanes w) ≡ m
     unfolding begin-access write-due memory-after
     write-open-memory e = memory-by r m (Write 2 lanes w) n ∙ rw e
+
+  -- "The pointer gains 16 modulo 2^32: after FFFFFFF0h comes 0", before a fetch and after a store.
+  pub read-wraps : (lanes : ℕ) → access r m (Read 2 lanes) .answer .number ≡ 0 → closes c lanes ≡ true → incr c ≡ true → r .pointer ≡ address 0xfffffff0 →
+      access r m (Read 2 lanes) .registers ≡ standing m c (address 0)
+  read-wraps lanes n e i p = read-fetches lanes n e ∙ rw (i, p)
+
+  pub write-wraps : (lanes w : ℕ) → access r m (Write 2 lanes w) .answer .number ≡ 0 → closes c lanes ≡ true → incw c ≡ true → r .pointer ≡ address 0xfffffff0 →
+      access r m (Write 2 lanes w) .registers .pointer ≡ address 0
+  write-wraps lanes w n e i p = ap (λ (q : Registers). q .pointer) (write-steps lanes w n e) ∙ rw (i, p)

@@ -1,13 +1,14 @@
 -- What an access that is done (number 0) leaves, by the cycle that it calls for: the words of the laws on single registers.
 use Prim.Native.Nat.{ℕ}
 use mathlib.Core.Path.{_≡_, refl, sym, ap, _∙_}
-use mathlib.Core.Bool.{Bool, true, false, cond, not}
+use mathlib.Core.Bool.{Bool, true, false, cond}
 use mathlib.Core.List.{List}
-use Rattle.words.specs.Addresses.{word-at, step}
-use Rattle.words.specs.Memory.{in-memory, fetch-at}
+use Rattle.words.specs.Addresses.{step}
+use Rattle.words.specs.Memory.{fetch-at}
 use Rattle.words.specs.declared.BitAddress.{BitAddress}
 use Rattle.port.specs.Cycle.{stepped, after-fetch, after-store, carried, memory-after}
 use Rattle.port.specs.Host.{begin-access, done, access, access-memory}
+use Rattle.port.specs.Table.{standing}
 use Rattle.port.specs.declared.Registers.{Registers}
 use Rattle.port.specs.declared.Access.{Access}
 use Rattle.port.specs.declared.Due.the-variants.{Fetch, Store}
@@ -18,22 +19,12 @@ use Rattle.port.proofs.Taken.{taken, taken-memory, number-is}
 abbrev pub stepped-from : Bool → BitAddress → BitAddress
 stepped-from s a = cond s (step a) a
 
--- the registers after a fetch at a: its word in HSTDATA, hollow if it missed
-abbrev pub fetched-at : Registers → List ℕ → BitAddress → Registers
-fetched-at r m a =
-    record {
-      pointer = a;
-      latch = fetch-at m (word-at a) .word;
-      control = r .control;
-      hollow = not (in-memory m (word-at a));
-    }
-
 -- the registers after a store of w: held, and the pointer stepped where s says so
 abbrev pub stored-at : Registers → ℕ → Bool → Registers
 stored-at r w s = record { pointer = stepped-from s (r .pointer); latch = w; control = r .control; hollow = false }
 
-pub fetch-leaves : (r : Registers) (m : List ℕ) (s : Bool) → carried r (Fetch s) m .registers ≡ fetched-at r m (stepped-from s (r .pointer))
-unfolding carried after-fetch stepped fetch-at
+pub fetch-leaves : (r : Registers) (m : List ℕ) (s : Bool) → carried r (Fetch s) m .registers ≡ standing m (r .control) (stepped-from s (r .pointer))
+unfolding carried after-fetch stepped fetch-at standing
 fetch-leaves r m true = refl
 fetch-leaves r m false = refl
 

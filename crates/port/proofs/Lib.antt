@@ -1,5 +1,6 @@
 pub mod Taken
 pub mod Numbers
+pub mod OpenByte
 pub mod Pairs
 pub mod Alike
 pub mod One
@@ -8,3 +9,7 @@ pub mod AfterReset
 pub mod Leaves
 pub mod DataRegister
 pub mod OtherRegisters
+pub mod LowBits
+pub mod Handed
+pub mod TableWords
+pub mod EveryWord

@@ -1,18 +1,24 @@
 -- Registers 0, 1 and 3, sentence by sentence: document 01, 'The four host registers', over any registers and memory.
 -- By what the access leaves (`Leaves`); a write of these registers stores nothing, and a read of them does nothing at all.
 use Prim.Native.Nat.{ℕ}
-use mathlib.Core.Path.{_≡_, refl, sym, ap, _∙_}
+use mathlib.Core.Path.{_≡_, refl, sym, _∙_}
 use mathlib.Core.Bool.{Bool, true, false, false≢true, cond, _&&_}
 use mathlib.Core.List.{List}
+use mathlib.Core.Logic.{_≢_}
 use lib.Dec.{eqb}
-use Rattle.control.specs.Control.{closes, fetches, host-low, control-laid}
-use Rattle.port.specs.Registers.{low-half, high-half, with-control, written}
+use borrow.Author.Tests.{ne-eqb}
+use Rattle.control.specs.Control.{lbl, closes, fetches, host-low, control-laid}
+use Rattle.port.specs.Registers.{with-control, written}
 use Rattle.port.specs.Cycle.{carried, memory-after}
 use Rattle.port.specs.Host.{read-due, write-due, begin-access, access, access-memory}
+use Rattle.port.specs.Table.{standing}
 use Rattle.port.specs.declared.Registers.{Registers}
+use Rattle.port.specs.declared.Access.{Access}
 use Rattle.port.specs.declared.Access.the-variants.{Read, Write}
+use Rattle.port.specs.declared.Cycle.the-variants.{None}
 use Rattle.port.specs.declared.Due.the-variants.{Nothing, Fetch}
-use Rattle.port.proofs.Leaves.{fetched-at, fetch-leaves, left-by, memory-by}
+use Rattle.port.proofs.OpenByte.{uncalled-cycle, uncalled-memory, uncalled-registers}
+use Rattle.port.proofs.Leaves.{fetch-leaves, left-by, memory-by}
 
 module _ (r : Registers) (m : List ℕ) where
   abbrev c : ℕ
@@ -20,7 +26,7 @@ module _ (r : Registers) (m : List ℕ) where
 
   module _ (k lanes w : ℕ) (h : eqb k 2 ≡ false) (n : access r m (Write k lanes w) .answer .number ≡ 0) where
     -- "memory is fetched at the new pointer. This fetch doesn't increment, whatever INCR says."
-    pub load-fetches : closes c lanes ≡ true → fetches c k ≡ true → access r m (Write k lanes w) .registers ≡ fetched-at (written r k lanes w) m (written r k lanes w .pointer)
+    pub load-fetches : closes c lanes ≡ true → fetches c k ≡ true → access r m (Write k lanes w) .registers ≡ standing m (written r k lanes w .control) (written r k lanes w .pointer)
     unfolding begin-access write-due
     load-fetches e f = left-by r m (Write k lanes w) n ∙ rw (e, h, f) (fetch-leaves (written r k lanes w) m false)
 
@@ -42,3 +48,34 @@ module _ (r : Registers) (m : List ℕ) where
         go true true s = refl
         go true false s = refl
         go false u s = refl
+
+  calls-none : (k lanes : ℕ) → eqb k 2 ≡ false → begin-access r (Read k lanes) .due ≡ Nothing
+  unfolding begin-access read-due
+  calls-none k lanes e = rw e
+
+  -- "Reading registers 0, 1 and 3 changes nothing", and starts no cycle.
+  pub record ReadLeaves (a : Access) : Type 0 where
+    pub registers : access r m a .registers ≡ r
+    pub memory : access-memory r m a ≡ m
+    pub cycle : access r m a .answer .cycle ≡ None
+
+  pub read-changes-nothing : (k lanes : ℕ) → k ≢ 2 → ReadLeaves (Read k lanes)
+  unfolding begin-access
+  read-changes-nothing k lanes h =
+      let e = calls-none k lanes (ne-eqb k 2 h) in
+      record {
+        registers = uncalled-registers r m (Read k lanes) e refl;
+        memory = uncalled-memory r m (Read k lanes) e;
+        cycle = uncalled-cycle r m (Read k lanes) e;
+      }
+
+  -- "Writing register 3": the selected bytes of HSTCTL by the host's rule, and nothing besides.
+  pub control-written : (lanes w : ℕ) → access r m (Write 3 lanes w) .answer .number ≡ 0 →
+      access r m (Write 3 lanes w) .registers ≡ with-control r (control-laid host-low lanes c w)
+  unfolding written fetches
+  control-written lanes w n = load-open 3 lanes w refl n (go (closes c lanes) (lbl c))
+    where
+      go : (t b : Bool) → (t && cond b false false) ≡ false
+      go true true = refl
+      go true false = refl
+      go false b = refl

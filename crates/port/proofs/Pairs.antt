@@ -3,8 +3,7 @@
 use Prim.Native.Nat.{ℕ, zero, suc, _+_, _<_}
 use native.Mathlib.Omega.{arith}
 use mathlib.Core.Path.{_≡_, refl, sym, ap, _∙_}
-use mathlib.Core.Bool.{Bool, true, false, cond, _&&_}
-use lib.Dec.{eqb}
+use mathlib.Core.Bool.{Bool, true, false, cond}
 use borrow.Author.Tests.{ne-eqb}
 use Rattle.words.specs.Bytes.{lo, hi, replaced}
 use Rattle.words.specs.declared.BitAddress.{BitAddress}
@@ -20,6 +19,7 @@ use Rattle.port.specs.declared.Registers.{Registers}
 use Rattle.port.specs.declared.Due.{Due}
 use Rattle.port.specs.declared.Due.the-variants.{Nothing}
 use Rattle.port.specs.declared.Begun.{Begun}
+use Rattle.port.proofs.OpenByte.{open-calls-none}
 
 -- b is a whole access, b₁ and b₂ its two byte accesses
 pub record Paired (b b₁ b₂ : Begun) : Type 0 where
@@ -95,14 +95,10 @@ read-pair r k =
       word = shown-both (lbl c) (register-word r k);
       hollow-first = refl;
       hollow-last = refl;
-      no-cycle = rw (first-is-open c) (go (eqb k 2) _);
+      no-cycle = open-calls-none r (on (first-lane c) (load k)) (first-is-open c);
       due = rw (last-closes c, both-close c);
       registers = refl;
     }
-  where
-    go : (t : Bool) (d : Due) → cond (t && false) d Nothing ≡ Nothing
-    go true d = refl
-    go false d = refl
 
 -- ---- a write: the first byte of any register calls for no cycle
 module _ (r : Registers) where
@@ -118,7 +114,7 @@ module _ (r : Registers) where
     word = refl;
     hollow-first = refl;
     hollow-last = refl;
-    no-cycle = rw (first-is-open c);
+    no-cycle = open-calls-none r (on (first-lane c) (save k w)) (first-is-open c);
     due = d;
     registers = e;
   }

@@ -1,17 +1,16 @@
 -- The processor's side, sentence by sentence: document 01, 'The processor's side'. Demand 1 for its calls: number 2 when, and only
 -- when, the register is none of the five; a refusal answers zeros and leaves the registers.
 -- By cases on the test for number 2; the rest computes.
-use Prim.Native.Nat.{ℕ, _+_, _*_, _/_, _%_, _<_, _≤_}
+use Prim.Native.Nat.{ℕ, _+_, _*_, _<_, _≤_}
 use native.Mathlib.Omega.{arith}
-use mathlib.Core.Path.{_≡_, refl, ap, _∙_}
+use mathlib.Core.Path.{_≡_, refl, ap}
 use mathlib.Core.Bool.{Bool, true, false, cond}
 use mathlib.Core.Logic.{_↔_, _≢_}
 use lib.Dec.{eqb, ltb}
-use borrow.Author.Tests.{ltb-true, ltb-false, ne-eqb, le-ltb}
+use borrow.Author.Tests.{ltb-true, ltb-false, le-ltb}
 use Rattle.words.specs.Bytes.{lo, hi, takes-low, takes-high, lay}
-use Rattle.words.specs.declared.BitAddress.{BitAddress}
 use Rattle.words.proofs.Lanes.{replaced-whole}
-use Rattle.control.specs.Control.{bare, processor-low, control-laid}
+use Rattle.control.specs.Control.{bare, processor-low}
 use Rattle.port.specs.Registers.{low-half, high-half, halves, with-pointer, with-latch, with-control, register-word, written}
 use Rattle.port.specs.Processor.{processor-word, processor-written, processor-reads, processor-writes}
 use Rattle.port.specs.declared.Registers.{Registers}

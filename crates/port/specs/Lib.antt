@@ -3,3 +3,4 @@ pub mod Cycle
 pub mod Host
 pub mod Processor
 pub mod Runs
+pub mod Table

@@ -19,6 +19,9 @@ step-keeps-low-bits a = omega arith
 pub step-next : (a : BitAddress) → a .0 + 16 < 2 ^ 32 → word-at (step a) .0 ≡ suc (word-at a .0)
 step-next a h = omega arith
 
+pub step-of-word : (a : BitAddress) → word-at (step a) .0 ≡ (word-at a .0 + 1) % 2 ^ 28
+step-of-word a = omega arith
+
 pub step-wraps : step (address 0xfffffff0) ≡ address 0
 step-wraps = refl
 
