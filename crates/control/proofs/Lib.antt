@@ -1,3 +1,4 @@
+pub mod BitPlaces
 pub mod LowByte
 pub mod BitTen
 pub mod ClosingByte

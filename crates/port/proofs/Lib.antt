@@ -13,3 +13,4 @@ pub mod LowBits
 pub mod Handed
 pub mod TableWords
 pub mod EveryWord
+pub mod RegisterWords

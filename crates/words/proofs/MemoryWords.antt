@@ -8,8 +8,12 @@ use mathlib.Core.Logic.{_↔_, _≢_}
 use lib.ListN.{length, getD, set, length-set}
 use lib.Seq.{getD-set-same, getD-set-other, set-getD}
 use borrow.Author.Tests.{ltb-true, lt-ltb}
-use Rattle.words.specs.Memory.{in-memory, fetch-at, store-at}
+use Rattle.words.specs.Memory.{over-limit, in-memory, fetch-at, store-at}
 use Rattle.words.specs.declared.WordNumber.{WordNumber}
+
+-- A memory is too long exactly if it has more than 32,768 words.
+pub over-limit-when : (words : ℕ) → over-limit words ≡ true ↔ 32768 < words
+over-limit-when words = (ltb-true 32768 words, lt-ltb 32768 words)
 
 module _ (m : List ℕ) (n : WordNumber) where
   -- A word is in the lent memory exactly if its number is below the memory's length.
