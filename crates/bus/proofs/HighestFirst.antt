@@ -12,6 +12,7 @@ use Rattle.bus.specs.Order.{waits, highest, granted}
 use Rattle.bus.specs.declared.Bus.{Bus}
 use Rattle.bus.proofs.Sources.{bus, waits-listed, set-here, set-elsewhere}
 
+-- A test that cannot be true is false.
 untrue : (t : Bool) → t ≢ true → t ≡ false
 untrue true n = absurd (n refl)
 untrue false n = refl
@@ -69,6 +70,7 @@ pub record Grants (b : Bus) (source : ℕ) (left : Bus) : Type 0 where
   pub others : (k : ℕ) → k ≢ source → waits left k ≡ waits b k
 
 module _ (b : Bus) where
+  -- Where some source waits, the definition's choices come out so.
   some-granted : highest b ≢ 5 → Grants b (granted b .source) (granted b .bus)
   unfolding granted
   some-granted n =
@@ -83,7 +85,7 @@ module _ (b : Bus) where
         others = λ k d. ⊎-elim (λ e. rw e) (λ e. rw e (set-elsewhere b _ _ l k d)) (either-way (eqb (highest b) 0));
       })
 
-  -- A grant that is done.
+  -- A grant that is done is such a grant.
   pub grant-done : granted b .number ≡ 0 → Grants b (granted b .source) (granted b .bus)
   unfolding granted
   grant-done z = some-granted (λ e. omega (arith, rw (eq-eqb (highest b) 5 e) at z))

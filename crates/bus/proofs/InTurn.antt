@@ -18,6 +18,7 @@ pub data GrantedWithin : ℕ → Bus → ℕ → Type 0 where
   now : {n s : ℕ} {b : Bus} → granted b .number ≡ 0 → granted b .source ≡ s → GrantedWithin (suc n) b s
   later : {n s : ℕ} {b : Bus} → GrantedWithin n (granted b .bus) s → GrantedWithin (suc n) b s
 
+-- Where hold does not wait, whoever waits is another.
 not-hold : (b : Bus) → waits b 0 ≡ false → (t : ℕ) → waits b t ≡ true → t ≢ 0
 not-hold b h t w e = false≢true (sym h ∙ subst (λ (k : ℕ). waits b k ≡ true) e w)
 

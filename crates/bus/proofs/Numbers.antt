@@ -25,6 +25,7 @@ pub record AskNumbers (b : Bus) (s : ℕ) (a : Asked) : Type 0 where
   pub refused : a .number ≢ 0 → a .bus ≡ b
 
 module _ (b : Bus) (s : ℕ) where
+  -- the three outcomes: it waits already, it is no source, it is new
   again : waits b s ≡ true → AskNumbers b s (asked b s)
   unfolding asked
   again w =
@@ -77,6 +78,7 @@ pub record GrantNumbers (b : Bus) (g : Granted) : Type 0 where
   pub refused : g .number ≢ 0 → (g .source ≡ 0) × (g .bus ≡ b)
 
 module _ (b : Bus) where
+  -- the two outcomes: no source waits, some source does
   none : highest b ≡ 5 → GrantNumbers b (granted b)
   unfolding granted
   none e =

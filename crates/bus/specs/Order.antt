@@ -26,6 +26,7 @@ waits b s =
     (cond (eqb s 3) (b .host)
     (cond (eqb s 4) (b .processor) false))))
 
+-- how asking marks a source and how a grant or a release "clears it"
 unfoldable pub with-source : Bus → ℕ → Bool → Bus
 with-source b s v =
     record {

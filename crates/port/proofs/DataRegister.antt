@@ -12,9 +12,11 @@ use Rattle.port.specs.Registers.{with-latch, written}
 use Rattle.port.specs.Cycle.{carried, memory-after}
 use Rattle.port.specs.Host.{read-due, write-due, begin-access, access, access-memory}
 use Rattle.port.specs.Table.{standing}
+use Rattle.port.specs.Deeds.{content, Says, ahead}
 use Rattle.port.specs.declared.Registers.{Registers}
 use Rattle.port.specs.declared.Access.the-variants.{Read, Write}
-use Rattle.port.proofs.Leaves.{stepped-from, stored-at, fetch-leaves, store-leaves, left-by, memory-by}
+use Rattle.port.proofs.NoMiss.{says}
+use Rattle.port.proofs.Leaves.{stored-at, fetch-leaves, store-leaves, left-by, memory-by}
 
 module _ (r : Registers) (m : List ℕ) where
   abbrev c : ℕ
@@ -22,7 +24,7 @@ module _ (r : Registers) (m : List ℕ) where
 
   module _ (lanes : ℕ) (n : access r m (Read 2 lanes) .answer .number ≡ 0) where
     -- "If the closing byte is selected, then: with INCR 1 the pointer gains 16; then a fetch": the step comes first.
-    pub read-fetches : closes c lanes ≡ true → access r m (Read 2 lanes) .registers ≡ standing m c (stepped-from (incr c) (r .pointer))
+    pub read-fetches : closes c lanes ≡ true → access r m (Read 2 lanes) .registers ≡ standing m c (ahead r)
     unfolding begin-access read-due
     read-fetches e = left-by r m (Read 2 lanes) n ∙ rw e (fetch-leaves r m (incr c))
 
@@ -58,3 +60,11 @@ module _ (r : Registers) (m : List ℕ) where
   pub write-wraps : (lanes w : ℕ) → access r m (Write 2 lanes w) .answer .number ≡ 0 → closes c lanes ≡ true → incw c ≡ true → r .pointer ≡ address 0xfffffff0 →
       access r m (Write 2 lanes w) .registers .pointer ≡ address 0
   write-wraps lanes w n e i p = ap (λ (q : Registers). q .pointer) (write-steps lanes w n e) ∙ rw (i, p)
+
+  -- "A read after a write that goes to memory instead of giving the written word" is a mistake: once its closing byte is written,
+  -- HSTDATA is read back as it was written, held, on whatever lanes and whatever memory holds, also where the store was dropped.
+  pub written-read-back : (lanes w : ℕ) → access r m (Write 2 lanes w) .answer .number ≡ 0 → closes c lanes ≡ true →
+      (m′ : List ℕ) (lanes′ : ℕ) → access (access r m (Write 2 lanes w) .registers) m′ (Read 2 lanes′) .answer .number ≡ 0 →
+      Says (access (access r m (Write 2 lanes w) .registers) m′ (Read 2 lanes′) .answer) lanes′ (record { word = replaced lanes (r .latch) w; hollow = false })
+  written-read-back lanes w n e m′ lanes′ n′ =
+      says (access r m (Write 2 lanes w) .registers) m′ lanes′ n′ (ap content (write-steps lanes w n e))

@@ -14,3 +14,7 @@ pub mod Handed
 pub mod TableWords
 pub mod EveryWord
 pub mod RegisterWords
+pub mod Marks
+pub mod Origins
+pub mod NoMiss
+pub mod WholeWords

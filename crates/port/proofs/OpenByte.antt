@@ -7,22 +7,24 @@ use mathlib.Core.List.{List}
 use lib.Dec.{eqb}
 use Rattle.control.specs.Control.{closes}
 use Rattle.port.specs.Cycle.{carried, memory-after}
-use Rattle.port.specs.Host.{read-due, write-due, begin-access, lanes-of, number-for, refused, done, access, access-memory}
+use Rattle.port.specs.Host.{read-due, write-due, begin-access, lanes-of, number-for, done, access, access-memory}
 use Rattle.port.specs.declared.Registers.{Registers}
 use Rattle.port.specs.declared.Access.{Access}
 use Rattle.port.specs.declared.Access.the-variants.{Read, Write}
 use Rattle.port.specs.declared.Cycle.the-variants.{None}
 use Rattle.port.specs.declared.Due.{Due}
 use Rattle.port.specs.declared.Due.the-variants.{Nothing}
+use Rattle.port.specs.declared.Outcome.{Outcome}
+use Rattle.port.proofs.Taken.{either-done}
 
 module _ (r : Registers) (m : List ℕ) (a : Access) (e : begin-access r a .due ≡ Nothing) where
   pub uncalled-cycle : access r m a .answer .cycle ≡ None
-  unfolding access done carried
-  uncalled-cycle = go (eqb (number-for m a) 0)
-    where
-      go : (t : Bool) → cond t (done (begin-access r a) m) (refused (number-for m a) r) .answer .cycle ≡ None
-      go true = rw e
-      go false = refl
+  unfolding done carried
+  uncalled-cycle = either-done r m a (λ (o : Outcome). o .answer .cycle ≡ None) (rw e) (λ _. refl)
+
+  pub uncalled-registers : begin-access r a .registers ≡ r → access r m a .registers ≡ r
+  unfolding done carried
+  uncalled-registers s = either-done r m a (λ (o : Outcome). o .registers ≡ r) (rw e s) (λ _. refl)
 
   pub uncalled-memory : access-memory r m a ≡ m
   unfolding access-memory memory-after
@@ -30,14 +32,6 @@ module _ (r : Registers) (m : List ℕ) (a : Access) (e : begin-access r a .due 
     where
       go : (t : Bool) → cond t (memory-after (begin-access r a .registers) (begin-access r a .due) m) m ≡ m
       go true = rw e
-      go false = refl
-
-  pub uncalled-registers : begin-access r a .registers ≡ r → access r m a .registers ≡ r
-  unfolding access done carried
-  uncalled-registers s = go (eqb (number-for m a) 0)
-    where
-      go : (t : Bool) → cond t (done (begin-access r a) m) (refused (number-for m a) r) .registers ≡ r
-      go true = rw e s
       go false = refl
 
 pub open-calls-none : (r : Registers) (a : Access) → closes (r .control) (lanes-of a) ≡ false → begin-access r a .due ≡ Nothing

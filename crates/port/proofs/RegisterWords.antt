@@ -3,6 +3,7 @@
 use Prim.Native.Nat.{ℕ}
 use native.Mathlib.Omega.{arith}
 use mathlib.Core.Path.{_≡_, refl, sym, ap, _∙_}
+use mathlib.Core.Bool.{false}
 use mathlib.Core.List.{List}
 use Rattle.words.specs.Bytes.{shown, replaced}
 use Rattle.words.proofs.Lanes.{replaced-word}
@@ -10,9 +11,9 @@ use Rattle.control.specs.Control.{bare}
 use Rattle.port.specs.Registers.{low-half, high-half, register-word, written}
 use Rattle.port.specs.Host.{begin-access, done, access}
 use Rattle.port.specs.declared.Registers.{Registers}
-use Rattle.port.specs.declared.Access.the-variants.{Read}
+use Rattle.port.specs.declared.Access.the-variants.{Read, Write}
 use Rattle.port.specs.declared.Outcome.{Outcome}
-use Rattle.port.proofs.Taken.{taken, number-is}
+use Rattle.port.proofs.Taken.{taken, either-done, number-is}
 use Rattle.port.proofs.Pairs.{low-of-halves, high-of-halves}
 
 -- "0 HSTADRL, low half of the pointer; 1 HSTADRH, high half; 2 HSTDATA; 3 HSTCTL", and bit 10 "reads as 0"
@@ -32,6 +33,19 @@ pub read-answers : (r : Registers) (m : List ℕ) (k lanes : ℕ) → access r m
 unfolding done begin-access
 read-answers r m k lanes n =
     ap (λ (o : Outcome). o .answer .word) (taken r m (Read k lanes) (sym (number-is r m (Read k lanes)) ∙ n))
+
+-- A write answers no word and no mark, done or refused.
+pub record Silent (r : Registers) (m : List ℕ) (k lanes w : ℕ) : Type 0 where
+  pub word : access r m (Write k lanes w) .answer .word ≡ 0
+  pub hollow : access r m (Write k lanes w) .answer .hollow ≡ false
+
+pub write-is-silent : (r : Registers) (m : List ℕ) (k lanes w : ℕ) → Silent r m k lanes w
+unfolding done begin-access
+write-is-silent r m k lanes w =
+    record {
+      word = either-done r m (Write k lanes w) (λ (o : Outcome). o .answer .word ≡ 0) refl (λ _. refl);
+      hollow = either-done r m (Write k lanes w) (λ (o : Outcome). o .answer .hollow ≡ false) refl (λ _. refl);
+    }
 
 -- A write of one half of the pointer replaces the selected bytes of that half, and leaves the other half.
 pub record HalvesWritten (r : Registers) (lanes w : ℕ) : Type 0 where

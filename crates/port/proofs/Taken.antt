@@ -6,11 +6,12 @@ use mathlib.Core.Bool.{Bool, true, false, cond}
 use mathlib.Core.List.{List}
 use mathlib.Core.Logic.{_≢_}
 use lib.Dec.{eqb}
-use borrow.Author.Tests.{eq-eqb, ne-eqb, eqb-true}
+use borrow.Author.Tests.{eq-eqb, ne-eqb, eqb-true, eqb-false}
 use Rattle.port.specs.Cycle.{memory-after}
 use Rattle.port.specs.Host.{begin-access, number-for, refused, done, access, access-memory}
 use Rattle.port.specs.declared.Registers.{Registers}
 use Rattle.port.specs.declared.Access.{Access}
+use Rattle.port.specs.declared.Outcome.{Outcome}
 
 module _ (r : Registers) (m : List ℕ) (a : Access) where
   pub taken : number-for m a ≡ 0 → access r m a ≡ done (begin-access r a) m
@@ -28,6 +29,16 @@ module _ (r : Registers) (m : List ℕ) (a : Access) where
   pub barred-memory : number-for m a ≢ 0 → access-memory r m a ≡ m
   unfolding access-memory
   barred-memory n = rw (ne-eqb _ _ n)
+
+  -- What holds of an access that is done, and of one that is refused, holds of any.
+  pub either-done : (P : Outcome → Type 0) →
+      P (done (begin-access r a) m) → (number-for m a ≢ 0 → P (refused (number-for m a) r)) → P (access r m a)
+  unfolding access
+  either-done P p q = go (eqb (number-for m a) 0) refl
+    where
+      go : (t : Bool) → eqb (number-for m a) 0 ≡ t → P (cond t (done (begin-access r a) m) (refused (number-for m a) r))
+      go true e = p
+      go false e = q (eqb-false _ _ e)
 
   -- The number answered is the number that applies.
   pub number-is : access r m a .answer .number ≡ number-for m a

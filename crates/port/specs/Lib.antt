@@ -4,3 +4,5 @@ pub mod Host
 pub mod Processor
 pub mod Runs
 pub mod Table
+pub mod Deeds
+pub mod Origin
