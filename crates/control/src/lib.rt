@@ -3,10 +3,13 @@
 ghost use mathlib.Core.Path.{_≡_};
 ghost use mathlib.Core.Bool.{cond};
 ghost use Prim.Native.Nat.{_≤_};
-ghost use Rattle.control.specs.Control.{intin, intout, incw, incr, lbl, bare, low-parts, host-low, processor-low, closes, fetches};
+ghost use Rattle.control.specs.Control.{intin, intout, incw, incr, lbl, bare, low-parts, host-low, processor-low, control-laid, closes, fetches};
 use words::bit_of;
 use words::both;
 use words::either;
+use words::high_byte;
+use words::lay_bytes;
+use words::low_byte;
 
 // HSTCTL as it reads: bit 10 is 0.
 pub fn hide_bit_10(c: u16) -> u16
@@ -87,7 +90,7 @@ fn join_parts(mi: u8, ii: bool, mo: u8, io: bool) -> u8
 }
 
 // The low control byte after the host writes new over old.
-pub fn host_low_of(old: u8, new: u8) -> u8
+fn host_low_of(old: u8, new: u8) -> u8
     ensures { λ r. ⌜ r ≡ host-low old new ⌝ }
 {
     let ii = either(int_in(old), int_in(new));
@@ -96,10 +99,26 @@ pub fn host_low_of(old: u8, new: u8) -> u8
 }
 
 // The low control byte after the processor writes new over old.
-pub fn processor_low_of(old: u8, new: u8) -> u8
+fn processor_low_of(old: u8, new: u8) -> u8
     ensures { λ r. ⌜ r ≡ processor-low old new ⌝ }
 {
     let ii = both(int_in(old), int_in(new));
     let io = either(int_out(old), int_out(new));
     join_parts(old, ii, new, io)
+}
+
+// HSTCTL after the host writes: the low byte by its rule, all of the high byte but bit 10.
+pub fn write_by_host(c: u16, lanes: u32, w: u16) -> u16
+    ensures { λ r. ⌜ r ≡ control-laid host-low lanes c w ⌝ }
+{
+    let low = host_low_of(low_byte(c), low_byte(w));
+    lay_bytes(lanes, c, low, high_byte(hide_bit_10(w)))
+}
+
+// HSTCTL after the processor writes: lanes 1 for HSTCTLL, lanes 2 for HSTCTLH.
+pub fn write_by_processor(c: u16, lanes: u32, w: u16) -> u16
+    ensures { λ r. ⌜ r ≡ control-laid processor-low lanes c w ⌝ }
+{
+    let low = processor_low_of(low_byte(c), low_byte(w));
+    lay_bytes(lanes, c, low, high_byte(hide_bit_10(w)))
 }

@@ -19,7 +19,7 @@ use Rattle.words.proofs.Choices.{either-way}
 use Rattle.words.proofs.Lanes.{shown-whole, replaced-whole}
 use Rattle.control.specs.Control.{lbl, incr, closes, fetches}
 use Rattle.control.proofs.ClosingByte.{both-close}
-use Rattle.port.specs.Registers.{low-half, high-half, halves, register-word, written}
+use Rattle.port.specs.Registers.{low-half, high-half, halves, register-word, half-written, written}
 use Rattle.port.specs.Cycle.{stepped, after-fetch, carried, memory-after}
 use Rattle.port.specs.Host.{read-due, write-due, begin-access, refusal, done, access, access-memory}
 use Rattle.port.specs.Runs.{Machine, answer-of, after, answers, ends}
@@ -55,7 +55,7 @@ module _ (s : Machine) (k : Memory (s .memory)) where
   -- ---- loading the pointer
   -- The two writes that load the pointer fetch the word there; memory and the control register stay.
   pub loads : (a : BitAddress) → a .0 < 2 ^ 32 → loaded s a ≡ stands s a
-  unfolding loading ends after access access-memory refusal done begin-access write-due written closes fetches takes-low takes-high carried memory-after stepped after-fetch fetch-at standing
+  unfolding loading ends after access access-memory refusal done begin-access write-due half-written written closes fetches takes-low takes-high carried memory-after stepped after-fetch fetch-at standing
   loads a h =
       ⊎-elim
       (λ e. rw e (rw (not-over, e) (rw (not-over, e, high-then-low a h))))

@@ -90,7 +90,7 @@ module _ (r : Registers) where
       go : (t : Bool) → eqb register 2 ≡ t →
           content (written r register lanes w) ≡ record { word = cond t (replaced lanes (r .latch) w) (r .latch); hollow = r .hollow }
       go true e = rw (eqb-true register 2 e)
-      go false e = rw e (alike content (eqb register 0) refl (alike content (eqb register 1) refl refl))
+      go false e = rw e (alike content (ltb register 2) refl refl)
 
   -- The processor's write of HSTDATA clears the hollow mark; its other writes leave HSTDATA.
   pub data-put : (register w : ℕ) →

@@ -4,7 +4,7 @@ use Prim.Native.Nat.{ℕ, zero, suc, _+_, _<_}
 use native.Mathlib.Omega.{arith}
 use mathlib.Core.Path.{_≡_, refl, sym, ap, _∙_}
 use mathlib.Core.Bool.{Bool, true, false, cond}
-use borrow.Author.Tests.{ne-eqb}
+use borrow.Author.Tests.{ne-eqb, le-ltb}
 use Rattle.words.specs.Bytes.{lo, hi, replaced}
 use Rattle.words.specs.declared.BitAddress.{BitAddress}
 use Rattle.words.proofs.Lanes.{replaced-word}
@@ -12,7 +12,7 @@ use Rattle.words.proofs.ByBytes.{lay-both, replaced-both, shown-both}
 use Rattle.control.specs.Control.{lbl, bare, host-low, control-laid, closes, fetches, first-lane, last-lane}
 use Rattle.control.proofs.LowByte.{host-parts}
 use Rattle.control.proofs.ClosingByte.{first-is-open, last-closes, both-close}
-use Rattle.port.specs.Registers.{low-half, high-half, halves, with-pointer, with-latch, with-control, register-word, written}
+use Rattle.port.specs.Registers.{low-half, high-half, halves, with-pointer, with-latch, with-control, register-word, half-written, written}
 use Rattle.port.specs.Host.{read-due, write-due, begin-access}
 use Rattle.port.specs.Runs.{Sixteen, load, save, on}
 use Rattle.port.specs.declared.Registers.{Registers}
@@ -43,20 +43,15 @@ low-of-halves l h p = omega arith
 pub high-of-halves : (l h : ℕ) → l < 65536 → h < 65536 → high-half (halves l h) ≡ h
 high-of-halves l h p q = omega arith
 
--- the pointer after a write of one half
-abbrev low-written : ℕ → BitAddress → ℕ → BitAddress
-low-written lanes a w = halves (replaced lanes (low-half a) w) (high-half a)
-
-abbrev high-written : ℕ → BitAddress → ℕ → BitAddress
-high-written lanes a w = halves (low-half a) (replaced lanes (high-half a) w)
-
 module _ (b : Bool) (a : BitAddress) (w : ℕ) where
-  low-both : low-written (cond b 1 2) (low-written (cond b 2 1) a w) w ≡ low-written 3 a w
+  low-both : half-written (half-written a 0 (cond b 2 1) w) 0 (cond b 1 2) w ≡ half-written a 0 3 w
+  unfolding half-written
   low-both =
       let p = replaced-word (cond b 2 1) (low-half a) w in
       rw (low-of-halves _ (high-half a) p, high-of-halves _ (high-half a) p (omega arith), replaced-both b (low-half a) w)
 
-  high-both : high-written (cond b 1 2) (high-written (cond b 2 1) a w) w ≡ high-written 3 a w
+  high-both : half-written (half-written a 1 (cond b 2 1) w) 1 (cond b 1 2) w ≡ half-written a 1 3 w
+  unfolding half-written
   high-both =
       let p = replaced-word (cond b 2 1) (high-half a) w in
       rw (low-of-halves (low-half a) (replaced (cond b 2 1) (high-half a) w) (omega arith), high-of-halves (low-half a) _ (omega arith) p, replaced-both b (high-half a) w)
@@ -65,7 +60,7 @@ module _ (b : Bool) (a : BitAddress) (w : ℕ) where
 module _ (k : ℕ) (h : 2 < k) where
   writes-control : (r : Registers) (lanes w : ℕ) → written r k lanes w ≡ with-control r (control-laid host-low lanes (r .control) w)
   unfolding written
-  writes-control r lanes w = rw (ne-eqb k 0 (omega arith), ne-eqb k 1 (omega arith), ne-eqb k 2 (omega arith))
+  writes-control r lanes w = rw (le-ltb k 2 (omega arith), ne-eqb k 2 (omega arith))
 
   -- It calls for no cycle at any control word, so it is harmless that LBL changes in mid-word.
   calls-none : (c lanes : ℕ) → write-due c k lanes ≡ Nothing
@@ -120,7 +115,7 @@ module _ (r : Registers) where
   }
 
   pub begin-pair : (a : Sixteen) → Paired (begin-access r (on 3 a)) (first-of r a) (last-of r a)
-  unfolding begin-access write-due written
+  unfolding begin-access write-due written half-written
   begin-pair (load k) = read-pair r k
   begin-pair (save zero w) =
       write-pair 0 w (rw (last-closes c, both-close c)) (ap (with-pointer r) (low-both (lbl c) (r .pointer) w))

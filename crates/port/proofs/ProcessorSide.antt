@@ -11,7 +11,7 @@ use borrow.Author.Tests.{ltb-true, ltb-false, le-ltb}
 use Rattle.words.specs.Bytes.{lo, hi, takes-low, takes-high, lay}
 use Rattle.words.proofs.Lanes.{replaced-whole}
 use Rattle.control.specs.Control.{bare, processor-low}
-use Rattle.port.specs.Registers.{low-half, high-half, halves, with-pointer, with-latch, with-control, register-word, written}
+use Rattle.port.specs.Registers.{low-half, high-half, halves, with-pointer, with-latch, with-control, register-word, half-written, written}
 use Rattle.port.specs.Processor.{processor-word, processor-written, processor-reads, processor-writes}
 use Rattle.port.specs.declared.Registers.{Registers}
 use Rattle.port.specs.declared.ProcessorRead.{ProcessorRead}
@@ -72,7 +72,7 @@ module _ (r : Registers) where
       pub high-control : processor-writes r 4 w .registers ≡ with-control r (lo (r .control) + 256 * hi (bare w))
 
     pub writes : Writes
-    unfolding processor-writes processor-written written lay takes-low takes-high
+    unfolding processor-writes processor-written half-written written lay takes-low takes-high
     writes = record {
       low = λ h. ap (λ (v : ℕ). with-pointer r (halves v (high-half (r .pointer)))) (replaced-whole (low-half (r .pointer)) w h);
       high = λ h. ap (λ (v : ℕ). with-pointer r (halves (low-half (r .pointer)) v)) (replaced-whole (high-half (r .pointer)) w h);

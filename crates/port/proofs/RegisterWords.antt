@@ -8,7 +8,7 @@ use mathlib.Core.List.{List}
 use Rattle.words.specs.Bytes.{shown, replaced}
 use Rattle.words.proofs.Lanes.{replaced-word}
 use Rattle.control.specs.Control.{bare}
-use Rattle.port.specs.Registers.{low-half, high-half, register-word, written}
+use Rattle.port.specs.Registers.{low-half, high-half, register-word, half-written, written}
 use Rattle.port.specs.Host.{begin-access, done, access}
 use Rattle.port.specs.declared.Registers.{Registers}
 use Rattle.port.specs.declared.Access.the-variants.{Read, Write}
@@ -55,7 +55,7 @@ pub record HalvesWritten (r : Registers) (lanes w : ℕ) : Type 0 where
   pub high-leaves-low : low-half (written r 1 lanes w .pointer) ≡ low-half (r .pointer)
 
 pub halves-written : (r : Registers) (lanes w : ℕ) → HalvesWritten r lanes w
-unfolding written
+unfolding written half-written
 halves-written r lanes w =
     let l = low-half (r .pointer) in
     let h = high-half (r .pointer) in

@@ -13,7 +13,7 @@ use Rattle.words.specs.Memory.{in-memory, fetch-at, store-at}
 use Rattle.words.specs.declared.WordNumber.{WordNumber}
 use Rattle.words.proofs.Lanes.{replaced-whole}
 use Rattle.control.specs.Control.{closes, fetches}
-use Rattle.port.specs.Registers.{register-word, written}
+use Rattle.port.specs.Registers.{register-word, half-written, written}
 use Rattle.port.specs.Cycle.{stepped, mark, after-fetch, after-store, carried, memory-after}
 use Rattle.port.specs.Host.{read-due, write-due, begin-access, refusal, number-for, done, access, access-memory}
 use Rattle.port.specs.Runs.{Machine, answer-of, after}
@@ -99,5 +99,5 @@ lone-byte = host (Write 2 2 0x1200)
 
 -- A lone closing byte 12h gives a held 12FFh over the filler of a load that missed, and a held 1200h over the nothing of a reset.
 pub lone-closing-byte : HalfReal (host (Write 1 3 0) ∷ lone-byte ∷ []) 0x12ff × HalfReal (lone-byte ∷ []) 0x1200
-unfolding answer-of ran does after access access-memory refusal done begin-access register-word written read-due write-due closes fetches carried memory-after after-fetch after-store stepped mark fetch-at store-at bit lay takes-low takes-high story story-after landed looked has-cycle word-used real
+unfolding answer-of ran does after access access-memory refusal done begin-access register-word half-written written read-due write-due closes fetches carried memory-after after-fetch after-store stepped mark fetch-at store-at bit lay takes-low takes-high story story-after landed looked has-cycle word-used real
 lone-closing-byte = (record { answer = refl; low-byte = refl }, record { answer = refl; low-byte = refl })

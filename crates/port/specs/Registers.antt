@@ -2,10 +2,11 @@
 --   low-half, high-half, halves   the pointer as HSTADRL and HSTADRH
 --   with-pointer, with-latch, with-control   the record with one part replaced
 --   register-word r k             what register k reads as
+--   half-written a k lanes w      the pointer after a write of register 0 or 1
 --   written r k lanes w           the record after the host wrote w to register k, before any cycle
 use Prim.Native.Nat.{ℕ, _+_, _*_, _/_, _%_}
 use mathlib.Core.Bool.{Bool, cond}
-use lib.Dec.{eqb}
+use lib.Dec.{eqb, ltb}
 use Rattle.words.specs.Addresses.{address}
 use Rattle.words.specs.Bytes.{replaced}
 use Rattle.words.specs.declared.BitAddress.{BitAddress}
@@ -39,11 +40,17 @@ register-word r register =
     (cond (eqb register 2) (r .latch)
     (bare (r .control))))
 
--- "Writing register 0 or 1 replaces the selected bytes", "Writing register 2 replaces the selected bytes" (and leaves the
--- hollow mark to the cycle), "Writing register 3": the host's rule for its low byte
+-- "Writing register 0 or 1 replaces the selected bytes": of the low half for register 0, of the high half for register 1
+unfoldable pub half-written : BitAddress → ℕ → ℕ → ℕ → BitAddress
+half-written a register lanes w =
+    cond (eqb register 0)
+    (halves (replaced lanes (low-half a) w) (high-half a))
+    (halves (low-half a) (replaced lanes (high-half a) w))
+
+-- "Writing register 2 replaces the selected bytes", and leaves the hollow mark to the cycle; "Writing register 3": the host's
+-- rule for its low byte
 unfoldable pub written : Registers → ℕ → ℕ → ℕ → Registers
 written r register lanes w =
-    cond (eqb register 0) (with-pointer r (halves (replaced lanes (low-half (r .pointer)) w) (high-half (r .pointer))))
-    (cond (eqb register 1) (with-pointer r (halves (low-half (r .pointer)) (replaced lanes (high-half (r .pointer)) w)))
+    cond (ltb register 2) (with-pointer r (half-written (r .pointer) register lanes w))
     (cond (eqb register 2) (with-latch r (replaced lanes (r .latch) w) (r .hollow))
-    (with-control r (control-laid host-low lanes (r .control) w))))
+    (with-control r (control-laid host-low lanes (r .control) w)))

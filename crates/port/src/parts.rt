@@ -1,13 +1,9 @@
 // The register record: one part of it replaced, a register read, a register written.
 ghost use mathlib.Core.Path.{_≡_};
-ghost use Rattle.port.specs.Registers.{low-half, high-half, halves, with-pointer, with-latch, with-control, register-word, written};
+ghost use Rattle.port.specs.Registers.{low-half, high-half, halves, with-pointer, with-latch, with-control, register-word, half-written, written};
 use crate::Registers;
 use control::hide_bit_10;
-use control::host_low_of;
 use words::BitAddress;
-use words::high_byte;
-use words::lay_bytes;
-use words::low_byte;
 use words::replace_bytes;
 
 // HSTADRL: the low half of the pointer.
@@ -86,27 +82,28 @@ pub fn read_register(r: Registers, register: u32) -> u16
     hide_bit_10(r.control)
 }
 
+// The pointer with the selected bytes of one half written: the low half for register 0, else the high half.
+fn write_half(a: BitAddress, register: u32, lanes: u32, w: u16) -> BitAddress
+    ensures { λ x. ⌜ x ≡ half-written a register lanes w ⌝ }
+{
+    let l = low_half_of(a);
+    let h = high_half_of(a);
+    if register == 0 {
+        return join_halves(replace_bytes(lanes, l, w), h);
+    }
+    join_halves(l, replace_bytes(lanes, h, w))
+}
+
 // The registers with the selected bytes of one of the four written by the host.
 pub fn write_register(r: Registers, register: u32, lanes: u32, w: u16) -> Registers
     ensures { λ x. ⌜ x ≡ written r register lanes w ⌝ }
 {
-    let a = r.pointer;
-    if register == 0 {
-        return set_pointer(
-            r,
-            join_halves(replace_bytes(lanes, low_half_of(a), w), high_half_of(a)),
-        );
-    }
-    if register == 1 {
-        return set_pointer(
-            r,
-            join_halves(low_half_of(a), replace_bytes(lanes, high_half_of(a), w)),
-        );
+    if register < 2 {
+        let a = r.pointer;
+        return set_pointer(r, write_half(a, register, lanes, w));
     }
     if register == 2 {
         return set_latch(r, replace_bytes(lanes, r.latch, w), r.hollow);
     }
-    let low = host_low_of(low_byte(r.control), low_byte(w));
-    let high = high_byte(hide_bit_10(w));
-    set_control(r, lay_bytes(lanes, r.control, low, high))
+    set_control(r, control::write_by_host(r.control, lanes, w))
 }

@@ -10,11 +10,7 @@ use crate::parts::set_control;
 use crate::parts::set_latch;
 use crate::parts::write_register;
 use control::hide_bit_10;
-use control::processor_low_of;
 use words::BitAddress;
-use words::high_byte;
-use words::lay_bytes;
-use words::low_byte;
 use words::show_bytes;
 
 // What a register of the five reads as.
@@ -41,12 +37,10 @@ fn put(r: Registers, register: u32, w: u16) -> Registers
     if register == 2 {
         return set_latch(r, w, false);
     }
-    let low = processor_low_of(low_byte(r.control), low_byte(w));
-    let high = high_byte(hide_bit_10(w));
     if register == 3 {
-        return set_control(r, lay_bytes(1, r.control, low, high));
+        return set_control(r, control::write_by_processor(r.control, 1, w));
     }
-    set_control(r, lay_bytes(2, r.control, low, high))
+    set_control(r, control::write_by_processor(r.control, 2, w))
 }
 
 // One read by the processor.

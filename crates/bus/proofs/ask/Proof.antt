@@ -1,12 +1,11 @@
 -- `bus::ask` meets its contract: its two tests are the definition's, in the same order.
-use borrow.Author.Needs.{needs}
 use borrow.Author.Tests.{lt-ltb, le-ltb}
 use Rattle.bus.specs.Order.{asked}
 use Rattle.bus.proofs.ask.Statement.{statement}
 use Rattle.bus.proofs.ask.Tie as tie
 
 is-waiting-requires : tie.Need-is-waiting-requires
-is-waiting-requires c κs = search needs
+is-waiting-requires c κs = tt
 
 returns : tie.Need-returns
 unfolding asked
@@ -18,7 +17,7 @@ returns-2 c =
     rw (← c .before .before .is-waiting .ensures, c .before .if1 .left, lt-ltb _ _ (c .if2 .taken))
 
 set-source-requires : tie.Need-set-source-requires
-set-source-requires c κs = search needs
+set-source-requires c κs = tt
 
 returns-3 : tie.Need-returns-3
 unfolding asked

@@ -1,12 +1,11 @@
 -- `bus::grant` meets its contract: its tests on the highest waiting source are the definition's.
-use borrow.Author.Needs.{needs}
 use borrow.Author.Tests.{eq-eqb, ne-eqb}
 use Rattle.bus.specs.Order.{granted}
 use Rattle.bus.proofs.grant.Statement.{statement}
 use Rattle.bus.proofs.grant.Tie as tie
 
 highest-of-requires : tie.Need-highest-of-requires
-highest-of-requires c κs = search needs
+highest-of-requires c κs = tt
 
 returns : tie.Need-returns
 unfolding granted
@@ -18,7 +17,7 @@ returns-2 c =
     rw (← c .before .before .highest-of .ensures, ne-eqb _ _ (c .before .if1 .left), eq-eqb _ _ (c .if2 .taken))
 
 set-source-requires : tie.Need-set-source-requires
-set-source-requires c κs = search needs
+set-source-requires c κs = tt
 
 returns-3 : tie.Need-returns-3
 unfolding granted

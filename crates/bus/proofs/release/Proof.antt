@@ -1,11 +1,10 @@
 -- `bus::release` meets its contract: its test on hold is the definition's.
-use borrow.Author.Needs.{needs}
 use Rattle.bus.specs.Order.{released}
 use Rattle.bus.proofs.release.Statement.{statement}
 use Rattle.bus.proofs.release.Tie as tie
 
 set-source-requires : tie.Need-set-source-requires
-set-source-requires c κs = search needs
+set-source-requires c κs = tt
 
 returns : tie.Need-returns
 unfolding released

@@ -1,18 +1,17 @@
 -- `control::closes_word` meets its contract, by cases on LBL.
-use borrow.Author.Needs.{needs}
 use mathlib.Core.Path.{sym, _∙_}
 use Rattle.control.specs.Control.{closes}
 use Rattle.control.proofs.closes_word.Statement.{statement}
 use Rattle.control.proofs.closes_word.Tie as tie
 
 low-byte-last-requires : tie.Need-low-byte-last-requires
-low-byte-last-requires c κs = search needs
+low-byte-last-requires c κs = tt
 
 selects-low-requires : tie.Need-selects-low-requires
-selects-low-requires c κs = search needs
+selects-low-requires c κs = tt
 
 selects-high-requires : tie.Need-selects-high-requires
-selects-high-requires c κs = search needs
+selects-high-requires c κs = tt
 
 returns : tie.Need-returns
 unfolding closes

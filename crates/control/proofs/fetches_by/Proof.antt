@@ -1,12 +1,11 @@
 -- `control::fetches_by` meets its contract, by cases on LBL.
-use borrow.Author.Needs.{needs}
 use mathlib.Core.Path.{sym, _∙_}
 use Rattle.control.specs.Control.{fetches}
 use Rattle.control.proofs.fetches_by.Statement.{statement}
 use Rattle.control.proofs.fetches_by.Tie as tie
 
 low-byte-last-requires : tie.Need-low-byte-last-requires
-low-byte-last-requires c κs = search needs
+low-byte-last-requires c κs = tt
 
 returns : tie.Need-returns
 unfolding fetches

@@ -5,7 +5,7 @@ use Rattle.control.proofs.join_parts.Statement.{statement}
 use Rattle.control.proofs.join_parts.Tie as tie
 
 weigh-requires : tie.Need-weigh-requires
-weigh-requires c κs = search needs
+weigh-requires c κs = tt
 
 add-result : tie.Need-add-result
 add-result c = search needs
@@ -17,7 +17,7 @@ add-result-2 : tie.Need-add-result-2
 add-result-2 c = search needs
 
 weigh-requires-2 : tie.Need-weigh-requires-2
-weigh-requires-2 c κs = search needs
+weigh-requires-2 c κs = tt
 
 add-result-3 : tie.Need-add-result-3
 add-result-3 c = search needs

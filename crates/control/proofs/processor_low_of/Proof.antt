@@ -1,29 +1,28 @@
 -- `control::processor_low_of` meets its contract: the processor's rule for each part.
-use borrow.Author.Needs.{needs}
 use Rattle.control.specs.Control.{processor-low}
 use Rattle.control.proofs.processor_low_of.Statement.{statement}
 use Rattle.control.proofs.processor_low_of.Tie as tie
 
 int-in-requires : tie.Need-int-in-requires
-int-in-requires c κs = search needs
+int-in-requires c κs = tt
 
 int-in-requires-2 : tie.Need-int-in-requires-2
-int-in-requires-2 c κs = search needs
+int-in-requires-2 c κs = tt
 
 both-requires : tie.Need-both-requires
-both-requires c κs = search needs
+both-requires c κs = tt
 
 int-out-requires : tie.Need-int-out-requires
-int-out-requires c κs = search needs
+int-out-requires c κs = tt
 
 int-out-requires-2 : tie.Need-int-out-requires-2
-int-out-requires-2 c κs = search needs
+int-out-requires-2 c κs = tt
 
 either-requires : tie.Need-either-requires
-either-requires c κs = search needs
+either-requires c κs = tt
 
 join-parts-requires : tie.Need-join-parts-requires
-join-parts-requires c κs = search needs
+join-parts-requires c κs = tt
 
 returns : tie.Need-returns
 unfolding processor-low

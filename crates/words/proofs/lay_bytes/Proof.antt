@@ -5,22 +5,22 @@ use Rattle.words.proofs.lay_bytes.Statement.{statement}
 use Rattle.words.proofs.lay_bytes.Tie as tie
 
 selects-low-requires : tie.Need-selects-low-requires
-selects-low-requires c κs = search needs
+selects-low-requires c κs = tt
 
 low-byte-requires : tie.Need-low-byte-requires
-low-byte-requires c κs = search needs
+low-byte-requires c κs = tt
 
 choose-byte-requires : tie.Need-choose-byte-requires
-choose-byte-requires c κs = search needs
+choose-byte-requires c κs = tt
 
 selects-high-requires : tie.Need-selects-high-requires
-selects-high-requires c κs = search needs
+selects-high-requires c κs = tt
 
 high-byte-requires : tie.Need-high-byte-requires
-high-byte-requires c κs = search needs
+high-byte-requires c κs = tt
 
 choose-byte-requires-2 : tie.Need-choose-byte-requires-2
-choose-byte-requires-2 c κs = search needs
+choose-byte-requires-2 c κs = tt
 
 cast-result : tie.Need-cast-result
 cast-result c = search needs
@@ -36,7 +36,8 @@ add-result c = search needs
 
 returns : tie.Need-returns
 unfolding lay
-returns c = cc
+returns c =
+    rw (c .before .before .before .choose-byte .ensures, c .before .before .before .before .before .selects-low .ensures, c .before .before .before .before .low-byte .ensures, c .choose-byte2 .ensures, c .before .before .selects-high .ensures, c .before .high-byte .ensures)
 
 pub lay-bytes-spec : {M : Type 1} → statement M
 lay-bytes-spec =

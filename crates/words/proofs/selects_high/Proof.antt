@@ -1,11 +1,10 @@
 -- `words::selects_high` meets its contract, by what `either` ensures.
-use borrow.Author.Needs.{needs}
 use Rattle.words.specs.Bytes.{takes-high}
 use Rattle.words.proofs.selects_high.Statement.{statement}
 use Rattle.words.proofs.selects_high.Tie as tie
 
 either-requires : tie.Need-either-requires
-either-requires c κs = search needs
+either-requires c κs = tt
 
 returns : tie.Need-returns
 unfolding takes-high

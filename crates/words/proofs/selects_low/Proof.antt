@@ -1,11 +1,10 @@
 -- `words::selects_low` meets its contract, by what `either` ensures.
-use borrow.Author.Needs.{needs}
 use Rattle.words.specs.Bytes.{takes-low}
 use Rattle.words.proofs.selects_low.Statement.{statement}
 use Rattle.words.proofs.selects_low.Tie as tie
 
 either-requires : tie.Need-either-requires
-either-requires c κs = search needs
+either-requires c κs = tt
 
 returns : tie.Need-returns
 unfolding takes-low

@@ -1,10 +1,9 @@
 -- `words::step_address` meets its contract: the supplied wrapping sum is the definition's.
-use borrow.Author.Needs.{needs}
 use Rattle.words.proofs.step_address.Statement.{statement}
 use Rattle.words.proofs.step_address.Tie as tie
 
 wrapping-add-u32-requires : tie.Need-wrapping-add-u32-requires
-wrapping-add-u32-requires c κs = search needs
+wrapping-add-u32-requires c κs = tt
 
 returns : tie.Need-returns
 returns c = rw (c .wrapping-add-u32 .ensures)

@@ -11,28 +11,28 @@ enum-known-due : tie.Need-enum-known-due
 enum-known-due c = search needs
 
 step-if-requires : tie.Need-step-if-requires
-step-if-requires c κs = search needs
+step-if-requires c κs = tt
 
 word-of-requires : tie.Need-word-of-requires
-word-of-requires c κs = search needs
+word-of-requires c κs = tt
 
 fetch-word-requires : tie.Need-fetch-word-requires
-fetch-word-requires c κs = search needs
+fetch-word-requires c κs = tt
 
 settle-fetch-requires : tie.Need-settle-fetch-requires
-settle-fetch-requires c κs = search needs
+settle-fetch-requires c κs = tt
 
 enum-known-due-2 : tie.Need-enum-known-due-2
 enum-known-due-2 c = search needs
 
 word-of-requires-2 : tie.Need-word-of-requires-2
-word-of-requires-2 c κs = search needs
+word-of-requires-2 c κs = tt
 
 store-word-requires : tie.Need-store-word-requires
-store-word-requires c κs = search needs
+store-word-requires c κs = tt
 
 settle-store-requires : tie.Need-settle-store-requires
-settle-store-requires c κs = search needs
+settle-store-requires c κs = tt
 
 returns : tie.Need-returns
 unfolding carried memory-after

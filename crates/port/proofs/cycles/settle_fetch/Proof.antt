@@ -1,14 +1,13 @@
 -- `port::cycles::settle_fetch` meets its contract: the record and the mark are the definition's.
-use borrow.Author.Needs.{needs}
 use Rattle.port.specs.Cycle.{after-fetch}
 use Rattle.port.proofs.cycles.settle_fetch.Statement.{statement}
 use Rattle.port.proofs.cycles.settle_fetch.Tie as tie
 
 set-latch-requires : tie.Need-set-latch-requires
-set-latch-requires c κs = search needs
+set-latch-requires c κs = tt
 
 mark-of-requires : tie.Need-mark-of-requires
-mark-of-requires c κs = search needs
+mark-of-requires c κs = tt
 
 returns : tie.Need-returns
 unfolding after-fetch

@@ -1,17 +1,16 @@
 -- `port::cycles::settle_store` meets its contract: the record and the mark are the definition's.
-use borrow.Author.Needs.{needs}
 use Rattle.port.specs.Cycle.{after-store}
 use Rattle.port.proofs.cycles.settle_store.Statement.{statement}
 use Rattle.port.proofs.cycles.settle_store.Tie as tie
 
 set-latch-requires : tie.Need-set-latch-requires
-set-latch-requires c κs = search needs
+set-latch-requires c κs = tt
 
 step-if-requires : tie.Need-step-if-requires
-step-if-requires c κs = search needs
+step-if-requires c κs = tt
 
 mark-of-requires : tie.Need-mark-of-requires
-mark-of-requires c κs = search needs
+mark-of-requires c κs = tt
 
 returns : tie.Need-returns
 unfolding after-store

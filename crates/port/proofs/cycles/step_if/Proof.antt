@@ -1,14 +1,13 @@
 -- `port::cycles::step_if` meets its contract, by cases on whether there is a step.
-use borrow.Author.Needs.{needs}
 use Rattle.port.specs.Cycle.{stepped}
 use Rattle.port.proofs.cycles.step_if.Statement.{statement}
 use Rattle.port.proofs.cycles.step_if.Tie as tie
 
 step-address-requires : tie.Need-step-address-requires
-step-address-requires c κs = search needs
+step-address-requires c κs = tt
 
 set-pointer-requires : tie.Need-set-pointer-requires
-set-pointer-requires c κs = search needs
+set-pointer-requires c κs = tt
 
 returns : tie.Need-returns
 unfolding stepped

@@ -8,25 +8,25 @@ enum-known-a : tie.Need-enum-known-a
 enum-known-a c = search needs
 
 read-register-requires : tie.Need-read-register-requires
-read-register-requires c κs = search needs
+read-register-requires c κs = tt
 
 show-bytes-requires : tie.Need-show-bytes-requires
-show-bytes-requires c κs = search needs
+show-bytes-requires c κs = tt
 
 both-requires : tie.Need-both-requires
-both-requires c κs = search needs
+both-requires c κs = tt
 
 due-of-read-requires : tie.Need-due-of-read-requires
-due-of-read-requires c κs = search needs
+due-of-read-requires c κs = tt
 
 enum-known-a-2 : tie.Need-enum-known-a-2
 enum-known-a-2 c = search needs
 
 write-register-requires : tie.Need-write-register-requires
-write-register-requires c κs = search needs
+write-register-requires c κs = tt
 
 due-of-write-requires : tie.Need-due-of-write-requires
-due-of-write-requires c κs = search needs
+due-of-write-requires c κs = tt
 
 returns : tie.Need-returns
 unfolding begin-access

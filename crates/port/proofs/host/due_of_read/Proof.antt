@@ -1,18 +1,17 @@
 -- `port::host::due_of_read` meets its contract, by cases on whether the closing byte of HSTDATA is read.
-use borrow.Author.Needs.{needs}
 use mathlib.Core.Path.{sym, _∙_}
 use Rattle.port.specs.Host.{read-due}
 use Rattle.port.proofs.host.due_of_read.Statement.{statement}
 use Rattle.port.proofs.host.due_of_read.Tie as tie
 
 closes-word-requires : tie.Need-closes-word-requires
-closes-word-requires c κs = search needs
+closes-word-requires c κs = tt
 
 both-requires : tie.Need-both-requires
-both-requires c κs = search needs
+both-requires c κs = tt
 
 steps-reading-requires : tie.Need-steps-reading-requires
-steps-reading-requires c κs = search needs
+steps-reading-requires c κs = tt
 
 returns : tie.Need-returns
 unfolding read-due

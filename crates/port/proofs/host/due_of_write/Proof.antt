@@ -1,5 +1,4 @@
 -- `port::host::due_of_write` meets its contract, by cases on the closing byte and the register.
-use borrow.Author.Needs.{needs}
 use mathlib.Core.Path.{sym, _∙_}
 use borrow.Author.Tests.{eq-eqb, ne-eqb}
 use Rattle.port.specs.Host.{write-due}
@@ -7,17 +6,17 @@ use Rattle.port.proofs.host.due_of_write.Statement.{statement}
 use Rattle.port.proofs.host.due_of_write.Tie as tie
 
 closes-word-requires : tie.Need-closes-word-requires
-closes-word-requires c κs = search needs
+closes-word-requires c κs = tt
 
 steps-writing-requires : tie.Need-steps-writing-requires
-steps-writing-requires c κs = search needs
+steps-writing-requires c κs = tt
 
 returns : tie.Need-returns
 unfolding write-due
 returns c = rw (sym (c .before .before .before .closes-word .ensures) ∙ c .before .before .if1 .taken, eq-eqb _ _ (c .before .if2 .taken), c .steps-writing .ensures)
 
 fetches-by-requires : tie.Need-fetches-by-requires
-fetches-by-requires c κs = search needs
+fetches-by-requires c κs = tt
 
 returns-2 : tie.Need-returns-2
 unfolding write-due

@@ -6,10 +6,10 @@ use Rattle.port.proofs.host.host_access.Statement.{statement}
 use Rattle.port.proofs.host.host_access.Tie as tie
 
 number-of-requires : tie.Need-number-of-requires
-number-of-requires c κs = search needs
+number-of-requires c κs = tt
 
 refuse-requires : tie.Need-refuse-requires
-refuse-requires c κs = search needs
+refuse-requires c κs = tt
 
 returns : tie.Need-returns
 unfolding access access-memory
@@ -18,13 +18,13 @@ returns c =
     record { outcome = rw (t, c .refuse .ensures, c .before .before .number-of .ensures); memory = rw t }
 
 begin-requires : tie.Need-begin-requires
-begin-requires c κs = search needs
+begin-requires c κs = tt
 
 carry-requires : tie.Need-carry-requires
-carry-requires c κs = search needs
+carry-requires c κs = tt
 
 finish-requires : tie.Need-finish-requires
-finish-requires c κs = search needs
+finish-requires c κs = tt
 
 same-length : tie.Need-same-length
 same-length c = search needs

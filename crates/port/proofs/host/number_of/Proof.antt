@@ -7,13 +7,13 @@ enum-known-a : tie.Need-enum-known-a
 enum-known-a c = search needs
 
 refusal-of-requires : tie.Need-refusal-of-requires
-refusal-of-requires c κs = search needs
+refusal-of-requires c κs = tt
 
 enum-known-a-2 : tie.Need-enum-known-a-2
 enum-known-a-2 c = search needs
 
 refusal-of-requires-2 : tie.Need-refusal-of-requires-2
-refusal-of-requires-2 c κs = search needs
+refusal-of-requires-2 c κs = tt
 
 returns : tie.Need-returns
 returns c = rw (c .before .before .a .given .1) (c .refusal-of .ensures)

@@ -1,5 +1,4 @@
 -- `port::host::refusal_of` meets its contract: the tests are the definition's, in its order.
-use borrow.Author.Needs.{needs}
 use mathlib.Core.Path.{sym, _∙_}
 use borrow.Author.Tests.{lt-ltb, le-ltb}
 use Rattle.port.specs.Host.{refusal}
@@ -7,7 +6,7 @@ use Rattle.port.proofs.host.refusal_of.Statement.{statement}
 use Rattle.port.proofs.host.refusal_of.Tie as tie
 
 is-over-limit-requires : tie.Need-is-over-limit-requires
-is-over-limit-requires c κs = search needs
+is-over-limit-requires c κs = tt
 
 returns : tie.Need-returns
 unfolding refusal
@@ -18,10 +17,10 @@ unfolding refusal
 returns-2 c = rw (sym (c .before .before .is-over-limit .ensures) ∙ c .before .if1 .left, lt-ltb _ _ (c .if2 .taken))
 
 either-requires : tie.Need-either-requires
-either-requires c κs = search needs
+either-requires c κs = tt
 
 either-requires-2 : tie.Need-either-requires-2
-either-requires-2 c κs = search needs
+either-requires-2 c κs = tt
 
 returns-3 : tie.Need-returns-3
 unfolding refusal

@@ -1,19 +1,18 @@
 -- `port::parts::read_register` meets its contract, by cases on the register.
-use borrow.Author.Needs.{needs}
 use borrow.Author.Tests.{eq-eqb, ne-eqb}
 use Rattle.port.specs.Registers.{register-word}
 use Rattle.port.proofs.parts.read_register.Statement.{statement}
 use Rattle.port.proofs.parts.read_register.Tie as tie
 
 low-half-of-requires : tie.Need-low-half-of-requires
-low-half-of-requires c κs = search needs
+low-half-of-requires c κs = tt
 
 returns : tie.Need-returns
 unfolding register-word
 returns c = rw (eq-eqb _ _ (c .before .if1 .taken)) (c .low-half-of .ensures)
 
 high-half-of-requires : tie.Need-high-half-of-requires
-high-half-of-requires c κs = search needs
+high-half-of-requires c κs = tt
 
 returns-2 : tie.Need-returns-2
 unfolding register-word
@@ -24,7 +23,7 @@ unfolding register-word
 returns-3 c = rw (ne-eqb _ _ (c .before .before .if1 .left), ne-eqb _ _ (c .before .if2 .left), eq-eqb _ _ (c .if3 .taken))
 
 hide-bit-10-requires : tie.Need-hide-bit-10-requires
-hide-bit-10-requires c κs = search needs
+hide-bit-10-requires c κs = tt
 
 returns-4 : tie.Need-returns-4
 unfolding register-word

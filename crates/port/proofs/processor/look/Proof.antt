@@ -1,29 +1,28 @@
 -- `port::processor::look` meets its contract, by cases on the register.
-use borrow.Author.Needs.{needs}
 use borrow.Author.Tests.{eq-eqb, ne-eqb, lt-ltb, le-ltb}
 use Rattle.port.specs.Processor.{processor-word}
 use Rattle.port.proofs.processor.look.Statement.{statement}
 use Rattle.port.proofs.processor.look.Tie as tie
 
 read-register-requires : tie.Need-read-register-requires
-read-register-requires c κs = search needs
+read-register-requires c κs = tt
 
 returns : tie.Need-returns
 unfolding processor-word
 returns c = rw (lt-ltb _ _ (c .before .if1 .taken)) (c .read-register .ensures)
 
 hide-bit-10-requires : tie.Need-hide-bit-10-requires
-hide-bit-10-requires c κs = search needs
+hide-bit-10-requires c κs = tt
 
 show-bytes-requires : tie.Need-show-bytes-requires
-show-bytes-requires c κs = search needs
+show-bytes-requires c κs = tt
 
 returns-2 : tie.Need-returns-2
 unfolding processor-word
 returns-2 c = rw (le-ltb _ _ (c .before .before .before .if1 .left), eq-eqb _ _ (c .before .if2 .taken), c .show-bytes .ensures, c .before .before .hide-bit-10 .ensures)
 
 show-bytes-requires-2 : tie.Need-show-bytes-requires-2
-show-bytes-requires-2 c κs = search needs
+show-bytes-requires-2 c κs = tt
 
 returns-3 : tie.Need-returns-3
 unfolding processor-word

@@ -1,5 +1,4 @@
 -- `port::processor::processor_read` meets its contract, by cases on the register's number.
-use borrow.Author.Needs.{needs}
 use borrow.Author.Tests.{lt-ltb, le-ltb}
 use Rattle.port.specs.Processor.{processor-reads}
 use Rattle.port.proofs.processor.processor_read.Statement.{statement}
@@ -10,7 +9,7 @@ unfolding processor-reads
 returns c = rw (lt-ltb _ _ (c .if1 .taken))
 
 look-requires : tie.Need-look-requires
-look-requires c κs = search needs
+look-requires c κs = tt
 
 returns-2 : tie.Need-returns-2
 unfolding processor-reads

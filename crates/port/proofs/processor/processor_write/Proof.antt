@@ -1,5 +1,4 @@
 -- `port::processor::processor_write` meets its contract, by cases on the register's number.
-use borrow.Author.Needs.{needs}
 use borrow.Author.Tests.{lt-ltb, le-ltb}
 use Rattle.port.specs.Processor.{processor-writes}
 use Rattle.port.proofs.processor.processor_write.Statement.{statement}
@@ -10,7 +9,7 @@ unfolding processor-writes
 returns c = rw (lt-ltb _ _ (c .if1 .taken))
 
 put-requires : tie.Need-put-requires
-put-requires c κs = search needs
+put-requires c κs = tt
 
 returns-2 : tie.Need-returns-2
 unfolding processor-writes

@@ -1,10 +1,9 @@
 -- `port::processor::reset` meets its contract: the bus record is the quiet one.
-use borrow.Author.Needs.{needs}
 use Rattle.port.proofs.processor.reset.Statement.{statement}
 use Rattle.port.proofs.processor.reset.Tie as tie
 
 idle-requires : tie.Need-idle-requires
-idle-requires c κs = search needs
+idle-requires c κs = tt
 
 returns : tie.Need-returns
 returns c = rw (c .idle .ensures)
