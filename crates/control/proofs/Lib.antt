@@ -2,4 +2,4 @@ pub mod BitPlaces
 pub mod LowByte
 pub mod BitTen
 pub mod ClosingByte
-pub mod HighLane
+pub mod Written

@@ -3,6 +3,7 @@
 ghost use mathlib.Core.Path.{_≡_};
 ghost use mathlib.Core.Bool.{cond};
 ghost use Prim.Native.Nat.{_≤_};
+ghost use Rattle.words.specs.Bytes.{hi, lay};
 ghost use Rattle.control.specs.Control.{intin, intout, incw, incr, lbl, bare, low-parts, host-low, processor-low, control-laid, closes, fetches};
 use words::bit_of;
 use words::both;
@@ -107,18 +108,23 @@ fn processor_low_of(old: u8, new: u8) -> u8
     join_parts(old, ii, new, io)
 }
 
-// HSTCTL after the host writes: the low byte by its rule, all of the high byte but bit 10.
+// HSTCTL with the selected bytes written: the low byte as given, all of the high byte but bit 10.
+fn lay_control(c: u16, lanes: u32, low: u8, w: u16) -> u16
+    ensures { λ r. ⌜ r ≡ lay lanes c low (hi (bare w)) ⌝ }
+{
+    lay_bytes(lanes, c, low, high_byte(hide_bit_10(w)))
+}
+
+// HSTCTL after the host writes.
 pub fn write_by_host(c: u16, lanes: u32, w: u16) -> u16
     ensures { λ r. ⌜ r ≡ control-laid host-low lanes c w ⌝ }
 {
-    let low = host_low_of(low_byte(c), low_byte(w));
-    lay_bytes(lanes, c, low, high_byte(hide_bit_10(w)))
+    lay_control(c, lanes, host_low_of(low_byte(c), low_byte(w)), w)
 }
 
 // HSTCTL after the processor writes: lanes 1 for HSTCTLL, lanes 2 for HSTCTLH.
 pub fn write_by_processor(c: u16, lanes: u32, w: u16) -> u16
     ensures { λ r. ⌜ r ≡ control-laid processor-low lanes c w ⌝ }
 {
-    let low = processor_low_of(low_byte(c), low_byte(w));
-    lay_bytes(lanes, c, low, high_byte(hide_bit_10(w)))
+    lay_control(c, lanes, processor_low_of(low_byte(c), low_byte(w)), w)
 }

@@ -10,7 +10,7 @@ use Rattle.words.specs.declared.BitAddress.{BitAddress}
 use Rattle.words.proofs.Lanes.{replaced-word}
 use Rattle.words.proofs.ByBytes.{lay-both, replaced-both, shown-both}
 use Rattle.control.specs.Control.{lbl, bare, host-low, control-laid, closes, fetches, first-lane, last-lane}
-use Rattle.control.proofs.LowByte.{host-parts}
+use Rattle.control.proofs.LowByte.{host-byte}
 use Rattle.control.proofs.ClosingByte.{first-is-open, last-closes, both-close}
 use Rattle.port.specs.Registers.{low-half, high-half, halves, with-pointer, with-latch, with-control, register-word, half-written, written}
 use Rattle.port.specs.Host.{read-due, write-due, begin-access}
@@ -79,7 +79,7 @@ module _ (k : ℕ) (h : 2 < k) where
       let c = r .control in
       rw (writes-control r (first-lane c) w, writes-control r 3 w)
       (writes-control (with-control r (control-laid host-low (first-lane c) c w)) (last-lane c) w ∙
-      ap (with-control r) (lay-both (lbl c) (λ x. host-low x (lo w)) c (hi (bare w)) (λ x. host-parts x (lo w) .byte) (omega arith)))
+      ap (with-control r) (lay-both (lbl c) (λ x. host-low x (lo w)) c (hi (bare w)) (λ x. host-byte x (lo w)) (omega arith)))
 
 -- ---- a read changes no register, whatever register it is of
 read-pair : (r : Registers) (k : ℕ) → Paired (begin-access r (on 3 (load k))) (first-of r (load k)) (last-of r (load k))

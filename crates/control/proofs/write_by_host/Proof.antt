@@ -1,4 +1,4 @@
--- `control::write_by_host` meets its contract: the low byte by the host's rule, the bytes laid on the lanes.
+-- `control::write_by_host` meets its contract: the low byte by the host's rule.
 use Rattle.control.proofs.write_by_host.Statement.{statement}
 use Rattle.control.proofs.write_by_host.Tie as tie
 
@@ -11,17 +11,11 @@ low-byte-requires-2 c κs = tt
 host-low-of-requires : tie.Need-host-low-of-requires
 host-low-of-requires c κs = tt
 
-hide-bit-10-requires : tie.Need-hide-bit-10-requires
-hide-bit-10-requires c κs = tt
-
-high-byte-requires : tie.Need-high-byte-requires
-high-byte-requires c κs = tt
-
-lay-bytes-requires : tie.Need-lay-bytes-requires
-lay-bytes-requires c κs = tt
+lay-control-requires : tie.Need-lay-control-requires
+lay-control-requires c κs = tt
 
 returns : tie.Need-returns
-returns c = rw (c .lay-bytes .ensures, c .before .high-byte .ensures, c .before .before .hide-bit-10 .ensures, c .before .before .before .host-low-of .ensures, c .before .before .before .before .before .low-byte .ensures, c .before .before .before .before .low-byte2 .ensures)
+returns c = rw (c .lay-control .ensures, c .before .host-low-of .ensures, c .before .before .before .low-byte .ensures, c .before .before .low-byte2 .ensures)
 
 pub write-by-host-spec : {M : Type 1} → statement M
 write-by-host-spec =
@@ -30,7 +24,5 @@ write-by-host-spec =
     low-byte-requires
     low-byte-requires-2
     host-low-of-requires
-    hide-bit-10-requires
-    high-byte-requires
-    lay-bytes-requires
+    lay-control-requires
     returns)

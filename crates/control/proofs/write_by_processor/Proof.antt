@@ -1,4 +1,4 @@
--- `control::write_by_processor` meets its contract: the low byte by the processor's rule, the bytes laid on the lanes.
+-- `control::write_by_processor` meets its contract: the low byte by the processor's rule.
 use Rattle.control.proofs.write_by_processor.Statement.{statement}
 use Rattle.control.proofs.write_by_processor.Tie as tie
 
@@ -11,17 +11,11 @@ low-byte-requires-2 c κs = tt
 processor-low-of-requires : tie.Need-processor-low-of-requires
 processor-low-of-requires c κs = tt
 
-hide-bit-10-requires : tie.Need-hide-bit-10-requires
-hide-bit-10-requires c κs = tt
-
-high-byte-requires : tie.Need-high-byte-requires
-high-byte-requires c κs = tt
-
-lay-bytes-requires : tie.Need-lay-bytes-requires
-lay-bytes-requires c κs = tt
+lay-control-requires : tie.Need-lay-control-requires
+lay-control-requires c κs = tt
 
 returns : tie.Need-returns
-returns c = rw (c .lay-bytes .ensures, c .before .high-byte .ensures, c .before .before .hide-bit-10 .ensures, c .before .before .before .processor-low-of .ensures, c .before .before .before .before .before .low-byte .ensures, c .before .before .before .before .low-byte2 .ensures)
+returns c = rw (c .lay-control .ensures, c .before .processor-low-of .ensures, c .before .before .before .low-byte .ensures, c .before .before .low-byte2 .ensures)
 
 pub write-by-processor-spec : {M : Type 1} → statement M
 write-by-processor-spec =
@@ -30,7 +24,5 @@ write-by-processor-spec =
     low-byte-requires
     low-byte-requires-2
     processor-low-of-requires
-    hide-bit-10-requires
-    high-byte-requires
-    lay-bytes-requires
+    lay-control-requires
     returns)
