@@ -10,6 +10,7 @@ use mathlib.Core.List.{List, [], _∷_}
 use mathlib.Core.Logic.{_≢_, ⊎-elim}
 use lib.Dec.{eqb}
 use borrow.Author.Tests.{eqb-true, eqb-false}
+use Rattle.words.specs.Bytes.{are-lanes}
 use Rattle.words.proofs.Choices.{either-way}
 use Rattle.control.specs.Control.{lbl, first-lane, last-lane}
 use Rattle.port.specs.Cycle.{carried, memory-after}
@@ -32,21 +33,18 @@ pub record Alike (s : Machine) (a : Sixteen) : Type 0 where
   pub end : after (between s a) (closing s a) ≡ after s (on 3 a)
 
 -- ---- a register is refused alike on either byte and on both
-named : ℕ → Bool
-named lanes = eqb lanes 1 || (eqb lanes 2 || eqb lanes 3)
-
-number-on : (m : List ℕ) (lanes : ℕ) (a : Sixteen) → named lanes ≡ true → number-for m (on lanes a) ≡ number-for m (on 3 a)
-unfolding refusal named
+number-on : (m : List ℕ) (lanes : ℕ) (a : Sixteen) → are-lanes lanes ≡ true → number-for m (on lanes a) ≡ number-for m (on 3 a)
+unfolding refusal are-lanes
 number-on m lanes (load k) e = rw e
 number-on m lanes (save k w) e = rw e
 
-first-named : (b : Bool) → named (cond b 2 1) ≡ true
-unfolding named
+first-named : (b : Bool) → are-lanes (cond b 2 1) ≡ true
+unfolding are-lanes
 first-named true = refl
 first-named false = refl
 
-last-named : (b : Bool) → named (cond b 1 2) ≡ true
-unfolding named
+last-named : (b : Bool) → are-lanes (cond b 1 2) ≡ true
+unfolding are-lanes
 last-named true = refl
 last-named false = refl
 
@@ -143,16 +141,16 @@ module _ (s : Machine) (a : Sixteen) where
         let n′ : number-for m x ≢ 0 = λ z. n (sym e ∙ z) in
         rw (barred (s .registers) m x n′, barred-memory (s .registers) m x n′)
 
-    says : (x : Access) → number-for m x ≡ number-for m (on 3 a) → answer-of s x ≡ refused (number-for m (on 3 a)) (s .registers) .answer
+    refusing : (x : Access) → number-for m x ≡ number-for m (on 3 a) → answer-of s x ≡ refused (number-for m (on 3 a)) (s .registers) .answer
     unfolding answer-of
-    says x e = ap (λ (o : Outcome). o .answer) (barred (s .registers) m x (λ z. n (sym e ∙ z))) ∙ rw e
+    refusing x e = ap (λ (o : Outcome). o .answer) (barred (s .registers) m x (λ z. n (sym e ∙ z))) ∙ rw e
 
     alike-barred : Alike s a
     alike-barred =
         let stood = stays (opening s a) number-first in
-        let first = says (opening s a) number-first in
-        let last = says (closing s a) number-last in
-        let whole = says (on 3 a) refl in
+        let first = refusing (opening s a) number-first in
+        let last = refusing (closing s a) number-last in
+        let whole = refusing (on 3 a) refl in
         record {
           first-number = rw (first, whole);
           first-hollow = rw (first, whole);

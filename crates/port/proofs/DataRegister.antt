@@ -9,14 +9,15 @@ use Rattle.words.specs.Bytes.{replaced}
 use Rattle.words.specs.Memory.{store-at}
 use Rattle.control.specs.Control.{incr, incw, closes}
 use Rattle.port.specs.Registers.{with-latch, written}
-use Rattle.port.specs.Cycle.{carried, memory-after}
+use Rattle.port.specs.Cycle.{carried, memory-after, standing}
 use Rattle.port.specs.Host.{read-due, write-due, begin-access, access, access-memory}
-use Rattle.port.specs.Table.{standing}
 use Rattle.port.specs.Deeds.{content, Says, ahead}
 use Rattle.port.specs.declared.Registers.{Registers}
 use Rattle.port.specs.declared.Access.the-variants.{Read, Write}
+use Rattle.port.proofs.Taken.{as-done-memory}
+use Rattle.port.proofs.OpenByte.{uncalled-memory}
 use Rattle.port.proofs.NoMiss.{says}
-use Rattle.port.proofs.Leaves.{stored-at, fetch-leaves, store-leaves, left-by, memory-by}
+use Rattle.port.proofs.Leaves.{after-storing, fetch-leaves, store-leaves, left-by}
 
 module _ (r : Registers) (m : List ℕ) where
   abbrev c : ℕ
@@ -37,9 +38,9 @@ module _ (r : Registers) (m : List ℕ) where
     -- comes last, and all but the storing happens beyond memory too.
     pub write-stores : closes c lanes ≡ true → access-memory r m (Write 2 lanes w) ≡ store-at m (word-at (r .pointer)) (replaced lanes (r .latch) w)
     unfolding begin-access write-due written memory-after
-    write-stores e = memory-by r m (Write 2 lanes w) n ∙ rw e
+    write-stores e = as-done-memory r m (Write 2 lanes w) n ∙ rw e
 
-    pub write-steps : closes c lanes ≡ true → access r m (Write 2 lanes w) .registers ≡ stored-at r (replaced lanes (r .latch) w) (incw c)
+    pub write-steps : closes c lanes ≡ true → access r m (Write 2 lanes w) .registers ≡ after-storing r (replaced lanes (r .latch) w) (incw c)
     unfolding begin-access write-due written
     write-steps e = left-by r m (Write 2 lanes w) n ∙ rw e (store-leaves (with-latch r (replaced lanes (r .latch) w) (r .hollow)) m (incw c))
 
@@ -47,10 +48,6 @@ module _ (r : Registers) (m : List ℕ) where
     pub write-open : closes c lanes ≡ false → access r m (Write 2 lanes w) .registers ≡ with-latch r (replaced lanes (r .latch) w) (r .hollow)
     unfolding begin-access write-due written carried
     write-open e = left-by r m (Write 2 lanes w) n ∙ rw e
-
-    pub write-open-memory : closes c lanes ≡ false → access-memory r m (Write 2 lanes w) ≡ m
-    unfolding begin-access write-due memory-after
-    write-open-memory e = memory-by r m (Write 2 lanes w) n ∙ rw e
 
   -- "The pointer gains 16 modulo 2^32: after FFFFFFF0h comes 0", before a fetch and after a store.
   pub read-wraps : (lanes : ℕ) → access r m (Read 2 lanes) .answer .number ≡ 0 → closes c lanes ≡ true → incr c ≡ true → r .pointer ≡ address 0xfffffff0 →

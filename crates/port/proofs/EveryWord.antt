@@ -10,8 +10,9 @@ use lib.ListN.{length, getD, replicate, length-take, length-drop}
 use Rattle.words.specs.Addresses.{word-at}
 use Rattle.words.specs.declared.BitAddress.{BitAddress}
 use Rattle.control.specs.Control.{incr}
+use Rattle.port.specs.Cycle.{standing}
 use Rattle.port.specs.Runs.{Machine, load, on, answer-of, answers, ends, byte-answers}
-use Rattle.port.specs.Table.{Memory, standing, loading, loaded, byte-loaded, reading, on-by, table, Lies, Given, given, held, filler}
+use Rattle.port.specs.Table.{Memory, loading, loaded, byte-loaded, reading, on-by, table, Lies, Given, given, held, filler}
 use Rattle.port.specs.declared.Answer.{Answer}
 use Rattle.port.specs.declared.Cycle.the-variants.{Empty}
 use Rattle.port.proofs.Alike.{answers-alike, ends-alike}

@@ -11,7 +11,7 @@ use lib.Dec.{ltb}
 use lib.ListN.{length, getD}
 use borrow.Author.Tests.{le-ltb}
 use Rattle.words.specs.Addresses.{word-at, step}
-use Rattle.words.specs.Bytes.{takes-low, takes-high, replaced}
+use Rattle.words.specs.Bytes.{takes-low, takes-high, are-lanes, replaced}
 use Rattle.words.specs.Memory.{in-memory, fetch-at}
 use Rattle.words.specs.declared.BitAddress.{BitAddress}
 use Rattle.words.proofs.Addresses.{step-fits}
@@ -20,10 +20,10 @@ use Rattle.words.proofs.Lanes.{shown-whole, replaced-whole}
 use Rattle.control.specs.Control.{lbl, incr, closes, fetches}
 use Rattle.control.proofs.ClosingByte.{both-close}
 use Rattle.port.specs.Registers.{low-half, high-half, halves, register-word, half-written, written}
-use Rattle.port.specs.Cycle.{stepped, after-fetch, carried, memory-after}
+use Rattle.port.specs.Cycle.{stepped, after-fetch, carried, memory-after, shows, standing}
 use Rattle.port.specs.Host.{read-due, write-due, begin-access, refusal, done, access, access-memory}
 use Rattle.port.specs.Runs.{Machine, answer-of, after, answers, ends}
-use Rattle.port.specs.Table.{Memory, shows, standing, loading, loaded, stands, reading, hand, handed, on-by}
+use Rattle.port.specs.Table.{Memory, loading, loaded, stands, reading, hand, handed, on-by}
 use Rattle.port.specs.declared.Access.the-variants.{Read}
 use Rattle.port.specs.declared.Outcome.{Outcome}
 
@@ -55,7 +55,7 @@ module _ (s : Machine) (k : Memory (s .memory)) where
   -- ---- loading the pointer
   -- The two writes that load the pointer fetch the word there; memory and the control register stay.
   pub loads : (a : BitAddress) → a .0 < 2 ^ 32 → loaded s a ≡ stands s a
-  unfolding loading ends after access access-memory refusal done begin-access write-due half-written written closes fetches takes-low takes-high carried memory-after stepped after-fetch fetch-at standing
+  unfolding loading ends after access access-memory refusal are-lanes done begin-access write-due half-written written closes fetches takes-low takes-high carried memory-after stepped after-fetch fetch-at standing
   loads a h =
       ⊎-elim
       (λ e. rw e (rw (not-over, e) (rw (not-over, e, high-then-low a h))))
@@ -75,7 +75,7 @@ module _ (s : Machine) (k : Memory (s .memory)) where
     one-read : (a : BitAddress) →
         access (stands s a .registers) (s .memory) (Read 2 3)
         ≡ record { answer = hand (s .memory) a; registers = stands s (step a) .registers }
-    unfolding access refusal done begin-access register-word read-due carried stepped after-fetch fetch-at hand standing
+    unfolding access refusal are-lanes done begin-access register-word read-due carried stepped after-fetch fetch-at hand standing
     one-read a = rw (not-over, both-close (s .registers .control), i, shown-whole _ (shows-word a))
 
     -- A read hands out the word that the registers stand at, and leaves them standing one word on.
@@ -84,7 +84,7 @@ module _ (s : Machine) (k : Memory (s .memory)) where
     read-answer a = ap (λ (o : Outcome). o .answer) (one-read a)
 
     read-after : (a : BitAddress) → after (stands s a) (Read 2 3) ≡ stands s (step a)
-    unfolding after access-memory refusal begin-access read-due memory-after standing
+    unfolding after access-memory refusal are-lanes begin-access read-due memory-after standing
     read-after a = rw (one-read a, not-over, both-close (s .registers .control))
 
     reads-answer : (n : ℕ) (a : BitAddress) → answers (stands s a) (reading n) ≡ handed (s .memory) a n

@@ -3,40 +3,35 @@ use Prim.Native.Nat.{ℕ}
 use mathlib.Core.Path.{_≡_, refl, sym, ap, _∙_}
 use mathlib.Core.Bool.{Bool, true, false, cond}
 use mathlib.Core.List.{List}
-use Rattle.words.specs.Addresses.{step}
+use Rattle.words.specs.Addresses.{stepped-from}
 use Rattle.words.specs.Memory.{fetch-at}
 use Rattle.words.specs.declared.BitAddress.{BitAddress}
-use Rattle.port.specs.Cycle.{stepped, after-fetch, after-store, carried, memory-after}
+use Rattle.port.specs.Cycle.{stepped, after-fetch, after-store, carried, memory-after, standing}
 use Rattle.port.specs.Host.{begin-access, done, access, access-memory}
-use Rattle.port.specs.Table.{standing}
 use Rattle.port.specs.declared.Registers.{Registers}
 use Rattle.port.specs.declared.Access.{Access}
 use Rattle.port.specs.declared.Due.the-variants.{Fetch, Store}
 use Rattle.port.specs.declared.Outcome.{Outcome}
-use Rattle.port.proofs.Taken.{taken, taken-memory, number-is}
-
--- the bit address that a step, where there is one, leaves
-abbrev pub stepped-from : Bool → BitAddress → BitAddress
-stepped-from s a = cond s (step a) a
+use Rattle.port.proofs.Taken.{as-done}
 
 -- the registers after a store of w: held, and the pointer stepped where s says so
-abbrev pub stored-at : Registers → ℕ → Bool → Registers
-stored-at r w s = record { pointer = stepped-from s (r .pointer); latch = w; control = r .control; hollow = false }
+abbrev pub after-storing : Registers → ℕ → Bool → Registers
+after-storing r w s = record { pointer = stepped-from s (r .pointer); latch = w; control = r .control; hollow = false }
 
+-- A fetch leaves the registers standing at its address, stepped to or not.
 pub fetch-leaves : (r : Registers) (m : List ℕ) (s : Bool) → carried r (Fetch s) m .registers ≡ standing m (r .control) (stepped-from s (r .pointer))
 unfolding carried after-fetch stepped fetch-at standing
 fetch-leaves r m true = refl
 fetch-leaves r m false = refl
 
-pub store-leaves : (r : Registers) (m : List ℕ) (s : Bool) → carried r (Store s) m .registers ≡ stored-at r (r .latch) s
+-- A store leaves HSTDATA held, and then steps or not.
+pub store-leaves : (r : Registers) (m : List ℕ) (s : Bool) → carried r (Store s) m .registers ≡ after-storing r (r .latch) s
 unfolding carried after-store stepped
 store-leaves r m true = refl
 store-leaves r m false = refl
 
-module _ (r : Registers) (m : List ℕ) where
-  pub left-by : (a : Access) → access r m a .answer .number ≡ 0 → access r m a .registers ≡ carried (begin-access r a .registers) (begin-access r a .due) m .registers
-  unfolding done
-  left-by a n = ap (λ (o : Outcome). o .registers) (taken r m a (sym (number-is r m a) ∙ n))
-
-  pub memory-by : (a : Access) → access r m a .answer .number ≡ 0 → access-memory r m a ≡ memory-after (begin-access r a .registers) (begin-access r a .due) m
-  memory-by a n = taken-memory r m a (sym (number-is r m a) ∙ n)
+-- The registers after an access that is done are those that its cycle leaves.
+pub left-by : (r : Registers) (m : List ℕ) (a : Access) → access r m a .answer .number ≡ 0 →
+    access r m a .registers ≡ carried (begin-access r a .registers) (begin-access r a .due) m .registers
+unfolding done
+left-by r m a n = ap (λ (o : Outcome). o .registers) (as-done r m a n)

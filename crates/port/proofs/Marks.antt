@@ -1,9 +1,9 @@
 -- What one deed leaves in HSTDATA, and the mark of its cycle: document 01, 'The four host registers' and 'The processor's side'.
 -- By cases on the access, and on the tests that choose its cycle.
---   Leaves, leaves       what an access that is done leaves: the mark of its cycle, HSTDATA's word and hollow mark
+--   CycleLeaves, leaves  what an access that is done leaves: the mark of its cycle, HSTDATA's word and hollow mark
 --   data-begun           HSTDATA with the bytes that the host lays there, before any cycle
 --   data-put             HSTDATA after a write by the processor
---   judges, shows        after each deed the onlooker judges right, and each answer shows that judgement
+--   judges, mark-shown   after each deed the onlooker judges right, and each answer shows that judgement
 use Prim.Native.Nat.{ℕ}
 use mathlib.Core.Path.{_≡_, refl, sym, ap, _∙_}
 use mathlib.Core.Bool.{Bool, true, false, cond, not, _&&_, _||_}
@@ -20,7 +20,7 @@ use Rattle.port.specs.Cycle.{stepped, mark, after-fetch, after-store, ca
 use Rattle.port.specs.Host.{read-due, write-due, begin-access, done}
 use Rattle.port.specs.Runs.{Machine, answer-of, after}
 use Rattle.port.specs.Processor.{processor-written, processor-writes}
-use Rattle.port.specs.Deeds.{Deed, host, processor, reset, does, Content, content, reads-data, writes-data, has-cycle, word-used, judged, expected, Shows}
+use Rattle.port.specs.Deeds.{Deed, host, processor, reset, elsewhere, does, Content, content, reads-data, writes-data, has-cycle, word-used, judged, expected, Shows}
 use Rattle.port.specs.declared.Registers.{Registers}
 use Rattle.port.specs.declared.Access.{Access}
 use Rattle.port.specs.declared.Access.the-variants.{Read, Write}
@@ -40,20 +40,20 @@ found m n = record { word = fetch-at m n .word; hollow = not (in-memory m n) }
 abbrev pub kept : Registers → Content
 kept r = record { word = r .latch; hollow = false }
 
--- c is what registers r leave: after a cycle at word n where one is called for, a store or else a fetch, and as they are where none is
-pub record Leaves (r : Registers) (m : List ℕ) (called stores : Bool) (n : WordNumber) (c : Carried) : Type 0 where
+-- c is what a cycle makes of registers r: `called` says whether there is one, `stores` whether it is a store or a fetch; n is its word
+pub record CycleLeaves (r : Registers) (m : List ℕ) (called stores : Bool) (n : WordNumber) (c : Carried) : Type 0 where
   pub cycle : c .cycle ≡ cond called (mark (in-memory m n)) None
   pub data-left : content (c .registers) ≡ cond called (cond stores (kept r) (found m n)) (content r)
 
 module _ (r : Registers) (m : List ℕ) where
   -- The cycle of an access is at the word that it uses, a store for a write of HSTDATA, and else a fetch.
   pub leaves : (a : Access) →
-      Leaves (begin-access r a .registers) m (has-cycle r a) (writes-data a) (word-used r a)
+      CycleLeaves (begin-access r a .registers) m (has-cycle r a) (writes-data a) (word-used r a)
       (carried (begin-access r a .registers) (begin-access r a .due) m)
   unfolding begin-access read-due write-due has-cycle word-used carried after-fetch after-store stepped fetch-at
   leaves (Read register lanes) = go (eqb register 2 && closes (r .control) lanes) (incr (r .control))
     where
-      go : (t s : Bool) → Leaves r m t false (word-at (cond s (step (r .pointer)) (r .pointer))) (carried r (cond t (Fetch s) Nothing) m)
+      go : (t s : Bool) → CycleLeaves r m t false (word-at (cond s (step (r .pointer)) (r .pointer))) (carried r (cond t (Fetch s) Nothing) m)
       go true true = record { cycle = refl; data-left = refl }
       go true false = record { cycle = refl; data-left = refl }
       go false s = record { cycle = refl; data-left = refl }
@@ -61,7 +61,7 @@ module _ (r : Registers) (m : List ℕ) where
       go (written r register lanes w) (closes (r .control) lanes) (eqb register 2) (fetches (r .control) register) (incw (r .control)) _ refl
     where
       go : (q : Registers) (t b f s u : Bool) → stepped u q .pointer ≡ q .pointer →
-          Leaves q m (t && (b || f)) b (word-at (q .pointer)) (carried q (cond t (cond b (Store s) (cond f (Fetch u) Nothing)) Nothing) m)
+          CycleLeaves q m (t && (b || f)) b (word-at (q .pointer)) (carried q (cond t (cond b (Store s) (cond f (Fetch u) Nothing)) Nothing) m)
       go q true true f true u e = record { cycle = refl; data-left = refl }
       go q true true f false u e = record { cycle = refl; data-left = refl }
       go q true false true s u e = record { cycle = rw e; data-left = rw e }
@@ -70,10 +70,10 @@ module _ (r : Registers) (m : List ℕ) where
 
 -- ---- what is written to HSTDATA
 
--- what holds of two things alike holds of the chosen one
-alike : {A B : Type 0} (f : A → B) (t : Bool) {x y : A} {z : B} → f x ≡ z → f y ≡ z → f (cond t x y) ≡ z
-alike f true p q = p
-alike f false p q = q
+-- what is so of either thing is so of the chosen one
+chosen : {A B : Type 0} (f : A → B) (t : Bool) {x y : A} {z : B} → f x ≡ z → f y ≡ z → f (cond t x y) ≡ z
+chosen f true p q = p
+chosen f false p q = q
 
 -- the word in HSTDATA with the bytes that an access writes there
 abbrev pub laid-on : Access → ℕ → ℕ
@@ -90,7 +90,7 @@ module _ (r : Registers) where
       go : (t : Bool) → eqb register 2 ≡ t →
           content (written r register lanes w) ≡ record { word = cond t (replaced lanes (r .latch) w) (r .latch); hollow = r .hollow }
       go true e = rw (eqb-true register 2 e)
-      go false e = rw e (alike content (ltb register 2) refl refl)
+      go false e = rw e (chosen content (ltb register 2) refl refl)
 
   -- The processor's write of HSTDATA clears the hollow mark; its other writes leave HSTDATA.
   pub data-put : (register w : ℕ) →
@@ -102,8 +102,8 @@ module _ (r : Registers) where
           content (processor-writes r register w .registers) ≡ cond t (record { word = w; hollow = false }) (content r)
       go true e = rw (eqb-true register 2 e)
       go false e =
-          alike (λ (x : ProcessorWrite). content (x .registers)) (ltb 4 register) refl
-          (rw e (alike content (ltb register 2) (rw e at (data-begun (Write register 3 w))) (alike content (eqb register 3) refl refl)))
+          chosen (λ (x : ProcessorWrite). content (x .registers)) (ltb 4 register) refl
+          (rw e (chosen content (ltb register 2) (rw e at (data-begun (Write register 3 w))) (chosen content (eqb register 3) refl refl)))
 
 -- ---- the onlooker
 judges-cycle : (r q : Registers) (m : List ℕ) (a : Access) (n : WordNumber) → q .hollow ≡ r .hollow → (called stores there : Bool) →
@@ -134,19 +134,21 @@ judges s (processor register w) = ap (λ (c : Content). c .hollow) (data-put (s 
     go true = refl
     go false = refl
 judges s reset = refl
+judges s (elsewhere m) = refl
 
-mark-shown : (r : Registers) (a : Access) → begin-access r a .hollow ≡ (reads-data a && r .hollow)
+begun-mark : (r : Registers) (a : Access) → begin-access r a .hollow ≡ (reads-data a && r .hollow)
 unfolding begin-access
-mark-shown r (Read register lanes) = refl
-mark-shown r (Write register lanes w) = refl
+begun-mark r (Read register lanes) = refl
+begun-mark r (Write register lanes w) = refl
 
 -- Each answer shows the mark that HSTDATA had, if it is to a read of it that is done, and else none.
-pub shows : (s : Machine) (d : Deed) → Shows (s .registers .hollow) s d
+pub mark-shown : (s : Machine) (d : Deed) → Shows (s .registers .hollow) s d
 unfolding answer-of done
-shows s (host a) =
+mark-shown s (host a) =
     either-done (s .registers) (s .memory) a
     (λ (o : Outcome). o .answer .hollow ≡ (eqb (o .answer .number) 0 && (reads-data a && s .registers .hollow)))
-    (mark-shown (s .registers) a)
+    (begun-mark (s .registers) a)
     (λ n. rw (ne-eqb _ _ n))
-shows s (processor register w) = tt
-shows s reset = tt
+mark-shown s (processor register w) = tt
+mark-shown s reset = tt
+mark-shown s (elsewhere m) = tt

@@ -4,7 +4,8 @@
 --   after a miss   the next read hands out the filler, and says so
 --   the onlooker   over any run of deeds, each hollow mark shown is the one that the marks of the cycles call for
 --   the story      over any run of deeds, a word handed out as held came out of memory or was written, and is that word
--- They rest on what one deed leaves in HSTDATA (`Marks`), and the story on this too, that each deed carries it on (`Origins`).
+-- All rest on what one deed leaves in HSTDATA (`Marks`); the story also on `Origins`: each deed carries it on. That a run of reads
+-- which leaves memory answers hollow from the first missed word on is in `EveryWord`: `then-hollow`, `only-hollow`.
 use Prim.Native.Nat.{ℕ}
 use mathlib.Core.Path.{_≡_, refl, sym, ap, subst, _∙_}
 use mathlib.Core.Bool.{Bool, true, false, true≢false, false≢true, cond}
@@ -20,25 +21,22 @@ use Rattle.port.specs.Cycle.{mark}
 use Rattle.port.specs.Host.{begin-access, done, access}
 use Rattle.port.specs.Runs.{Machine, answer-of}
 use Rattle.port.specs.Deeds.{Deed, woken, does, ran, Content, content, Says, writes-data, has-cycle, ahead, word-used, Agree}
-use Rattle.port.specs.Origin.{Origin, unset, value, held, told, story}
+use Rattle.port.specs.Origin.{Origin, unset, value, is-held, told, story}
 use Rattle.port.specs.declared.Registers.{Registers}
 use Rattle.port.specs.declared.Access.{Access}
 use Rattle.port.specs.declared.Access.the-variants.{Read}
 use Rattle.port.specs.declared.Cycle.{Cycle}
 use Rattle.port.specs.declared.Cycle.the-variants.{None, Inside, Empty}
 use Rattle.port.specs.declared.Outcome.{Outcome}
-use Rattle.port.proofs.Taken.{taken, either-done, number-is}
-use Rattle.port.proofs.Marks.{leaves, judges, shows}
+use Rattle.port.proofs.Taken.{either-done, as-done}
+use Rattle.port.proofs.Marks.{leaves, judges, mark-shown}
 use Rattle.port.proofs.Origins.{run-told}
 
 -- ---- an access that is done
-module _ (r : Registers) (m : List ℕ) (a : Access) (n : access r m a .answer .number ≡ 0) where
-  as-done : access r m a ≡ done (begin-access r a) m
-  as-done = taken r m a (sym (number-is r m a) ∙ n)
-
-  cycle-done : access r m a .answer .cycle ≡ cond (has-cycle r a) (mark (in-memory m (word-used r a))) None
-  unfolding done
-  cycle-done = ap (λ (o : Outcome). o .answer .cycle) as-done ∙ leaves r m a .cycle
+cycle-done : (r : Registers) (m : List ℕ) (a : Access) → access r m a .answer .number ≡ 0 →
+    access r m a .answer .cycle ≡ cond (has-cycle r a) (mark (in-memory m (word-used r a))) None
+unfolding done
+cycle-done r m a n = ap (λ (o : Outcome). o .answer .cycle) (as-done r m a n) ∙ leaves r m a .cycle
 
 -- ---- the rule
 
@@ -101,8 +99,8 @@ true-mark r m a n = rw (cycle-done r m a n) (marked (has-cycle r a) (in-memory m
 -- ---- after a miss
 
 -- "An empty fetch puts FFFFh in HSTDATA and makes it hollow" (house)
-abbrev pub filler : Content
-filler = record { word = 0xffff; hollow = true }
+abbrev pub hollow-filler : Content
+hollow-filler = record { word = 0xffff; hollow = true }
 
 empty-done : (r : Registers) (m : List ℕ) (a : Access) → access r m a .answer .cycle ≡ Empty → access r m a .answer .number ≡ 0
 unfolding done
@@ -111,7 +109,7 @@ empty-done r m a =
 
 -- An access that stores nothing and whose cycle is empty leaves FFFFh in HSTDATA, and hollow.
 pub miss-leaves : (r : Registers) (m : List ℕ) (a : Access) → writes-data a ≡ false → access r m a .answer .cycle ≡ Empty →
-    content (access r m a .registers) ≡ filler
+    content (access r m a .registers) ≡ hollow-filler
 unfolding done
 miss-leaves r m a w e =
     let n = empty-done r m a e in
@@ -122,7 +120,7 @@ miss-leaves r m a w e =
 -- So the next read, on whatever lanes and with whatever memory, hands out the filler's bytes and says that they are hollow.
 pub read-after-miss : (r : Registers) (m : List ℕ) (a : Access) → writes-data a ≡ false → access r m a .answer .cycle ≡ Empty →
     (m′ : List ℕ) (lanes : ℕ) → access (access r m a .registers) m′ (Read 2 lanes) .answer .number ≡ 0 →
-    Says (access (access r m a .registers) m′ (Read 2 lanes) .answer) lanes filler
+    Says (access (access r m a .registers) m′ (Read 2 lanes) .answer) lanes hollow-filler
 read-after-miss r m a w e m′ lanes n = says (access r m a .registers) m′ lanes n (miss-leaves r m a w e)
 
 -- ---- the onlooker
@@ -134,7 +132,7 @@ pub no-miss-looks-good : (s : Machine) (l : List Deed) → Agree (s .registers .
 unfolding Agree
 no-miss-looks-good s [] = tt
 no-miss-looks-good s (d ∷ rest) =
-    (shows s d, subst (λ (h : Bool). Agree h (does s d) rest) (judges s d) (no-miss-looks-good (does s d) rest))
+    (mark-shown s d, subst (λ (h : Bool). Agree h (does s d) rest) (judges s d) (no-miss-looks-good (does s d) rest))
 
 -- ---- the story
 
@@ -150,5 +148,5 @@ held-has-a-story s o k l lanes n = says (ran s l .registers) (ran s l .memory) l
 pub since-reset : (m : List ℕ) (l : List Deed) (lanes : ℕ) →
     answer-of (ran (woken m) l) (Read 2 lanes) .number ≡ 0 →
     Says (answer-of (ran (woken m) l) (Read 2 lanes)) lanes (told (story (woken m) l unset))
-unfolding value held
+unfolding value is-held
 since-reset m l lanes n = held-has-a-story (woken m) unset refl l lanes n

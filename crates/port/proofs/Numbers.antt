@@ -9,6 +9,8 @@ use mathlib.Core.Logic.{_↔_, _≢_}
 use lib.Dec.{ltb, eqb}
 use lib.ListN.{length}
 use borrow.Author.Tests.{ltb-true, ltb-false, eqb-true, eqb-false}
+use Rattle.words.specs.Bytes.{are-lanes}
+use Rattle.words.proofs.Lanes.{lanes-named, lanes-unnamed}
 use Rattle.port.specs.Host.{refusal, register-of, lanes-of, number-for, access, access-memory}
 use Rattle.port.specs.declared.Registers.{Registers}
 use Rattle.port.specs.declared.Access.{Access}
@@ -28,19 +30,16 @@ pub record When (words register lanes v : ℕ) : Type 0 where
   pub no-lanes : v ≡ 3 ↔ (words ≤ 32768) × (register ≤ 3) × NoLanes lanes
   pub done : v ≡ 0 ↔ (words ≤ 32768) × (register ≤ 3) × (1 ≤ lanes) × (lanes ≤ 3)
 
-when : (words register lanes : ℕ) → When words register lanes (refusal words register lanes)
+-- The number that applies is one of 0 to 3, each when, and only then.
+pub when : (words register lanes : ℕ) → When words register lanes (refusal words register lanes)
 unfolding refusal
-when n r l = go (ltb 32768 n) (ltb 3 r) (eqb l 1) (eqb l 2) (eqb l 3) refl refl refl refl refl
+when n r l = go (ltb 32768 n) (ltb 3 r) (are-lanes l) refl refl refl
   where
-    go : (a b c d e : Bool) → ltb 32768 n ≡ a → ltb 3 r ≡ b → eqb l 1 ≡ c → eqb l 2 ≡ d → eqb l 3 ≡ e →
-        When n r l (cond a 1 (cond b 2 (cond (c || (d || e)) 0 3)))
-    go true b c d e p q x y z = omega (arith, ltb-true 32768 n p)
-    go false true c d e p q x y z = omega (arith, ltb-false 32768 n p, ltb-true 3 r q)
-    go false false true d e p q x y z = omega (arith, ltb-false 32768 n p, ltb-false 3 r q, eqb-true l 1 x)
-    go false false false true e p q x y z = omega (arith, ltb-false 32768 n p, ltb-false 3 r q, eqb-true l 2 y)
-    go false false false false true p q x y z = omega (arith, ltb-false 32768 n p, ltb-false 3 r q, eqb-true l 3 z)
-    go false false false false false p q x y z =
-        omega (arith, ltb-false 32768 n p, ltb-false 3 r q, eqb-false l 1 x, eqb-false l 2 y, eqb-false l 3 z)
+    go : (a b c : Bool) → ltb 32768 n ≡ a → ltb 3 r ≡ b → are-lanes l ≡ c → When n r l (cond a 1 (cond b 2 (cond c 0 3)))
+    go true b c p q e = omega (arith, ltb-true 32768 n p)
+    go false true c p q e = omega (arith, ltb-false 32768 n p, ltb-true 3 r q)
+    go false false true p q e = omega (arith, ltb-false 32768 n p, ltb-false 3 r q, lanes-named l .0 e)
+    go false false false p q e = omega (arith, ltb-false 32768 n p, ltb-false 3 r q, lanes-unnamed l e)
 
 -- A refused access answers its number and zeros, and leaves the registers and the memory as they stood.
 pub record Refused (r : Registers) (m : List ℕ) (a : Access) : Type 0 where

@@ -11,8 +11,8 @@ use Rattle.words.specs.Memory.{in-memory, fetch-at}
 use Rattle.words.specs.declared.WordNumber.{WordNumber}
 use Rattle.port.specs.Host.{begin-access, number-for, refused, done, access}
 use Rattle.port.specs.Runs.{Machine, after}
-use Rattle.port.specs.Deeds.{Deed, host, processor, reset, does, ran, Content, content, writes-data, has-cycle, word-used}
-use Rattle.port.specs.Origin.{Origin, missed, memory, by-processor, laid, stored, value, held, told, landed, looked, story-after, story}
+use Rattle.port.specs.Deeds.{Deed, host, processor, reset, elsewhere, does, ran, Content, content, writes-data, has-cycle, word-used}
+use Rattle.port.specs.Origin.{Origin, missed, memory, by-processor, laid, stored, value, is-held, told, landed, looked, story-after, story}
 use Rattle.port.specs.declared.Registers.{Registers}
 use Rattle.port.specs.declared.Access.{Access}
 use Rattle.port.specs.declared.Access.the-variants.{Read, Write}
@@ -20,7 +20,7 @@ use Rattle.port.proofs.Marks.{found, kept, leaves, data-begun, data-put
 
 -- ---- the host
 landed-told : (r : Registers) (a : Access) (o : Origin) → content r ≡ told o → content (begin-access r a .registers) ≡ told (landed a o)
-unfolding begin-access landed value held
+unfolding begin-access landed value is-held
 landed-told r (Read register lanes) o k = k
 landed-told r (Write register lanes w) o k = data-begun r (Write register lanes w) ∙ go (eqb register 2)
   where
@@ -29,7 +29,7 @@ landed-told r (Write register lanes w) o k = data-begun r (Write register lanes 
     go false = k
 
 looked-told : (m : List ℕ) (n : WordNumber) → found m n ≡ told (looked m n)
-unfolding looked value held fetch-at
+unfolding looked value is-held fetch-at
 looked-told m n = go (in-memory m n)
   where
     go : (t : Bool) → record { word = cond t (getD m (n .0) 0) 0xffff; hollow = not t } ≡ told (cond t (memory n (getD m (n .0) 0)) missed)
@@ -38,14 +38,14 @@ looked-told m n = go (in-memory m n)
 
 cycle-told : (r : Registers) (m : List ℕ) (n : WordNumber) (o : Origin) → content r ≡ told o → (called stores : Bool) →
     cond called (cond stores (kept r) (found m n)) (content r) ≡ told (cond called (cond stores (stored o) (looked m n)) o)
-unfolding value held
+unfolding value is-held
 cycle-told r m n o k true true = ap (λ (c : Content). record { word = c .word; hollow = false }) k
 cycle-told r m n o k true false = looked-told m n
 cycle-told r m n o k false stores = k
 
 -- ---- one deed
 deed-told : (s : Machine) (d : Deed) (o : Origin) → content (s .registers) ≡ told o → content (does s d .registers) ≡ told (story-after s d o)
-unfolding does after access done story-after value held
+unfolding does after access done story-after value is-held
 deed-told s (host a) o k = go (eqb (number-for (s .memory) a) 0)
   where
     r : Registers
@@ -67,6 +67,7 @@ deed-told s (processor register w) o k = data-put (s .registers) register w ∙ 
     go true = refl
     go false = k
 deed-told s reset o k = refl
+deed-told s (elsewhere m) o k = k
 
 -- ---- any run of deeds
 

@@ -9,16 +9,16 @@ use lib.Dec.{eqb}
 use borrow.Author.Tests.{ne-eqb}
 use Rattle.control.specs.Control.{lbl, closes, fetches, host-low, control-laid}
 use Rattle.port.specs.Registers.{with-control, written}
-use Rattle.port.specs.Cycle.{carried, memory-after}
+use Rattle.port.specs.Cycle.{carried, memory-after, standing}
 use Rattle.port.specs.Host.{read-due, write-due, begin-access, access, access-memory}
-use Rattle.port.specs.Table.{standing}
 use Rattle.port.specs.declared.Registers.{Registers}
 use Rattle.port.specs.declared.Access.{Access}
 use Rattle.port.specs.declared.Access.the-variants.{Read, Write}
 use Rattle.port.specs.declared.Cycle.the-variants.{None}
 use Rattle.port.specs.declared.Due.the-variants.{Nothing, Fetch}
+use Rattle.port.proofs.Taken.{as-done-memory}
 use Rattle.port.proofs.OpenByte.{uncalled-cycle, uncalled-memory, uncalled-registers}
-use Rattle.port.proofs.Leaves.{fetch-leaves, left-by, memory-by}
+use Rattle.port.proofs.Leaves.{fetch-leaves, left-by}
 
 module _ (r : Registers) (m : List ℕ) where
   abbrev c : ℕ
@@ -42,16 +42,16 @@ module _ (r : Registers) (m : List ℕ) where
 
     pub load-keeps-memory : access-memory r m (Write k lanes w) ≡ m
     unfolding begin-access write-due memory-after
-    load-keeps-memory = memory-by r m (Write k lanes w) n ∙ rw h (go (closes c lanes) (fetches c k) _)
+    load-keeps-memory = as-done-memory r m (Write k lanes w) n ∙ rw h (go (closes c lanes) (fetches c k) _)
       where
         go : (t u s : Bool) → memory-after (written r k lanes w) (cond t (cond u (Fetch s) Nothing) Nothing) m ≡ m
         go true true s = refl
         go true false s = refl
         go false u s = refl
 
-  calls-none : (k lanes : ℕ) → eqb k 2 ≡ false → begin-access r (Read k lanes) .due ≡ Nothing
+  reads-quietly : (k lanes : ℕ) → eqb k 2 ≡ false → begin-access r (Read k lanes) .due ≡ Nothing
   unfolding begin-access read-due
-  calls-none k lanes e = rw e
+  reads-quietly k lanes e = rw e
 
   -- "Reading registers 0, 1 and 3 changes nothing", and starts no cycle.
   pub record ReadLeaves (a : Access) : Type 0 where
@@ -62,7 +62,7 @@ module _ (r : Registers) (m : List ℕ) where
   pub read-changes-nothing : (k lanes : ℕ) → k ≢ 2 → ReadLeaves (Read k lanes)
   unfolding begin-access
   read-changes-nothing k lanes h =
-      let e = calls-none k lanes (ne-eqb k 2 h) in
+      let e = reads-quietly k lanes (ne-eqb k 2 h) in
       record {
         registers = uncalled-registers r m (Read k lanes) e refl;
         memory = uncalled-memory r m (Read k lanes) e;

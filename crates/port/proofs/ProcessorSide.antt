@@ -10,7 +10,7 @@ use lib.Dec.{eqb, ltb}
 use borrow.Author.Tests.{ltb-true, ltb-false, le-ltb}
 use Rattle.words.specs.Bytes.{lo, hi, takes-low, takes-high, lay}
 use Rattle.words.proofs.Lanes.{replaced-whole}
-use Rattle.control.specs.Control.{bare, processor-low}
+use Rattle.control.specs.Control.{bare, processor-low, control-laid}
 use Rattle.port.specs.Registers.{low-half, high-half, halves, with-pointer, with-latch, with-control, register-word, half-written, written}
 use Rattle.port.specs.Processor.{processor-word, processor-written, processor-reads, processor-writes}
 use Rattle.port.specs.declared.Registers.{Registers}
@@ -68,8 +68,8 @@ module _ (r : Registers) where
       pub low : w < 65536 → processor-writes r 0 w .registers ≡ with-pointer r (halves w (high-half (r .pointer)))
       pub high : w < 65536 → processor-writes r 1 w .registers ≡ with-pointer r (halves (low-half (r .pointer)) w)
       pub data-register : processor-writes r 2 w .registers ≡ with-latch r w false
-      pub low-control : processor-writes r 3 w .registers ≡ with-control r (processor-low (lo (r .control)) (lo w) + 256 * hi (r .control))
-      pub high-control : processor-writes r 4 w .registers ≡ with-control r (lo (r .control) + 256 * hi (bare w))
+      pub low-control : processor-writes r 3 w .registers ≡ with-control r (control-laid processor-low 1 (r .control) w)
+      pub high-control : processor-writes r 4 w .registers ≡ with-control r (control-laid processor-low 2 (r .control) w)
 
     pub writes : Writes
     unfolding processor-writes processor-written half-written written lay takes-low takes-high

@@ -13,7 +13,7 @@ use Rattle.port.specs.Host.{begin-access, done, access}
 use Rattle.port.specs.declared.Registers.{Registers}
 use Rattle.port.specs.declared.Access.the-variants.{Read, Write}
 use Rattle.port.specs.declared.Outcome.{Outcome}
-use Rattle.port.proofs.Taken.{taken, either-done, number-is}
+use Rattle.port.proofs.Taken.{either-done, as-done}
 use Rattle.port.proofs.Pairs.{low-of-halves, high-of-halves}
 
 -- "0 HSTADRL, low half of the pointer; 1 HSTADRH, high half; 2 HSTDATA; 3 HSTCTL", and bit 10 "reads as 0"
@@ -32,7 +32,7 @@ pub read-answers : (r : Registers) (m : List ℕ) (k lanes : ℕ) → access r m
     access r m (Read k lanes) .answer .word ≡ shown lanes (register-word r k)
 unfolding done begin-access
 read-answers r m k lanes n =
-    ap (λ (o : Outcome). o .answer .word) (taken r m (Read k lanes) (sym (number-is r m (Read k lanes)) ∙ n))
+    ap (λ (o : Outcome). o .answer .word) (as-done r m (Read k lanes) n)
 
 -- A write answers no word and no mark, done or refused.
 pub record Silent (r : Registers) (m : List ℕ) (k lanes w : ℕ) : Type 0 where

@@ -1,7 +1,7 @@
 -- An access that is accepted is begun and carried out; one that is refused changes nothing.
 -- What every law about a whole access starts from.
 use Prim.Native.Nat.{ℕ}
-use mathlib.Core.Path.{_≡_, refl, sym}
+use mathlib.Core.Path.{_≡_, refl, sym, _∙_}
 use mathlib.Core.Bool.{Bool, true, false, cond}
 use mathlib.Core.List.{List}
 use mathlib.Core.Logic.{_≢_}
@@ -48,3 +48,10 @@ module _ (r : Registers) (m : List ℕ) (a : Access) where
       go : (t : Bool) → eqb (number-for m a) 0 ≡ t → cond t (done (begin-access r a) m) (refused (number-for m a) r) .answer .number ≡ number-for m a
       go true e = sym (eqb-true _ _ e)
       go false e = refl
+
+  -- An access that answers number 0 was begun and carried out.
+  pub as-done : access r m a .answer .number ≡ 0 → access r m a ≡ done (begin-access r a) m
+  as-done n = taken (sym number-is ∙ n)
+
+  pub as-done-memory : access r m a .answer .number ≡ 0 → access-memory r m a ≡ memory-after (begin-access r a .registers) (begin-access r a .due) m
+  as-done-memory n = taken-memory (sym number-is ∙ n)

@@ -8,7 +8,7 @@ use mathlib.Core.List.{List, [], _∷_}
 use lib.Dec.{eqb}
 use lib.ListN.{getD}
 use borrow.Author.Tests.{eqb-true, not-false}
-use Rattle.words.specs.Bytes.{bit, takes-low, takes-high, lay}
+use Rattle.words.specs.Bytes.{bit, takes-low, takes-high, are-lanes, lay}
 use Rattle.words.specs.Memory.{in-memory, fetch-at, store-at}
 use Rattle.words.specs.declared.WordNumber.{WordNumber}
 use Rattle.words.proofs.Lanes.{replaced-whole}
@@ -17,8 +17,8 @@ use Rattle.port.specs.Registers.{register-word, half-written, written}
 use Rattle.port.specs.Cycle.{stepped, mark, after-fetch, after-store, carried, memory-after}
 use Rattle.port.specs.Host.{read-due, write-due, begin-access, refusal, number-for, done, access, access-memory}
 use Rattle.port.specs.Runs.{Machine, answer-of, after}
-use Rattle.port.specs.Deeds.{Deed, host, processor, reset, woken, does, ran, writes-data, has-cycle, word-used}
-use Rattle.port.specs.Origin.{Origin, unset, missed, memory, by-processor, laid, stored, value, held, landed, looked, story-after, story, real, BothReal, Real, Whole, All-whole}
+use Rattle.port.specs.Deeds.{Deed, host, processor, reset, elsewhere, woken, does, ran, writes-data, has-cycle, word-used}
+use Rattle.port.specs.Origin.{Origin, unset, missed, memory, by-processor, laid, stored, value, is-held, landed, looked, story-after, story, real, BothReal, Real, Whole, All-whole}
 use Rattle.port.specs.declared.Access.{Access}
 use Rattle.port.specs.declared.Access.the-variants.{Read, Write}
 use Rattle.port.specs.declared.Cycle.the-variants.{Empty}
@@ -44,7 +44,7 @@ landed-real (Write register lanes w) o h k = go (eqb register 2) refl
     go false e = k
 
 looked-real : (m : List ℕ) (n : WordNumber) → Real (looked m n)
-unfolding looked held real
+unfolding looked is-held real
 looked-real m n = go (in-memory m n)
   where
     go : (t : Bool) → Real (cond t (memory n (getD m (n .0) 0)) missed)
@@ -52,7 +52,7 @@ looked-real m n = go (in-memory m n)
     go false = λ g. absurd (false≢true g)
 
 deed-real : (s : Machine) (d : Deed) (o : Origin) → Whole d → Real o → Real (story-after s d o)
-unfolding story-after held real
+unfolding story-after is-held real
 deed-real s (host a) o h k = go (eqb (number-for (s .memory) a) 0) (has-cycle (s .registers) a) (writes-data a) refl
   where
     go : (t called stores : Bool) → writes-data a ≡ stores →
@@ -67,6 +67,7 @@ deed-real s (processor register w) o h k = go (eqb register 2)
     go true = λ _. (refl, refl)
     go false = k
 deed-real s reset o h k = λ g. absurd (false≢true g)
+deed-real s (elsewhere m) o h k = k
 
 -- Over any run of deeds in which the host writes HSTDATA in whole words, both bytes of a held word came out of memory or were written.
 pub both-bytes-real : (s : Machine) (l : List Deed) (o : Origin) → All-whole l → Real o → Real (story s l o)
@@ -78,7 +79,7 @@ both-bytes-real s (d ∷ rest) o h k = both-bytes-real (does s d) rest (story-af
 pub no-filler-in-held : (m : List ℕ) (l : List Deed) (lanes : ℕ) → All-whole l →
     answer-of (ran (woken m) l) (Read 2 lanes) .number ≡ 0 → answer-of (ran (woken m) l) (Read 2 lanes) .hollow ≡ false →
     BothReal (story (woken m) l unset)
-unfolding held
+unfolding is-held
 no-filler-in-held m l lanes h n e =
     both-bytes-real (woken m) l unset h (λ g. absurd (false≢true g)) (not-false _ (sym (since-reset m l lanes n .hollow) ∙ e))
 
@@ -99,5 +100,5 @@ lone-byte = host (Write 2 2 0x1200)
 
 -- A lone closing byte 12h gives a held 12FFh over the filler of a load that missed, and a held 1200h over the nothing of a reset.
 pub lone-closing-byte : HalfReal (host (Write 1 3 0) ∷ lone-byte ∷ []) 0x12ff × HalfReal (lone-byte ∷ []) 0x1200
-unfolding answer-of ran does after access access-memory refusal done begin-access register-word half-written written read-due write-due closes fetches carried memory-after after-fetch after-store stepped mark fetch-at store-at bit lay takes-low takes-high story story-after landed looked has-cycle word-used real
+unfolding answer-of ran does after access access-memory refusal are-lanes done begin-access register-word half-written written read-due write-due closes fetches carried memory-after after-fetch after-store stepped mark fetch-at store-at bit lay takes-low takes-high story story-after landed looked has-cycle word-used real
 lone-closing-byte = (record { answer = refl; low-byte = refl }, record { answer = refl; low-byte = refl })

@@ -4,12 +4,15 @@
 --   after-fetch r f     the registers and the mark after a fetch that found f
 --   after-store r s i   the registers and the mark after a store
 --   carried, memory-after   the cycle that is due, done on a memory
+--   shows m a           the word that a fetch at bit address a brings, or the filler
+--   standing m c a      the registers after a fetch at a
 use Prim.Native.Nat.{ℕ}
 use mathlib.Core.Bool.{Bool, false, cond, not}
 use mathlib.Core.List.{List}
 use mathlib.Core.Path.{_≡_}
-use Rattle.words.specs.Addresses.{word-at, step}
+use Rattle.words.specs.Addresses.{word-at, stepped-from}
 use Rattle.words.specs.Memory.{in-memory, fetch-at, store-at}
+use Rattle.words.specs.declared.BitAddress.{BitAddress}
 use Rattle.words.specs.declared.Fetched.{Fetched}
 use Rattle.port.specs.Registers.{with-pointer, with-latch}
 use Rattle.port.specs.declared.Registers.{Registers}
@@ -21,7 +24,7 @@ use Rattle.port.specs.declared.Carried.{Carried}
 
 -- "the pointer gains 16"
 unfoldable pub stepped : Bool → Registers → Registers
-stepped s r = cond s (with-pointer r (step (r .pointer))) r
+stepped s r = with-pointer r (stepped-from s (r .pointer))
 
 -- "A cycle whose word is not in the lent memory is empty"
 unfoldable pub mark : Bool → Cycle
@@ -50,3 +53,10 @@ memory-after r (Store s) m = store-at m (word-at (r .pointer)) (r .latch)
 pub record Cycled (r : Registers) (due : Due) (m : List ℕ) (c : Carried) (m′ : List ℕ) : Type 0 where
   pub outcome : c ≡ carried r due m
   pub memory : m′ ≡ memory-after r due m
+
+-- ---- what a fetch at bit address a brings, and the registers that it leaves with control word c: hollow exactly if it missed
+abbrev pub shows : List ℕ → BitAddress → ℕ
+shows m a = fetch-at m (word-at a) .word
+
+unfoldable pub standing : List ℕ → ℕ → BitAddress → Registers
+standing m c a = record { pointer = a; latch = shows m a; control = c; hollow = not (in-memory m (word-at a)) }

@@ -1,4 +1,4 @@
--- Whatever is done to the port, in any order, and the onlooker who judges HSTDATA from the marks of the cycles alone: the words of
+-- Whatever is done to the port or its memory, in any order, and the onlooker who judges HSTDATA from the marks of the cycles alone: the words of
 -- the keeper's law. Document 01, 'Memory and addresses', 'The four host registers' and 'The processor's side'.
 --   Deed, does, ran           what is done, and the machine after one deed and after a run of them
 --   woken m                   the machine that a reset leaves
@@ -13,7 +13,7 @@ use mathlib.Core.Path.{_≡_}
 use mathlib.Core.Bool.{Bool, true, false, cond, not, _&&_, _||_}
 use mathlib.Core.List.{List, [], _∷_}
 use lib.Dec.{eqb}
-use Rattle.words.specs.Addresses.{word-at, step}
+use Rattle.words.specs.Addresses.{word-at, stepped-from}
 use Rattle.words.specs.Bytes.{shown}
 use Rattle.words.specs.declared.BitAddress.{BitAddress}
 use Rattle.words.specs.declared.WordNumber.{WordNumber}
@@ -35,6 +35,8 @@ pub data Deed : Type 0 where
   -- a write by the processor, of a word to one of its registers; what it reads changes nothing
   processor : ℕ → ℕ → Deed
   reset : Deed
+  -- whoever else holds the memory, between two calls, leaves it so
+  elsewhere : List ℕ → Deed
 
 -- "Reset: .. Memory stays"
 abbrev pub woken : List ℕ → Machine
@@ -44,6 +46,7 @@ unfoldable pub does : Machine → Deed → Machine
 does s (host a) = after s a
 does s (processor register w) = record { registers = processor-writes (s .registers) register w .registers; memory = s .memory }
 does s reset = woken (s .memory)
+does s (elsewhere m) = record { registers = s .registers; memory = m }
 
 unfoldable pub ran : Machine → List Deed → Machine
 ran s [] = s
@@ -79,7 +82,7 @@ has-cycle r (Write register lanes w) = closes (r .control) lanes && (eqb registe
 
 -- "with INCR 1 the pointer gains 16; then a fetch"
 abbrev pub ahead : Registers → BitAddress
-ahead r = cond (incr (r .control)) (step (r .pointer)) (r .pointer)
+ahead r = stepped-from (incr (r .control)) (r .pointer)
 
 -- "a cycle uses pointer div 16" (house): a read the pointer ahead, a write the pointer as it then stands, before any step
 unfoldable pub word-used : Registers → Access → WordNumber
@@ -99,12 +102,14 @@ unfoldable pub expected : Bool → Machine → Deed → Bool
 expected h s (host a) = judged h a (answer-of s a .cycle)
 expected h s (processor register w) = cond (eqb register 2) false h
 expected h s reset = true
+expected h s (elsewhere m) = h
 
 -- a read of HSTDATA that is done shows that judgement; any other answer shows no mark
 abbrev pub Shows : Bool → Machine → Deed → Type 0
 Shows h s (host a) = answer-of s a .hollow ≡ (eqb (answer-of s a .number) 0 && (reads-data a && h))
 Shows h s (processor register w) = Unit
 Shows h s reset = Unit
+Shows h s (elsewhere m) = Unit
 
 unfoldable pub Agree : Bool → Machine → List Deed → Type 0
 Agree h s [] = Unit

@@ -9,7 +9,7 @@ use mathlib.Core.List.{List}
 use mathlib.Core.Path.{_≡_}
 use lib.Dec.{eqb, ltb}
 use lib.ListN.{length}
-use Rattle.words.specs.Bytes.{shown}
+use Rattle.words.specs.Bytes.{are-lanes, shown}
 use Rattle.words.specs.Memory.{over-limit}
 use Rattle.control.specs.Control.{incw, incr, closes, fetches}
 use Rattle.port.specs.Registers.{register-word, written}
@@ -38,7 +38,7 @@ write-due c register lanes =
     (cond (eqb register 2) (Store (incw c)) (cond (fetches c register) (Fetch false) Nothing))
     Nothing
 
--- ---- an access before its cycle; LBL, INCR and INCW "as it stands before the access"
+-- ---- an access before its cycle; LBL "as it stands before the access" (and INCR, INCW, which an access of register 2 can't change)
 
 -- "Reading register 2 answers what HSTDATA held at entry, with its hollow mark at entry"; "hollow mark (false but for
 -- reads of register 2)"; "word (0 for a write)"
@@ -73,7 +73,7 @@ unfoldable pub refusal : ℕ → ℕ → ℕ → ℕ
 refusal words register lanes =
     cond (over-limit words) 1
     (cond (ltb 3 register) 2
-    (cond (eqb lanes 1 || (eqb lanes 2 || eqb lanes 3)) 0 3))
+    (cond (are-lanes lanes) 0 3))
 
 abbrev pub number-for : List ℕ → Access → ℕ
 number-for m a = refusal (length m) (register-of a) (lanes-of a)
@@ -82,7 +82,7 @@ number-for m a = refusal (length m) (register-of a) (lanes-of a)
 abbrev pub refused : ℕ → Registers → Outcome
 refused n r = record { answer = record { number = n; word = 0; hollow = false; cycle = None }; registers = r }
 
--- "Each host answer has: number, word, hollow mark, and the cycle"
+-- "Each host answer has: number, word .., hollow mark .., and the cycle"
 abbrev pub finished : Begun → Carried → Outcome
 finished b c =
     record {

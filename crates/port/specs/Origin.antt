@@ -1,11 +1,12 @@
 -- The story of the word in HSTDATA, over any run of deeds. Document 01, 'Memory and addresses', 'The four host registers' and 'The
 -- processor's side'.
---   Origin             what happened to the word, the last of it outermost
---   value, held        the word that it comes to, and whether that is held
+--   Origin             what happened to the word, the latest event outermost
+--   value, is-held     the word that it comes to, and whether that is held
 --   told               both, as HSTDATA has them
 --   story-after        the story after one deed
 --   story              the story after a run of deeds
---   real, Real         a byte of the word came from somewhere; both do, if the word is held
+--   real, Real         a byte is no filler: memory, the processor or the host gave it; so are both, if the word is held
+--   Came               the word came out of memory, or was written
 --   Whole, All-whole   the host writes HSTDATA in whole words
 use Prim.Native.Nat.{ℕ}
 use mathlib.Core.Path.{_≡_}
@@ -18,7 +19,7 @@ use Rattle.words.specs.Memory.{in-memory}
 use Rattle.words.specs.declared.WordNumber.{WordNumber}
 use Rattle.port.specs.Host.{number-for}
 use Rattle.port.specs.Runs.{Machine}
-use Rattle.port.specs.Deeds.{Deed, host, processor, reset, does, Content, writes-data, has-cycle, word-used}
+use Rattle.port.specs.Deeds.{Deed, host, processor, reset, elsewhere, does, Content, writes-data, has-cycle, word-used}
 use Rattle.port.specs.declared.Access.{Access}
 use Rattle.port.specs.declared.Access.the-variants.{Read, Write}
 
@@ -44,16 +45,16 @@ value (by-processor w) = w
 value (laid lanes w o) = replaced lanes (value o) w
 value (stored o) = value o
 
-unfoldable pub held : Origin → Bool
-held unset = false
-held missed = false
-held (memory n w) = true
-held (by-processor w) = true
-held (laid lanes w o) = held o
-held (stored o) = true
+unfoldable pub is-held : Origin → Bool
+is-held unset = false
+is-held missed = false
+is-held (memory n w) = true
+is-held (by-processor w) = true
+is-held (laid lanes w o) = is-held o
+is-held (stored o) = true
 
 abbrev pub told : Origin → Content
-told o = record { word = value o; hollow = not (held o) }
+told o = record { word = value o; hollow = not (is-held o) }
 
 -- ---- what a deed adds to the story
 
@@ -76,10 +77,19 @@ story-after s (host a) o =
     o
 story-after s (processor register w) o = cond (eqb register 2) (by-processor w) o
 story-after s reset o = unset
+story-after s (elsewhere m) o = o
 
 unfoldable pub story : Machine → List Deed → Origin → Origin
 story s [] o = o
 story s (d ∷ rest) o = story (does s d) rest (story-after s d o)
+
+-- ---- where a word came from
+pub data Came : Origin → Type 0 where
+  from-memory : {n : WordNumber} {w : ℕ} → Came (memory n w)
+  from-processor : {w : ℕ} → Came (by-processor w)
+  from-host : {o : Origin} → Came (stored o)
+  -- with bytes laid over it that no store has closed yet
+  under-bytes : {lanes w : ℕ} {o : Origin} → Came o → Came (laid lanes w o)
 
 -- ---- bytes that came from somewhere: memory, the processor or the host
 
@@ -96,13 +106,14 @@ abbrev pub BothReal : Origin → Type 0
 BothReal o = (real takes-low o ≡ true) × (real takes-high o ≡ true)
 
 abbrev pub Real : Origin → Type 0
-Real o = held o ≡ true → BothReal o
+Real o = is-held o ≡ true → BothReal o
 
 abbrev pub Whole : Deed → Type 0
 Whole (host (Read register lanes)) = Unit
 Whole (host (Write register lanes w)) = register ≡ 2 → lanes ≡ 3
 Whole (processor register w) = Unit
 Whole reset = Unit
+Whole (elsewhere m) = Unit
 
 abbrev pub All-whole : List Deed → Type 0
 All-whole [] = Unit

@@ -1,8 +1,6 @@
 -- A table in memory, read through the port: the words of the watch tuner's law, 'every word is handed out'.
 -- Document 01, 'Memory and addresses' and 'The four host registers'.
 --   Memory m         a memory that is not refused
---   shows m a        what a fetch at bit address a brings: the word there, or the filler FFFFh
---   standing m c a   the registers after a fetch at a, with control register c
 --   loading c a      two two-lane writes that load the pointer with a
 --   loaded s a       the machine after them; byte-loaded, after the same writes done by bytes
 --   stands s a       the machine with its registers standing at a
@@ -19,11 +17,11 @@ use mathlib.Core.Bool.{Bool, true, false, cond, not}
 use mathlib.Core.List.{List, [], _∷_}
 use lib.ListN.{length, getD, take, drop}
 use Rattle.words.specs.Addresses.{word-at, step}
-use Rattle.words.specs.Memory.{in-memory, fetch-at}
+use Rattle.words.specs.Memory.{in-memory}
 use Rattle.words.specs.declared.BitAddress.{BitAddress}
 use Rattle.control.specs.Control.{lbl}
 use Rattle.port.specs.Registers.{low-half, high-half}
-use Rattle.port.specs.Cycle.{mark}
+use Rattle.port.specs.Cycle.{mark, shows, standing}
 use Rattle.port.specs.Runs.{Machine, Sixteen, load, save, ends, byte-ends}
 use Rattle.port.specs.declared.Registers.{Registers}
 use Rattle.port.specs.declared.Answer.{Answer}
@@ -34,13 +32,6 @@ pub record Memory (m : List ℕ) : Type 0 where
   pub words : (i : ℕ) → getD m i 0 < 65536
 
 -- ---- the accesses
-
-abbrev pub shows : List ℕ → BitAddress → ℕ
-shows m a = fetch-at m (word-at a) .word
-
--- hollow exactly if the fetch missed
-unfoldable pub standing : List ℕ → ℕ → BitAddress → Registers
-standing m c a = record { pointer = a; latch = shows m a; control = c; hollow = not (in-memory m (word-at a)) }
 
 -- the half that fetches goes last: register 0 with LBL 1, register 1 with LBL 0
 unfoldable pub loading : ℕ → BitAddress → List Sixteen

@@ -17,8 +17,8 @@ use control::fetches_by;
 use control::steps_reading;
 use control::steps_writing;
 use words::both;
-use words::either;
 use words::is_over_limit;
+use words::names_lanes;
 use words::show_bytes;
 
 // The cycle that a read calls for: a fetch, for the closing byte of HSTDATA.
@@ -47,7 +47,7 @@ fn due_of_write(c: u16, register: u32, lanes: u32) -> Due
     Due::Nothing
 }
 
-// An access that is not refused, on the registers alone.
+// An access on the registers alone. It refuses nothing: a register above 3 is taken for HSTCTL, so `number_of` comes first.
 pub fn begin(r: Registers, a: Access) -> Begun
     ensures { λ b. ⌜ b ≡ begin-access r a ⌝ }
 {
@@ -81,7 +81,7 @@ fn refusal_of(words: usize, register: u32, lanes: u32) -> u8
     if 3 < register {
         return 2;
     }
-    if either(lanes == 1, either(lanes == 2, lanes == 3)) {
+    if names_lanes(lanes) {
         return 0;
     }
     3

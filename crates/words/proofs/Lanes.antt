@@ -1,13 +1,13 @@
 -- What the definitions of lanes say: document 01, "Lanes: 1 is the low byte, 2 the high, 3 both. An unselected byte is
 -- ignored in a write and 0 in an answer". Each law goes by cases on which bytes are selected.
-use Prim.Native.Nat.{ℕ, _+_, _*_, _<_}
+use Prim.Native.Nat.{ℕ, _+_, _*_, _<_, _≤_}
 use native.Mathlib.Omega.{arith}
-use mathlib.Core.Path.{_≡_, refl}
-use mathlib.Core.Bool.{Bool, true, false, false≢true, cond, _||_}
-use mathlib.Core.Logic.{_⊎_, inl, inr, ⊎-elim, _↔_}
+use mathlib.Core.Path.{_≡_, refl, sym, ap, _∙_}
+use mathlib.Core.Bool.{Bool, true, false, true≢false, false≢true, cond, _||_}
+use mathlib.Core.Logic.{_⊎_, inl, inr, ⊎-elim, _↔_, _≢_}
 use lib.Dec.{eqb}
 use borrow.Author.Tests.{eqb-true, eqb-false}
-use Rattle.words.specs.Bytes.{lo, hi, takes-low, takes-high, lay, shown, replaced}
+use Rattle.words.specs.Bytes.{lo, hi, takes-low, takes-high, are-lanes, lay, shown, replaced}
 
 -- ---- which lanes select a byte
 one-of : (n j k : ℕ) → (eqb n j || eqb n k) ≡ true ↔ (n ≡ j) ⊎ (n ≡ k)
@@ -25,6 +25,22 @@ low-lanes lanes = one-of lanes 1 3
 pub high-lanes : (lanes : ℕ) → takes-high lanes ≡ true ↔ (lanes ≡ 2) ⊎ (lanes ≡ 3)
 unfolding takes-high
 high-lanes lanes = one-of lanes 2 3
+
+-- A number names lanes exactly if it is 1, 2 or 3.
+pub lanes-named : (n : ℕ) → are-lanes n ≡ true ↔ (1 ≤ n) × (n ≤ 3)
+unfolding are-lanes
+lanes-named n = go (eqb n 1) (eqb n 2) (eqb n 3) refl refl refl
+  where
+    go : (a b c : Bool) → eqb n 1 ≡ a → eqb n 2 ≡ b → eqb n 3 ≡ c → (a || (b || c)) ≡ true ↔ (1 ≤ n) × (n ≤ 3)
+    go true b c p q r = (λ _. omega (arith, eqb-true n 1 p), λ _. refl)
+    go false true c p q r = (λ _. omega (arith, eqb-true n 2 q), λ _. refl)
+    go false false true p q r = (λ _. omega (arith, eqb-true n 3 r), λ _. refl)
+    go false false false p q r = (λ x. absurd (false≢true x), λ h. absurd (omega (arith, h .0, h .1, eqb-false n 1 p, eqb-false n 2 q, eqb-false n 3 r)))
+
+pub lanes-unnamed : (n : ℕ) → are-lanes n ≡ false → (n ≢ 1) × (n ≢ 2) × (n ≢ 3)
+unfolding are-lanes
+lanes-unnamed n e =
+    (λ q. true≢false (sym (ap are-lanes q) ∙ e), λ q. true≢false (sym (ap are-lanes q) ∙ e), λ q. true≢false (sym (ap are-lanes q) ∙ e))
 
 -- ---- a word is its two bytes
 pub low-of : (l h : ℕ) → l < 256 → lo (l + 256 * h) ≡ l

@@ -1,8 +1,10 @@
 -- Bit addresses and word numbers: document 01, 'Memory and addresses'.
---   address n   the bit address n
---   word-at a   the word that bit address a lies in
---   step a      the bit address one word on
+--   address n          the bit address n
+--   word-at a          the word that bit address a lies in
+--   step a             the bit address one word on
+--   stepped-from s a   that, or a itself where s says that there is no step
 use Prim.Native.Nat.{ℕ, _+_, _/_, _%_, _^_}
+use mathlib.Core.Bool.{Bool, cond}
 use Rattle.words.specs.declared.BitAddress.{BitAddress}
 use Rattle.words.specs.declared.WordNumber.{WordNumber}
 
@@ -16,3 +18,6 @@ word-at a = record { 0 = a .0 / 16 }
 -- "The pointer gains 16 modulo 2^32"
 abbrev pub step : BitAddress → BitAddress
 step a = record { 0 = (a .0 + 16) % 2 ^ 32 }
+
+abbrev pub stepped-from : Bool → BitAddress → BitAddress
+stepped-from s a = cond s (step a) a

@@ -2,6 +2,7 @@
 --   lo w, hi w               the low and the high byte of a word
 --   bit w i                  bit i of a word
 --   takes-low, takes-high    these lanes select the low byte, the high byte
+--   are-lanes n              n is 1, 2 or 3
 --   lay lanes old l h        the word old with its selected bytes made l (the low one) and h (the high one)
 --   shown lanes w            a word as an answer shows it
 --   replaced lanes old new   the word old after a write of new
@@ -25,6 +26,9 @@ takes-low lanes = eqb lanes 1 || eqb lanes 3
 
 unfoldable pub takes-high : ℕ → Bool
 takes-high lanes = eqb lanes 2 || eqb lanes 3
+
+unfoldable pub are-lanes : ℕ → Bool
+are-lanes lanes = eqb lanes 1 || (eqb lanes 2 || eqb lanes 3)
 
 unfoldable pub lay : ℕ → ℕ → ℕ → ℕ → ℕ
 lay lanes old l h = cond (takes-low lanes) l (lo old) + 256 * cond (takes-high lanes) h (hi old)

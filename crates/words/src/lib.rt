@@ -3,7 +3,7 @@
 ghost use mathlib.Core.Path.{_≡_};
 ghost use mathlib.Core.Bool.{cond, _&&_, _||_};
 ghost use Rattle.words.specs.Addresses.{word-at, step};
-ghost use Rattle.words.specs.Bytes.{lo, hi, bit, takes-low, takes-high, lay, shown, replaced};
+ghost use Rattle.words.specs.Bytes.{lo, hi, bit, takes-low, takes-high, are-lanes, lay, shown, replaced};
 ghost use Rattle.words.specs.Memory.{over-limit, fetch-at, Stored};
 
 // An address that counts bits. The pointer is one; all its 32 bits are kept.
@@ -60,7 +60,7 @@ pub fn bit_of(w: u16, i: u32) -> bool
     (w >> i) % 2 == 1
 }
 
-// Both tests hold.
+// Both tests hold. (A call and not `&&`: its callers then have the definition's own operator as an equation.)
 pub fn both(a: bool, b: bool) -> bool
     ensures { λ r. ⌜ r ≡ (a && b) ⌝ }
 {
@@ -93,6 +93,13 @@ pub fn selects_high(lanes: u32) -> bool
     ensures { λ r. ⌜ r ≡ takes-high lanes ⌝ }
 {
     either(lanes == 2, lanes == 3)
+}
+
+// The number names lanes: 1, 2 or 3.
+pub fn names_lanes(n: u32) -> bool
+    ensures { λ r. ⌜ r ≡ are-lanes n ⌝ }
+{
+    either(n == 1, either(n == 2, n == 3))
 }
 
 // The word whose selected bytes are `l` and `h`, and whose others are those of `old`.

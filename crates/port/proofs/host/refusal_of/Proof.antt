@@ -16,28 +16,18 @@ returns-2 : tie.Need-returns-2
 unfolding refusal
 returns-2 c = rw (sym (c .before .before .is-over-limit .ensures) ∙ c .before .if1 .left, lt-ltb _ _ (c .if2 .taken))
 
-either-requires : tie.Need-either-requires
-either-requires c κs = tt
-
-either-requires-2 : tie.Need-either-requires-2
-either-requires-2 c κs = tt
+names-lanes-requires : tie.Need-names-lanes-requires
+names-lanes-requires c κs = tt
 
 returns-3 : tie.Need-returns-3
 unfolding refusal
-returns-3 c = rw (sym (c .before .before .before .before .before .is-over-limit .ensures) ∙ c .before .before .before .before .if1 .left, le-ltb _ _ (c .before .before .before .if2 .left), sym (c .before .before .either .ensures), sym (c .before .either2 .ensures) ∙ c .if3 .taken)
+returns-3 c = rw (sym (c .before .before .before .before .is-over-limit .ensures) ∙ c .before .before .before .if1 .left, le-ltb _ _ (c .before .before .if2 .left), sym (c .before .names-lanes .ensures) ∙ c .if3 .taken)
 
 returns-4 : tie.Need-returns-4
 unfolding refusal
-returns-4 c = rw (sym (c .before .before .before .before .before .is-over-limit .ensures) ∙ c .before .before .before .before .if1 .left, le-ltb _ _ (c .before .before .before .if2 .left), sym (c .before .before .either .ensures), sym (c .before .either2 .ensures) ∙ c .if3 .left)
+returns-4 c = rw (sym (c .before .before .before .before .is-over-limit .ensures) ∙ c .before .before .before .if1 .left, le-ltb _ _ (c .before .before .if2 .left), sym (c .before .names-lanes .ensures) ∙ c .if3 .left)
 
 pub refusal-of-spec : {M : Type 1} → statement M
 refusal-of-spec =
     tie.close
-    (tie.spec
-    is-over-limit-requires
-    returns
-    returns-2
-    either-requires
-    either-requires-2
-    returns-3
-    returns-4)
+    (tie.spec is-over-limit-requires returns returns-2 names-lanes-requires returns-3 returns-4)
