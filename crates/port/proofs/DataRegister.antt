@@ -1,8 +1,9 @@
 -- Register 2, HSTDATA, sentence by sentence: document 01, 'The four host registers', over any registers and memory.
 -- By what the access leaves (`Leaves`), where the closing byte is selected and where it is not.
 use Prim.Native.Nat.{ℕ}
-use mathlib.Core.Path.{_≡_, ap, _∙_}
-use mathlib.Core.Bool.{true, false}
+use mathlib.Core.Path.{_≡_, refl, ap, _∙_}
+use mathlib.Core.Bool.{Bool, true, false, cond, _&&_}
+use lib.Dec.{eqb}
 use mathlib.Core.List.{List}
 use Rattle.words.specs.Addresses.{address, word-at}
 use Rattle.words.specs.Bytes.{replaced}
@@ -10,12 +11,12 @@ use Rattle.words.specs.Memory.{store-at}
 use Rattle.control.specs.Control.{incr, incw, closes}
 use Rattle.port.specs.Registers.{with-latch, written}
 use Rattle.port.specs.Cycle.{carried, memory-after, standing}
-use Rattle.port.specs.Host.{read-due, write-due, begin-access, access, access-memory}
+use Rattle.port.specs.Host.{read-due, write-due, begin-access, number-for, access, access-memory}
 use Rattle.port.specs.Deeds.{content, Says, ahead}
 use Rattle.port.specs.declared.Registers.{Registers}
 use Rattle.port.specs.declared.Access.the-variants.{Read, Write}
+use Rattle.port.specs.declared.Due.the-variants.{Nothing, Fetch}
 use Rattle.port.proofs.Taken.{as-done-memory}
-use Rattle.port.proofs.OpenByte.{uncalled-memory}
 use Rattle.port.proofs.NoMiss.{says}
 use Rattle.port.proofs.Leaves.{after-storing, fetch-leaves, store-leaves, left-by}
 
@@ -48,6 +49,16 @@ module _ (r : Registers) (m : List ℕ) where
     pub write-open : closes c lanes ≡ false → access r m (Write 2 lanes w) .registers ≡ with-latch r (replaced lanes (r .latch) w) (r .hollow)
     unfolding begin-access write-due written carried
     write-open e = left-by r m (Write 2 lanes w) n ∙ rw e
+
+  -- A read stores nothing, of HSTDATA or of any register, done or refused.
+  pub read-keeps-memory : (k lanes : ℕ) → access-memory r m (Read k lanes) ≡ m
+  unfolding access-memory begin-access read-due memory-after
+  read-keeps-memory k lanes = go (eqb (number-for m (Read k lanes)) 0) (eqb k 2 && closes c lanes) _
+    where
+      go : (t u s : Bool) → cond t (memory-after r (cond u (Fetch s) Nothing) m) m ≡ m
+      go true true s = refl
+      go true false s = refl
+      go false u s = refl
 
   -- "The pointer gains 16 modulo 2^32: after FFFFFFF0h comes 0", before a fetch and after a store.
   pub read-wraps : (lanes : ℕ) → access r m (Read 2 lanes) .answer .number ≡ 0 → closes c lanes ≡ true → incr c ≡ true → r .pointer ≡ address 0xfffffff0 →

@@ -1,13 +1,12 @@
 -- What an access that is done (number 0) leaves, by the cycle that it calls for: the words of the laws on single registers.
 use Prim.Native.Nat.{ℕ}
-use mathlib.Core.Path.{_≡_, refl, sym, ap, _∙_}
-use mathlib.Core.Bool.{Bool, true, false, cond}
+use mathlib.Core.Path.{_≡_, refl, ap}
+use mathlib.Core.Bool.{Bool, false}
 use mathlib.Core.List.{List}
 use Rattle.words.specs.Addresses.{stepped-from}
 use Rattle.words.specs.Memory.{fetch-at}
-use Rattle.words.specs.declared.BitAddress.{BitAddress}
-use Rattle.port.specs.Cycle.{stepped, after-fetch, after-store, carried, memory-after, standing}
-use Rattle.port.specs.Host.{begin-access, done, access, access-memory}
+use Rattle.port.specs.Cycle.{stepped, after-fetch, after-store, carried, standing}
+use Rattle.port.specs.Host.{begin-access, done, access}
 use Rattle.port.specs.declared.Registers.{Registers}
 use Rattle.port.specs.declared.Access.{Access}
 use Rattle.port.specs.declared.Due.the-variants.{Fetch, Store}
@@ -21,14 +20,12 @@ after-storing r w s = record { pointer = stepped-from s (r .pointer); latch = w;
 -- A fetch leaves the registers standing at its address, stepped to or not.
 pub fetch-leaves : (r : Registers) (m : List ℕ) (s : Bool) → carried r (Fetch s) m .registers ≡ standing m (r .control) (stepped-from s (r .pointer))
 unfolding carried after-fetch stepped fetch-at standing
-fetch-leaves r m true = refl
-fetch-leaves r m false = refl
+fetch-leaves r m s = refl
 
 -- A store leaves HSTDATA held, and then steps or not.
 pub store-leaves : (r : Registers) (m : List ℕ) (s : Bool) → carried r (Store s) m .registers ≡ after-storing r (r .latch) s
 unfolding carried after-store stepped
-store-leaves r m true = refl
-store-leaves r m false = refl
+store-leaves r m s = refl
 
 -- The registers after an access that is done are those that its cycle leaves.
 pub left-by : (r : Registers) (m : List ℕ) (a : Access) → access r m a .answer .number ≡ 0 →

@@ -18,3 +18,4 @@ pub mod Marks
 pub mod Origins
 pub mod NoMiss
 pub mod WholeWords
+pub mod Unselected

@@ -10,7 +10,7 @@ use mathlib.Core.Bool.{Bool, true, false, cond, not, _&&_, _||_}
 use mathlib.Core.List.{List}
 use lib.Dec.{eqb, ltb}
 use borrow.Author.Tests.{eqb-true, ne-eqb}
-use Rattle.words.specs.Addresses.{word-at, step}
+use Rattle.words.specs.Addresses.{word-at, stepped-from}
 use Rattle.words.specs.Bytes.{replaced}
 use Rattle.words.specs.Memory.{in-memory, fetch-at}
 use Rattle.words.specs.declared.WordNumber.{WordNumber}
@@ -53,17 +53,15 @@ module _ (r : Registers) (m : List ℕ) where
   unfolding begin-access read-due write-due has-cycle word-used carried after-fetch after-store stepped fetch-at
   leaves (Read register lanes) = go (eqb register 2 && closes (r .control) lanes) (incr (r .control))
     where
-      go : (t s : Bool) → CycleLeaves r m t false (word-at (cond s (step (r .pointer)) (r .pointer))) (carried r (cond t (Fetch s) Nothing) m)
-      go true true = record { cycle = refl; data-left = refl }
-      go true false = record { cycle = refl; data-left = refl }
+      go : (t s : Bool) → CycleLeaves r m t false (word-at (stepped-from s (r .pointer))) (carried r (cond t (Fetch s) Nothing) m)
+      go true s = record { cycle = refl; data-left = refl }
       go false s = record { cycle = refl; data-left = refl }
   leaves (Write register lanes w) =
       go (written r register lanes w) (closes (r .control) lanes) (eqb register 2) (fetches (r .control) register) (incw (r .control)) _ refl
     where
       go : (q : Registers) (t b f s u : Bool) → stepped u q .pointer ≡ q .pointer →
           CycleLeaves q m (t && (b || f)) b (word-at (q .pointer)) (carried q (cond t (cond b (Store s) (cond f (Fetch u) Nothing)) Nothing) m)
-      go q true true f true u e = record { cycle = refl; data-left = refl }
-      go q true true f false u e = record { cycle = refl; data-left = refl }
+      go q true true f s u e = record { cycle = refl; data-left = refl }
       go q true false true s u e = record { cycle = rw e; data-left = rw e }
       go q true false false s u e = record { cycle = refl; data-left = refl }
       go q false b f s u e = record { cycle = refl; data-left = refl }

@@ -4,6 +4,7 @@
 --   after a miss   the next read hands out the filler, and says so
 --   the onlooker   over any run of deeds, each hollow mark shown is the one that the marks of the cycles call for
 --   the story      over any run of deeds, a word handed out as held came out of memory or was written, and is that word
+--   held-came      the keeper's sentence itself
 -- All rest on what one deed leaves in HSTDATA (`Marks`); the story also on `Origins`: each deed carries it on. That a run of reads
 -- which leaves memory answers hollow from the first missed word on is in `EveryWord`: `then-hollow`, `only-hollow`.
 use Prim.Native.Nat.{ℕ}
@@ -11,6 +12,7 @@ use mathlib.Core.Path.{_≡_, refl, sym, ap, subst, _∙_}
 use mathlib.Core.Bool.{Bool, true, false, true≢false, false≢true, cond}
 use mathlib.Core.List.{List, [], _∷_}
 use mathlib.Core.Logic.{_↔_}
+use borrow.Author.Tests.{not-false}
 use Rattle.words.specs.Addresses.{word-at}
 use Rattle.words.specs.Bytes.{shown}
 use Rattle.words.specs.Memory.{in-memory}
@@ -21,7 +23,7 @@ use Rattle.port.specs.Cycle.{mark}
 use Rattle.port.specs.Host.{begin-access, done, access}
 use Rattle.port.specs.Runs.{Machine, answer-of}
 use Rattle.port.specs.Deeds.{Deed, woken, does, ran, Content, content, Says, writes-data, has-cycle, ahead, word-used, Agree}
-use Rattle.port.specs.Origin.{Origin, unset, value, is-held, told, story}
+use Rattle.port.specs.Origin.{Origin, unset, missed, memory, by-processor, laid, stored, value, is-held, told, story, Came, from-memory, from-processor, from-host, under-bytes}
 use Rattle.port.specs.declared.Registers.{Registers}
 use Rattle.port.specs.declared.Access.{Access}
 use Rattle.port.specs.declared.Access.the-variants.{Read}
@@ -29,6 +31,7 @@ use Rattle.port.specs.declared.Cycle.{Cycle}
 use Rattle.port.specs.declared.Cycle.the-variants.{None, Inside, Empty}
 use Rattle.port.specs.declared.Outcome.{Outcome}
 use Rattle.port.proofs.Taken.{either-done, as-done}
+use Rattle.port.proofs.RegisterWords.{read-answers}
 use Rattle.port.proofs.Marks.{leaves, judges, mark-shown}
 use Rattle.port.proofs.Origins.{run-told}
 
@@ -51,10 +54,9 @@ pub record Rule (r : Registers) (m : List ℕ) (lanes : ℕ) : Type 0 where
 pub rule : (r : Registers) (m : List ℕ) (lanes : ℕ) → access r m (Read 2 lanes) .answer .number ≡ 0 → Rule r m lanes
 unfolding done begin-access register-word has-cycle word-used
 rule r m lanes n =
-    let e = as-done r m (Read 2 lanes) n in
     record {
-      word = ap (λ (o : Outcome). o .answer .word) e;
-      hollow = ap (λ (o : Outcome). o .answer .hollow) e;
+      word = read-answers r m 2 lanes n;
+      hollow = ap (λ (o : Outcome). o .answer .hollow) (as-done r m (Read 2 lanes) n);
       cycle = cycle-done r m (Read 2 lanes) n;
     }
 
@@ -150,3 +152,19 @@ pub since-reset : (m : List ℕ) (l : List Deed) (lanes : ℕ) →
     Says (answer-of (ran (woken m) l) (Read 2 lanes)) lanes (told (story (woken m) l unset))
 unfolding value is-held
 since-reset m l lanes n = held-has-a-story (woken m) unset refl l lanes n
+
+-- ---- the keeper's sentence
+came : (o : Origin) → is-held o ≡ true → Came o
+unfolding is-held
+came unset e = absurd (false≢true e)
+came missed e = absurd (false≢true e)
+came (memory n w) e = from-memory
+came (by-processor w) e = from-processor
+came (laid lanes w o) e = under-bytes (came o e)
+came (stored o) e = from-host
+
+-- From reset on, whatever is done: a word that is handed out as held came out of memory, or was written by the host or the processor.
+pub held-came : (m : List ℕ) (l : List Deed) (lanes : ℕ) →
+    answer-of (ran (woken m) l) (Read 2 lanes) .number ≡ 0 → answer-of (ran (woken m) l) (Read 2 lanes) .hollow ≡ false →
+    Came (story (woken m) l unset)
+held-came m l lanes n e = came (story (woken m) l unset) (not-false _ (sym (since-reset m l lanes n .hollow) ∙ e))

@@ -1,7 +1,7 @@
 -- The processor's side, sentence by sentence: document 01, 'The processor's side'. Demand 1 for its calls: number 2 when, and only
 -- when, the register is none of the five; a refusal answers zeros and leaves the registers.
 -- By cases on the test for number 2; the rest computes.
-use Prim.Native.Nat.{ℕ, _+_, _*_, _<_, _≤_}
+use Prim.Native.Nat.{ℕ, _*_, _<_, _≤_}
 use native.Mathlib.Omega.{arith}
 use mathlib.Core.Path.{_≡_, refl, ap}
 use mathlib.Core.Bool.{Bool, true, false, cond}

@@ -2,7 +2,7 @@
 -- registers and "Writing register 0 or 1 replaces the selected bytes".
 use Prim.Native.Nat.{ℕ}
 use native.Mathlib.Omega.{arith}
-use mathlib.Core.Path.{_≡_, refl, sym, ap, _∙_}
+use mathlib.Core.Path.{_≡_, refl, ap}
 use mathlib.Core.Bool.{false}
 use mathlib.Core.List.{List}
 use Rattle.words.specs.Bytes.{shown, replaced}

@@ -4,7 +4,7 @@
 --   refusal                number 1, 2 or 3, or 0 where none applies
 --   access, access-memory  the whole access: its outcome and the memory
 use Prim.Native.Nat.{ℕ}
-use mathlib.Core.Bool.{false, cond, _&&_, _||_}
+use mathlib.Core.Bool.{false, cond, _&&_}
 use mathlib.Core.List.{List}
 use mathlib.Core.Path.{_≡_}
 use lib.Dec.{eqb, ltb}

@@ -23,7 +23,6 @@ use Rattle.control.specs.Control.{lbl}
 use Rattle.port.specs.Registers.{low-half, high-half}
 use Rattle.port.specs.Cycle.{mark, shows, standing}
 use Rattle.port.specs.Runs.{Machine, Sixteen, load, save, ends, byte-ends}
-use Rattle.port.specs.declared.Registers.{Registers}
 use Rattle.port.specs.declared.Answer.{Answer}
 
 -- "a lent slice of 16-bit words, at most 32,768"
