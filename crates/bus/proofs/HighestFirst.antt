@@ -21,7 +21,7 @@ untrue false n = refl
 -- No source above the highest waits: whoever waits is no higher.
 pub none-higher : (b : Bus) (k : ℕ) → waits b k ≡ true → highest b ≤ k
 unfolding waits highest
-none-higher b = go (b .hold) (b .screen) (b .refresh) (b .host) (b .processor)
+none-higher b = go (b .hold) (b .screen) (b .dram) (b .host) (b .processor)
   where
     go : (h s r o p : Bool) (k : ℕ) → waits (bus h s r o p) k ≡ true → highest (bus h s r o p) ≤ k
     go true s r o p k w = omega arith
@@ -39,7 +39,7 @@ none-higher b = go (b .hold) (b .screen) (b .refresh) (b .host) (b .processor)
 -- The highest source does wait; 5 stands for none.
 pub highest-waits : (b : Bus) → highest b ≢ 5 → waits b (highest b) ≡ true
 unfolding waits highest
-highest-waits b = go (b .hold) (b .screen) (b .refresh) (b .host) (b .processor)
+highest-waits b = go (b .hold) (b .screen) (b .dram) (b .host) (b .processor)
   where
     go : (h s r o p : Bool) → highest (bus h s r o p) ≢ 5 → waits (bus h s r o p) (highest (bus h s r o p)) ≡ true
     go true s r o p n = refl

@@ -22,7 +22,7 @@ pub data GrantedWithin : ℕ → Bus → ℕ → Type 0 where
 not-hold : (b : Bus) → waits b 0 ≡ false → (t : ℕ) → waits b t ≡ true → t ≢ 0
 not-hold b h t w e = false≢true (sym h ∙ subst (λ (k : ℕ). waits b k ≡ true) e w)
 
--- The same for a record in which no source before m waits: a grant that is not the one raises m.
+-- The same where no source below m waits: each grant of another source raises m.
 in-turn : (n m s : ℕ) (b : Bus) → ((t : ℕ) → waits b t ≡ true → m ≤ t) → s < m + n →
     waits b 0 ≡ false → waits b s ≡ true → GrantedWithin n b s
 in-turn zero m s b least near h w = absurd (omega (arith, least s w))

@@ -10,14 +10,14 @@ use borrow.Author.Tests.{eq-eqb, ne-eqb, lt-ltb, le-ltb, eqb-true, eqb-false, lt
 use Rattle.words.proofs.Choices.{either-way}
 use Rattle.bus.specs.Order.{waits, highest, asked, granted, released}
 use Rattle.bus.specs.declared.Bus.{Bus}
-use Rattle.bus.specs.declared.Asked.{Asked}
+use Rattle.bus.specs.declared.BusAnswer.{BusAnswer}
 use Rattle.bus.specs.declared.Granted.{Granted}
 use Rattle.bus.proofs.Sources.{bus, none-beyond, waits-listed}
 use Rattle.bus.proofs.HighestFirst.{highest-waits, none-highest}
 
 -- ---- asking
 -- 7 if that source already waits, 9 if it is not 0 to 4, else 0; refused, the record is as it stood.
-pub record AskNumbers (b : Bus) (s : ℕ) (a : Asked) : Type 0 where
+pub record AskNumbers (b : Bus) (s : ℕ) (a : BusAnswer) : Type 0 where
   pub listed : (a .number ≡ 0) ⊎ (a .number ≡ 7) ⊎ (a .number ≡ 9)
   pub already : a .number ≡ 7 ↔ waits b s ≡ true
   pub unknown : a .number ≡ 9 ↔ 4 < s
@@ -108,7 +108,7 @@ module _ (b : Bus) where
 
 -- ---- releasing
 -- 8 if hold does not wait, else 0; refused, the record is as it stood.
-pub record ReleaseNumbers (b : Bus) (a : Asked) : Type 0 where
+pub record ReleaseNumbers (b : Bus) (a : BusAnswer) : Type 0 where
   pub listed : (a .number ≡ 0) ⊎ (a .number ≡ 8)
   pub no-hold : a .number ≡ 8 ↔ waits b 0 ≡ false
   pub done : a .number ≡ 0 ↔ waits b 0 ≡ true
@@ -116,7 +116,7 @@ pub record ReleaseNumbers (b : Bus) (a : Asked) : Type 0 where
 
 pub release-numbers : (b : Bus) → ReleaseNumbers b (released b)
 unfolding released waits
-release-numbers b = go (b .hold) (b .screen) (b .refresh) (b .host) (b .processor)
+release-numbers b = go (b .hold) (b .screen) (b .dram) (b .host) (b .processor)
   where
     go : (h s r o p : Bool) → ReleaseNumbers (bus h s r o p) (released (bus h s r o p))
     go true s r o p = record {

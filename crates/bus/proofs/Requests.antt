@@ -30,7 +30,7 @@ ask-others b s z k n =
 -- After a release hold does not wait.
 pub release-clears : (b : Bus) → waits (released b .bus) 0 ≡ false
 unfolding released waits with-source
-release-clears b = go (b .hold) (b .screen) (b .refresh) (b .host) (b .processor)
+release-clears b = go (b .hold) (b .screen) (b .dram) (b .host) (b .processor)
   where
     go : (h s r o p : Bool) → waits (released (bus h s r o p) .bus) 0 ≡ false
     go true s r o p = refl
@@ -39,7 +39,7 @@ release-clears b = go (b .hold) (b .screen) (b .refresh) (b .host) (b .processor
 -- After a release every other source is as it stood.
 pub release-others : (b : Bus) (k : ℕ) → k ≢ 0 → waits (released b .bus) k ≡ waits b k
 unfolding released
-release-others b k n = go (b .hold) (b .screen) (b .refresh) (b .host) (b .processor)
+release-others b k n = go (b .hold) (b .screen) (b .dram) (b .host) (b .processor)
   where
     go : (h s r o p : Bool) → waits (released (bus h s r o p) .bus) k ≡ waits (bus h s r o p) k
     go true s r o p = set-elsewhere _ 0 _ (omega arith) k n

@@ -13,11 +13,11 @@ use Rattle.bus.specs.declared.Bus.{Bus}
 
 -- the record of who waits, for laws that go by cases on it
 abbrev pub bus : Bool → Bool → Bool → Bool → Bool → Bus
-bus h s r o p = record { hold = h; screen = s; refresh = r; host = o; processor = p }
+bus h s r o p = record { hold = h; screen = s; dram = r; host = o; processor = p }
 
 -- The sources by their numbers: 0 hold, 1 screen refresh, 2 DRAM refresh, 3 host, 4 processor.
 pub source-named : (b : Bus) →
-    (waits b 0 ≡ b .hold) × (waits b 1 ≡ b .screen) × (waits b 2 ≡ b .refresh) ×
+    (waits b 0 ≡ b .hold) × (waits b 1 ≡ b .screen) × (waits b 2 ≡ b .dram) ×
     (waits b 3 ≡ b .host) × (waits b 4 ≡ b .processor)
 unfolding waits
 source-named b = (refl, refl, refl, refl, refl)

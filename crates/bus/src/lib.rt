@@ -8,13 +8,13 @@ ghost use Rattle.bus.specs.Order.{quiet, waits, with-source, highest, as
 pub struct Bus {
     pub hold: bool,
     pub screen: bool,
-    pub refresh: bool,
+    pub dram: bool,
     pub host: bool,
     pub processor: bool,
 }
 
 // What asking or releasing answers: its number, and who waits then.
-pub struct Asked {
+pub struct BusAnswer {
     pub number: u8,
     pub bus: Bus,
 }
@@ -35,7 +35,7 @@ pub fn idle() -> Bus
     Bus {
         hold: false,
         screen: false,
-        refresh: false,
+        dram: false,
         host: false,
         processor: false,
     }
@@ -48,7 +48,7 @@ pub fn is_waiting(b: Bus, source: u32) -> bool
     match source {
         0 => b.hold,
         1 => b.screen,
-        2 => b.refresh,
+        2 => b.dram,
         3 => b.host,
         4 => b.processor,
         _ => false,
@@ -69,7 +69,7 @@ fn set_source(b: Bus, source: u32, waiting: bool) -> Bus
     Bus {
         hold: choose(source == 0, waiting, b.hold),
         screen: choose(source == 1, waiting, b.screen),
-        refresh: choose(source == 2, waiting, b.refresh),
+        dram: choose(source == 2, waiting, b.dram),
         host: choose(source == 3, waiting, b.host),
         processor: choose(source == 4, waiting, b.processor),
     }
@@ -85,7 +85,7 @@ fn highest_of(b: Bus) -> u32
     if b.screen {
         return 1;
     }
-    if b.refresh {
+    if b.dram {
         return 2;
     }
     if b.host {
@@ -100,16 +100,16 @@ fn highest_of(b: Bus) -> u32
 // ---- the three calls
 
 // A source asks for the bus: it waits from now on.
-pub fn ask(b: Bus, source: u32) -> Asked
+pub fn ask(b: Bus, source: u32) -> BusAnswer
     ensures { λ r. ⌜ r ≡ asked b source ⌝ }
 {
     if is_waiting(b, source) {
-        return Asked { number: 7, bus: b };
+        return BusAnswer { number: 7, bus: b };
     }
     if 4 < source {
-        return Asked { number: 9, bus: b };
+        return BusAnswer { number: 9, bus: b };
     }
-    Asked {
+    BusAnswer {
         number: 0,
         bus: set_source(b, source, true),
     }
@@ -142,14 +142,14 @@ pub fn grant(b: Bus) -> Granted
 }
 
 // Hold waits no more, whether or not it was granted.
-pub fn release(b: Bus) -> Asked
+pub fn release(b: Bus) -> BusAnswer
     ensures { λ r. ⌜ r ≡ released b ⌝ }
 {
     if b.hold {
-        return Asked {
+        return BusAnswer {
             number: 0,
             bus: set_source(b, 0, false),
         };
     }
-    Asked { number: 8, bus: b }
+    BusAnswer { number: 8, bus: b }
 }

@@ -1,4 +1,4 @@
-// The control register HSTCTL: the bits that the port obeys, and what each side's write makes of the low byte.
+// The control register HSTCTL: the bits that the port obeys, and what each side's write makes of it.
 // Document 01, "The four host registers" and "The processor's side".
 ghost use mathlib.Core.Path.{_≡_};
 ghost use mathlib.Core.Bool.{cond};
@@ -51,7 +51,7 @@ pub fn closes_word(c: u16, lanes: u32) -> bool
     }
 }
 
-// A write of this register fetches: it is the half of the pointer that is loaded last.
+// This half of the pointer fetches when its closing byte is written: HSTADRH, or with LBL 1 HSTADRL.
 pub fn fetches_by(c: u16, register: u32) -> bool
     ensures { λ r. ⌜ r ≡ fetches c register ⌝ }
 {

@@ -43,10 +43,10 @@ processor-writes r register w =
 
 -- ---- reset
 
--- "Reset: all registers 0 except" the control word; "hollow true (house: nothing fetched yet ..)"
+-- "Reset: all registers 0 except HLT 1, hollow true (house: nothing fetched yet ..)"; c is the control word
 abbrev pub fresh : ℕ → Registers
 fresh c = record { pointer = address 0; latch = 0; control = c; hollow = true }
 
--- "except HLT 1"; "no bus request waiting. Memory stays"
+-- HLT is bit 15; "no bus request waiting. Memory stays"
 abbrev pub at-reset : Woken
 at-reset = record { registers = fresh 0x8000; bus = quiet }

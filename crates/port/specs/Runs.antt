@@ -37,7 +37,7 @@ abbrev pub on : ℕ → Sixteen → Access
 on lanes (load register) = Read register lanes
 on lanes (save register w) = Write register lanes w
 
--- the two byte accesses are fixed "when it begins": by the control word before the first of them
+-- the two byte accesses, in the order that LBL commands before the first of them (demand 3)
 abbrev pub opening : Machine → Sixteen → Access
 opening s a = on (first-lane (s .registers .control)) a
 

@@ -41,7 +41,7 @@ pub fn settle_fetch(r: Registers, f: Fetched) -> Carried
     }
 }
 
-// What a store leaves: HSTDATA is no more hollow, wherever the store fell; then the step.
+// What a store leaves: HSTDATA is no longer hollow, wherever the store fell; then the step.
 pub fn settle_store(r: Registers, step: bool, inside: bool) -> Carried
     ensures { λ c. ⌜ c ≡ after-store r step inside ⌝ }
 {

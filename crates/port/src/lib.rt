@@ -9,26 +9,31 @@ mod parts;
 mod processor;
 
 use bus::Bus;
+// The calls of a bench: each refuses by number what it does not do.
+pub use host::host_access;
+pub use processor::processor_read;
+pub use processor::processor_write;
+pub use processor::reset;
+
+// The parts that another way to the port is made of: they judge nothing.
 pub use cycles::carry;
 pub use cycles::settle_fetch;
 pub use cycles::settle_store;
 pub use cycles::step_if;
 pub use host::begin;
 pub use host::finish;
-pub use host::host_access;
 pub use host::number_of;
 pub use host::refuse;
-pub use processor::processor_read;
-pub use processor::processor_write;
-pub use processor::reset;
 use words::BitAddress;
 
-// The registers: the pointer (HSTADRL its low half, HSTADRH its high half), HSTDATA, HSTCTL, and the mark that
-// HSTDATA is hollow: the filler of a fetch that missed memory, or nothing fetched since reset.
 pub struct Registers {
+    // HSTADRL is its low half, HSTADRH its high half.
     pub pointer: BitAddress,
+    // HSTDATA.
     pub latch: u16,
+    // HSTCTL.
     pub control: u16,
+    // HSTDATA is the filler of a fetch that missed memory, or nothing was fetched since reset.
     pub hollow: bool,
 }
 

@@ -14,7 +14,7 @@ use words::BitAddress;
 use words::show_bytes;
 
 // What a register of the five reads as.
-fn look(r: Registers, register: u32) -> u16
+fn read_of_five(r: Registers, register: u32) -> u16
     ensures { λ x. ⌜ x ≡ processor-word r register ⌝ }
 {
     if register < 3 {
@@ -28,7 +28,7 @@ fn look(r: Registers, register: u32) -> u16
 }
 
 // The registers with one of the five written.
-fn put(r: Registers, register: u32, w: u16) -> Registers
+fn write_of_five(r: Registers, register: u32, w: u16) -> Registers
     ensures { λ x. ⌜ x ≡ processor-written r register w ⌝ }
 {
     if register < 2 {
@@ -52,7 +52,7 @@ pub fn processor_read(r: Registers, register: u32) -> ProcessorRead
     }
     ProcessorRead {
         number: 0,
-        word: look(r, register),
+        word: read_of_five(r, register),
     }
 }
 
@@ -68,7 +68,7 @@ pub fn processor_write(r: Registers, register: u32, w: u16) -> ProcessorWrite
     }
     ProcessorWrite {
         number: 0,
-        registers: put(r, register, w),
+        registers: write_of_five(r, register, w),
     }
 }
 

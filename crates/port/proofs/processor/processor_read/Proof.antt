@@ -8,12 +8,12 @@ returns : tie.Need-returns
 unfolding processor-reads
 returns c = rw (lt-ltb _ _ (c .if1 .taken))
 
-look-requires : tie.Need-look-requires
-look-requires c κs = tt
+read-of-five-requires : tie.Need-read-of-five-requires
+read-of-five-requires c κs = tt
 
 returns-2 : tie.Need-returns-2
 unfolding processor-reads
-returns-2 c = rw (le-ltb _ _ (c .before .if1 .left), c .look .ensures)
+returns-2 c = rw (le-ltb _ _ (c .before .if1 .left), c .read-of-five .ensures)
 
 pub processor-read-spec : {M : Type 1} → statement M
-processor-read-spec = tie.close (tie.spec returns look-requires returns-2)
+processor-read-spec = tie.close (tie.spec returns read-of-five-requires returns-2)

@@ -8,12 +8,12 @@ returns : tie.Need-returns
 unfolding processor-writes
 returns c = rw (lt-ltb _ _ (c .if1 .taken))
 
-put-requires : tie.Need-put-requires
-put-requires c κs = tt
+write-of-five-requires : tie.Need-write-of-five-requires
+write-of-five-requires c κs = tt
 
 returns-2 : tie.Need-returns-2
 unfolding processor-writes
-returns-2 c = rw (le-ltb _ _ (c .before .if1 .left), c .put .ensures)
+returns-2 c = rw (le-ltb _ _ (c .before .if1 .left), c .write-of-five .ensures)
 
 pub processor-write-spec : {M : Type 1} → statement M
-processor-write-spec = tie.close (tie.spec returns put-requires returns-2)
+processor-write-spec = tie.close (tie.spec returns write-of-five-requires returns-2)

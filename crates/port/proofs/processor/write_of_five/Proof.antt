@@ -1,8 +1,8 @@
--- `port::processor::put` meets its contract, by cases on the register.
+-- `port::processor::write_of_five` meets its contract, by cases on the register.
 use borrow.Author.Tests.{eq-eqb, ne-eqb, lt-ltb, le-ltb}
 use Rattle.port.specs.Processor.{processor-written}
-use Rattle.port.proofs.processor.put.Statement.{statement}
-use Rattle.port.proofs.processor.put.Tie as tie
+use Rattle.port.proofs.processor.write_of_five.Statement.{statement}
+use Rattle.port.proofs.processor.write_of_five.Tie as tie
 
 write-register-requires : tie.Need-write-register-requires
 write-register-requires c κs = tt
@@ -38,8 +38,8 @@ returns-4 : tie.Need-returns-4
 unfolding processor-written
 returns-4 c = rw (le-ltb _ _ (c .before .before .before .before .if1 .left), ne-eqb _ _ (c .before .before .before .if2 .left), ne-eqb _ _ (c .before .before .if3 .left), c .set-control2 .ensures, c .before .write-by-processor2 .ensures)
 
-pub put-spec : {M : Type 1} → statement M
-put-spec =
+pub write-of-five-spec : {M : Type 1} → statement M
+write-of-five-spec =
     tie.close
     (tie.spec
     write-register-requires

@@ -1,8 +1,8 @@
--- `port::processor::look` meets its contract, by cases on the register.
+-- `port::processor::read_of_five` meets its contract, by cases on the register.
 use borrow.Author.Tests.{eq-eqb, ne-eqb, lt-ltb, le-ltb}
 use Rattle.port.specs.Processor.{processor-word}
-use Rattle.port.proofs.processor.look.Statement.{statement}
-use Rattle.port.proofs.processor.look.Tie as tie
+use Rattle.port.proofs.processor.read_of_five.Statement.{statement}
+use Rattle.port.proofs.processor.read_of_five.Tie as tie
 
 read-register-requires : tie.Need-read-register-requires
 read-register-requires c κs = tt
@@ -28,8 +28,8 @@ returns-3 : tie.Need-returns-3
 unfolding processor-word
 returns-3 c = rw (le-ltb _ _ (c .before .before .before .if1 .left), ne-eqb _ _ (c .before .if2 .left), c .show-bytes2 .ensures, c .before .before .hide-bit-10 .ensures)
 
-pub look-spec : {M : Type 1} → statement M
-look-spec =
+pub read-of-five-spec : {M : Type 1} → statement M
+read-of-five-spec =
     tie.close
     (tie.spec
     read-register-requires
