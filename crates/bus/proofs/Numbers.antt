@@ -62,6 +62,7 @@ module _ (b : Bus) (s : ℕ) where
         refused = λ n. absurd (n refl);
       })
 
+  -- So it is with every asking.
   pub ask-numbers : AskNumbers b s (asked b s)
   ask-numbers =
       ⊎-elim
@@ -102,6 +103,7 @@ module _ (b : Bus) where
         refused = λ z. absurd (z refl);
       })
 
+  -- So it is with every grant.
   pub grant-numbers : GrantNumbers b (granted b)
   grant-numbers =
       ⊎-elim (λ e. none (eqb-true _ 5 e)) (λ e. some (eqb-false _ 5 e)) (either-way (eqb (highest b) 5))
@@ -114,6 +116,7 @@ pub record ReleaseNumbers (b : Bus) (a : BusAnswer) : Type 0 where
   pub done : a .number ≡ 0 ↔ waits b 0 ≡ true
   pub refused : a .number ≢ 0 → a .bus ≡ b
 
+-- So it is with every release.
 pub release-numbers : (b : Bus) → ReleaseNumbers b (released b)
 unfolding released waits
 release-numbers b = go (b .hold) (b .screen) (b .dram) (b .host) (b .processor)

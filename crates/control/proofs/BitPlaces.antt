@@ -25,6 +25,7 @@ pub record BitPlaces : Type 0 where
   pub step-reading : Alone incr 0x1000 0xefff
   pub low-byte-last : Alone lbl 0x2000 0xdfff
 
+-- HSTCTL's parts stand where the paper has them.
 pub bit-places : BitPlaces
 unfolding bit
 bit-places = record {

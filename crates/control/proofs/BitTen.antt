@@ -36,10 +36,11 @@ module _ (c : ℕ) where
   unfolding bare
   quotient-kept = omega arith
 
-  -- Every bit below it and above it reads as it stands.
+  -- Every bit below it reads as it stands.
   pub below-ten-shown : (i : ℕ) → i < 10 → bit (bare c) i ≡ bit c i
   below-ten-shown i h = sym (bit-of-remainder (bare c) 10 i h) ∙ rw remainder-kept (bit-of-remainder c 10 i h)
 
+  -- Every bit above it too.
   pub above-ten-shown : (i : ℕ) → bit (bare c) (11 + i) ≡ bit c (11 + i)
   above-ten-shown i = sym (bit-of-quotient (bare c) 11 i) ∙ rw quotient-kept (bit-of-quotient c 11 i)
 

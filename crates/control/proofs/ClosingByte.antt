@@ -7,25 +7,27 @@ use borrow.Author.Tests.{eq-eqb, eqb-true}
 use Rattle.words.specs.Bytes.{takes-low, takes-high}
 use Rattle.control.specs.Control.{lbl, closes, fetches, first-lane, last-lane}
 
--- With LBL 0 the high byte closes a word, with LBL 1 the low byte.
+-- With LBL 0 the high byte closes a word.
 pub high-closes : (c lanes : ℕ) → lbl c ≡ false → closes c lanes ≡ takes-high lanes
 unfolding closes
 high-closes c lanes e = rw e
 
+-- With LBL 1 the low byte does.
 pub low-closes : (c lanes : ℕ) → lbl c ≡ true → closes c lanes ≡ takes-low lanes
 unfolding closes
 low-closes c lanes e = rw e
 
--- With LBL 0 register 1 fetches, with LBL 1 register 0, and no other.
+-- With LBL 0 register 1 fetches, and no other.
 pub high-half-fetches : (c k : ℕ) → lbl c ≡ false → fetches c k ≡ true ↔ k ≡ 1
 unfolding fetches
 high-half-fetches c k e = rw e (eqb-true k 1, eq-eqb k 1)
 
+-- With LBL 1 register 0 fetches, and no other.
 pub low-half-fetches : (c k : ℕ) → lbl c ≡ true → fetches c k ≡ true ↔ k ≡ 0
 unfolding fetches
 low-half-fetches c k e = rw e (eqb-true k 0, eq-eqb k 0)
 
--- Of a word done byte by byte the last byte closes it, and the first does not; both at once do.
+-- Of a word done byte by byte the first byte does not close it.
 pub first-is-open : (c : ℕ) → closes c (first-lane c) ≡ false
 unfolding closes takes-low takes-high
 first-is-open c = go (lbl c)
@@ -34,6 +36,7 @@ first-is-open c = go (lbl c)
     go true = refl
     go false = refl
 
+-- The last byte closes the word.
 pub last-closes : (c : ℕ) → closes c (last-lane c) ≡ true
 unfolding closes takes-low takes-high
 last-closes c = go (lbl c)
@@ -42,6 +45,7 @@ last-closes c = go (lbl c)
     go true = refl
     go false = refl
 
+-- Both bytes at once close it.
 pub both-close : (c : ℕ) → closes c 3 ≡ true
 unfolding closes takes-low takes-high
 both-close c = go (lbl c)

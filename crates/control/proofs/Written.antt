@@ -13,9 +13,11 @@ use Rattle.control.proofs.BitTen.{ten-hidden}
 
 -- low is the writer's rule for the low byte
 module _ (low : ℕ → ℕ → ℕ) (byte : (x y : ℕ) → low x y < 256) (lanes c w : ℕ) where
+  -- The low byte follows the writer's rule if it is selected, and else stays.
   pub low-lane : lo (control-laid low lanes c w) ≡ cond (takes-low lanes) (low (lo c) (lo w)) (lo c)
   low-lane = laid-low lanes c (low (lo c) (lo w)) (hi (bare w)) (byte (lo c) (lo w)) (omega arith)
 
+  -- The high byte is the written one without bit 10 if it is selected, and else stays.
   pub high-lane : hi (control-laid low lanes c w) ≡ cond (takes-high lanes) (hi (bare w)) (hi c)
   high-lane = laid-high lanes c (low (lo c) (lo w)) (hi (bare w)) (byte (lo c) (lo w)) (omega arith)
 
@@ -26,6 +28,7 @@ module _ (low : ℕ → ℕ → ℕ) (byte : (x y : ℕ) → low x y < 256) (lan
       ap (λ (b : ℕ). bit b i) (high-lane ∙ ap (λ (t : Bool). cond t (hi (bare w)) (hi c)) e) ∙
       bit-of-high (bare w) i h
 
+  -- A write of the high byte leaves bit 10 clear.
   pub ten-left-clear : takes-high lanes ≡ true → bit (control-laid low lanes c w) 10 ≡ false
   ten-left-clear e = high-bit-written e 2 (omega arith) ∙ ten-hidden w
 

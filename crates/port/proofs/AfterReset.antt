@@ -16,6 +16,7 @@ pub record AfterReset : Type 0 where
   pub hollow : at-reset .registers .hollow ≡ true
   pub quiet : (source : ℕ) → waits (at-reset .bus) source ≡ false
 
+-- So the registers and the bus stand after reset.
 pub after-reset : AfterReset
 unfolding bit
 after-reset = record {

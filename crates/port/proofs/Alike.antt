@@ -164,12 +164,13 @@ module _ (s : Machine) (a : Sixteen) where
   alike =
       ⊎-elim (λ e. alike-taken (eqb-true _ _ e)) (λ e. alike-barred (eqb-false _ _ e)) (either-way (eqb (number-for m (on 3 a)) 0))
 
--- Any sequence of accesses by bytes ends where the whole accesses end, and answers what they answer.
+-- Any sequence of accesses by bytes ends where the whole accesses end.
 pub ends-alike : (s : Machine) (l : List Sixteen) → byte-ends s l ≡ ends s l
 unfolding byte-ends ends
 ends-alike s [] = refl
 ends-alike s (a ∷ rest) = rw (alike s a .end) (ends-alike (after s (on 3 a)) rest)
 
+-- Any sequence of accesses by bytes answers what the whole accesses answer.
 pub answers-alike : (s : Machine) (l : List Sixteen) → byte-answers s l ≡ answers s l
 unfolding byte-answers answers
 answers-alike s [] = refl

@@ -30,6 +30,7 @@ module _ (r : Registers) (m : List ℕ) where
     unfolding begin-access read-due
     read-fetches e = left-by r m (Read 2 lanes) n ∙ rw e (fetch-leaves r m (incr c))
 
+    -- A read without the closing byte changes no register.
     pub read-open : closes c lanes ≡ false → access r m (Read 2 lanes) .registers ≡ r
     unfolding begin-access read-due carried
     read-open e = left-by r m (Read 2 lanes) n ∙ rw e
@@ -41,6 +42,7 @@ module _ (r : Registers) (m : List ℕ) where
     unfolding begin-access write-due written memory-after
     write-stores e = as-done-memory r m (Write 2 lanes w) n ∙ rw e
 
+    -- The registers after that store: HSTDATA as written, held, the pointer stepped where INCW is set.
     pub write-steps : closes c lanes ≡ true → access r m (Write 2 lanes w) .registers ≡ after-storing r (replaced lanes (r .latch) w) (incw c)
     unfolding begin-access write-due written
     write-steps e = left-by r m (Write 2 lanes w) n ∙ rw e (store-leaves (with-latch r (replaced lanes (r .latch) w) (r .hollow)) m (incw c))
@@ -65,6 +67,7 @@ module _ (r : Registers) (m : List ℕ) where
       access r m (Read 2 lanes) .registers ≡ standing m c (address 0)
   read-wraps lanes n e i p = read-fetches lanes n e ∙ rw (i, p)
 
+  -- And after a store.
   pub write-wraps : (lanes w : ℕ) → access r m (Write 2 lanes w) .answer .number ≡ 0 → closes c lanes ≡ true → incw c ≡ true → r .pointer ≡ address 0xfffffff0 →
       access r m (Write 2 lanes w) .registers .pointer ≡ address 0
   write-wraps lanes w n e i p = ap (λ (q : Registers). q .pointer) (write-steps lanes w n e) ∙ rw (i, p)

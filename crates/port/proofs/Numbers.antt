@@ -54,6 +54,7 @@ module _ (r : Registers) (m : List ℕ) (a : Access) where
   pub numbered : When (length m) (register-of a) (lanes-of a) (access r m a .answer .number)
   numbered = rw (number-is r m a) (when (length m) (register-of a) (lanes-of a))
 
+  -- Every access that answers another number than 0 is refused so.
   pub refuses : access r m a .answer .number ≢ 0 → Refused r m a
   refuses n =
       let e : number-for m a ≢ 0 = λ q. n (number-is r m a ∙ q) in

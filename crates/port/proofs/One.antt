@@ -12,10 +12,12 @@ use Rattle.port.specs.declared.Due.{Due}
 use Rattle.port.specs.declared.Carried.{Carried}
 use Rattle.port.specs.declared.Outcome.{Outcome}
 
+-- A cycle has one outcome.
 pub one-cycled : {r : Registers} {due : Due} {m m′ m″ : List ℕ} {c d : Carried} →
     Cycled r due m c m′ → Cycled r due m d m″ → (c ≡ d) × (m′ ≡ m″)
 one-cycled p q = (one-value (p .outcome) (q .outcome), one-value (p .memory) (q .memory))
 
+-- An access by the host has one outcome.
 pub one-accessed : {r : Registers} {m m′ m″ : List ℕ} {a : Access} {o p : Outcome} →
     Accessed r m a o m′ → Accessed r m a p m″ → (o ≡ p) × (m′ ≡ m″)
 one-accessed p q = (one-value (p .outcome) (q .outcome), one-value (p .memory) (q .memory))

@@ -18,14 +18,17 @@ use Rattle.port.specs.declared.Outcome.{Outcome}
 use Rattle.port.proofs.Taken.{either-done}
 
 module _ (r : Registers) (m : List ℕ) (a : Access) (e : begin-access r a .due ≡ Nothing) where
+  -- An access that calls for no cycle has none.
   pub uncalled-cycle : access r m a .answer .cycle ≡ None
   unfolding done carried
   uncalled-cycle = either-done r m a (λ (o : Outcome). o .answer .cycle ≡ None) (rw e) (λ _. refl)
 
+  -- It leaves the registers, if it wrote to none.
   pub uncalled-registers : begin-access r a .registers ≡ r → access r m a .registers ≡ r
   unfolding done carried
   uncalled-registers s = either-done r m a (λ (o : Outcome). o .registers ≡ r) (rw e s) (λ _. refl)
 
+  -- It leaves the memory.
   pub uncalled-memory : access-memory r m a ≡ m
   unfolding access-memory memory-after
   uncalled-memory = go (eqb (number-for m a) 0)
@@ -34,6 +37,7 @@ module _ (r : Registers) (m : List ℕ) (a : Access) (e : begin-access r a .due 
       go true = rw e
       go false = refl
 
+-- Without the closing byte no cycle is called for.
 pub open-calls-none : (r : Registers) (a : Access) → closes (r .control) (lanes-of a) ≡ false → begin-access r a .due ≡ Nothing
 unfolding begin-access read-due write-due
 open-calls-none r (Read k lanes) e = rw e (go (eqb k 2) _)
@@ -47,5 +51,6 @@ open-calls-none r (Write k lanes w) e = rw e
 pub open-has-no-cycle : (r : Registers) (m : List ℕ) (a : Access) → closes (r .control) (lanes-of a) ≡ false → access r m a .answer .cycle ≡ None
 open-has-no-cycle r m a e = uncalled-cycle r m a (open-calls-none r a e)
 
+-- And it leaves the memory.
 pub open-keeps-memory : (r : Registers) (m : List ℕ) (a : Access) → closes (r .control) (lanes-of a) ≡ false → access-memory r m a ≡ m
 open-keeps-memory r m a e = uncalled-memory r m a (open-calls-none r a e)

@@ -40,6 +40,7 @@ module _ (r : Registers) (m : List ℕ) where
         go true false s e = refl
         go false u s e = refl
 
+    -- No write of these registers stores to memory.
     pub load-keeps-memory : access-memory r m (Write k lanes w) ≡ m
     unfolding begin-access write-due memory-after
     load-keeps-memory = as-done-memory r m (Write k lanes w) n ∙ rw h (go (closes c lanes) (fetches c k) _)
@@ -59,6 +60,7 @@ module _ (r : Registers) (m : List ℕ) where
     pub memory : access-memory r m a ≡ m
     pub cycle : access r m a .answer .cycle ≡ None
 
+  -- So every read of a register but HSTDATA, done or refused.
   pub read-changes-nothing : (k lanes : ℕ) → k ≢ 2 → ReadLeaves (Read k lanes)
   unfolding begin-access
   read-changes-nothing k lanes h =

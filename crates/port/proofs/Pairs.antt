@@ -40,6 +40,7 @@ last-of r a = begin-access (first-of r a .registers) (on (last-lane (r .control)
 pub low-of-halves : (l h : ℕ) → l < 65536 → low-half (halves l h) ≡ l
 low-of-halves l h p = omega arith
 
+-- And its high half the other.
 pub high-of-halves : (l h : ℕ) → l < 65536 → h < 65536 → high-half (halves l h) ≡ h
 high-of-halves l h p q = omega arith
 
@@ -114,6 +115,7 @@ module _ (r : Registers) where
     registers = e;
   }
 
+  -- The two byte accesses of any sixteen-bit access are so paired.
   pub begin-pair : (a : Sixteen) → Paired (begin-access r (on 3 a)) (first-of r a) (last-of r a)
   unfolding begin-access write-due written half-written
   begin-pair (load k) = read-pair r k

@@ -31,6 +31,7 @@ pub record WriteSays (r : Registers) (k : ℕ) (x : ProcessorWrite) : Type 0 whe
   pub number : Numbered k (x .number)
   pub refused : x .number ≢ 0 → x .registers ≡ r
 
+-- A read by the processor answers 0 or 2, each when, and only then, and zeros with 2.
 pub read-says : (r : Registers) (k : ℕ) → ReadSays k (processor-reads r k)
 unfolding processor-reads
 read-says r k = go (ltb 4 k) refl
@@ -39,6 +40,7 @@ read-says r k = go (ltb 4 k) refl
     go true e = record { number = omega (arith, ltb-true 4 k e); refused = λ _. refl }
     go false e = record { number = omega (arith, ltb-false 4 k e); refused = λ n. absurd (n refl) }
 
+-- A write by the processor answers 0 or 2, each when, and only then, and leaves the registers with 2.
 pub write-says : (r : Registers) (k w : ℕ) → WriteSays r k (processor-writes r k w)
 unfolding processor-writes
 write-says r k w = go (ltb 4 k) refl
@@ -58,6 +60,7 @@ module _ (r : Registers) where
     pub low-control : processor-reads r 3 .word ≡ lo (bare (r .control))
     pub high-control : processor-reads r 4 .word ≡ 256 * hi (bare (r .control))
 
+  -- So the five registers read.
   pub reads : Reads
   unfolding processor-reads processor-word register-word lay takes-low takes-high
   reads = record { low = refl; high = refl; data-register = refl; low-control = omega arith; high-control = omega arith }
@@ -71,6 +74,7 @@ module _ (r : Registers) where
       pub low-control : processor-writes r 3 w .registers ≡ with-control r (control-laid processor-low 1 (r .control) w)
       pub high-control : processor-writes r 4 w .registers ≡ with-control r (control-laid processor-low 2 (r .control) w)
 
+    -- So the five registers are written.
     pub writes : Writes
     unfolding processor-writes processor-written half-written written lay takes-low takes-high
     writes = record {

@@ -23,6 +23,7 @@ pub record ReadAs (r : Registers) : Type 0 where
   pub data-register : register-word r 2 ≡ r .latch
   pub control : register-word r 3 ≡ bare (r .control)
 
+-- So the four registers read.
 pub read-as : (r : Registers) → ReadAs r
 unfolding register-word
 read-as r = record { low = refl; high = refl; data-register = refl; control = refl }
@@ -39,6 +40,7 @@ pub record Silent (r : Registers) (m : List ℕ) (k lanes w : ℕ) : Type 0 wher
   pub word : access r m (Write k lanes w) .answer .word ≡ 0
   pub hollow : access r m (Write k lanes w) .answer .hollow ≡ false
 
+-- So every write answers.
 pub write-is-silent : (r : Registers) (m : List ℕ) (k lanes w : ℕ) → Silent r m k lanes w
 unfolding done begin-access
 write-is-silent r m k lanes w =
@@ -54,6 +56,7 @@ pub record HalvesWritten (r : Registers) (lanes w : ℕ) : Type 0 where
   pub high : high-half (written r 1 lanes w .pointer) ≡ replaced lanes (high-half (r .pointer)) w
   pub high-leaves-low : low-half (written r 1 lanes w .pointer) ≡ low-half (r .pointer)
 
+-- So every write of registers 0 and 1.
 pub halves-written : (r : Registers) (lanes w : ℕ) → HalvesWritten r lanes w
 unfolding written half-written
 halves-written r lanes w =

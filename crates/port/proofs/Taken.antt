@@ -14,18 +14,22 @@ use Rattle.port.specs.declared.Access.{Access}
 use Rattle.port.specs.declared.Outcome.{Outcome}
 
 module _ (r : Registers) (m : List ℕ) (a : Access) where
+  -- An access that is accepted is begun and carried out.
   pub taken : number-for m a ≡ 0 → access r m a ≡ done (begin-access r a) m
   unfolding access
   taken e = rw (eq-eqb _ _ e)
 
+  -- So the memory is what its cycle leaves.
   pub taken-memory : number-for m a ≡ 0 → access-memory r m a ≡ memory-after (begin-access r a .registers) (begin-access r a .due) m
   unfolding access-memory
   taken-memory e = rw (eq-eqb _ _ e)
 
+  -- An access that is refused answers its number and leaves the registers.
   pub barred : number-for m a ≢ 0 → access r m a ≡ refused (number-for m a) r
   unfolding access
   barred n = rw (ne-eqb _ _ n)
 
+  -- And it leaves the memory.
   pub barred-memory : number-for m a ≢ 0 → access-memory r m a ≡ m
   unfolding access-memory
   barred-memory n = rw (ne-eqb _ _ n)
@@ -53,5 +57,6 @@ module _ (r : Registers) (m : List ℕ) (a : Access) where
   pub as-done : access r m a .answer .number ≡ 0 → access r m a ≡ done (begin-access r a) m
   as-done n = taken (sym number-is ∙ n)
 
+  -- So the memory is what its cycle left.
   pub as-done-memory : access r m a .answer .number ≡ 0 → access-memory r m a ≡ memory-after (begin-access r a .registers) (begin-access r a .due) m
   as-done-memory n = taken-memory (sym number-is ∙ n)

@@ -5,25 +5,30 @@ use mathlib.Core.Path.{_≡_, refl}
 use Rattle.words.specs.Addresses.{address, word-at, step}
 use Rattle.words.specs.declared.BitAddress.{BitAddress}
 
--- Bit address b is bit b mod 16 of word b div 16: there and back.
+-- Bit address b is bit b mod 16 of word b div 16.
 pub bit-in-word : (a : BitAddress) → a .0 ≡ word-at a .0 * 16 + a .0 % 16
 bit-in-word a = omega arith
 
+-- Any of the sixteen bit addresses of word n lies in word n.
 pub word-of-bit : (n k : ℕ) → k < 16 → word-at (address (n * 16 + k)) .0 ≡ n
 word-of-bit n k h = omega arith
 
--- The step keeps the four low bits and goes to the next word; after FFFFFFF0h comes 0.
+-- The step keeps the four low bits.
 pub step-keeps-low-bits : (a : BitAddress) → step a .0 % 16 ≡ a .0 % 16
 step-keeps-low-bits a = omega arith
 
+-- The step goes to the next word.
 pub step-next : (a : BitAddress) → a .0 + 16 < 2 ^ 32 → word-at (step a) .0 ≡ suc (word-at a .0)
 step-next a h = omega arith
 
+-- It goes from word to word, modulo 2^28.
 pub step-of-word : (a : BitAddress) → word-at (step a) .0 ≡ (word-at a .0 + 1) % 2 ^ 28
 step-of-word a = omega arith
 
+-- After FFFFFFF0h comes 0.
 pub step-wraps : step (address 0xfffffff0) ≡ address 0
 step-wraps = refl
 
+-- The stepped address has 32 bits.
 pub step-fits : (a : BitAddress) → step a .0 < 2 ^ 32
 step-fits a = omega arith

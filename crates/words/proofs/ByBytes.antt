@@ -15,9 +15,11 @@ unfolding lay takes-low takes-high
 lay-both true f old h k q = rw (low-of (lo old) h (omega arith), high-of (lo old) h (omega arith) q)
 lay-both false f old h k q = rw (low-of (f (lo old)) (hi old) (k (lo old)))
 
+-- A word written byte by byte is the word written whole.
 pub replaced-both : (b : Bool) (old w : ℕ) → replaced (cond b 1 2) (replaced (cond b 2 1) old w) w ≡ replaced 3 old w
 replaced-both b old w = lay-both b (λ x. lo w) old (hi w) (λ x. omega arith) (omega arith)
 
+-- A word read byte by byte is the word read whole.
 pub shown-both : (b : Bool) (w : ℕ) → shown (cond b 2 1) w + shown (cond b 1 2) w ≡ shown 3 w
 unfolding lay takes-low takes-high
 shown-both true w = omega arith

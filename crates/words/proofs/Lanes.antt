@@ -18,10 +18,12 @@ one-of n j k = go (eqb n j) (eqb n k) refl refl
     go false true e f = (λ _. inr (eqb-true n k f), λ _. refl)
     go false false e f = (λ x. absurd (false≢true x), λ x. absurd (⊎-elim (eqb-false n j e) (eqb-false n k f) x))
 
+-- Lanes 1 and 3 select the low byte.
 pub low-lanes : (lanes : ℕ) → takes-low lanes ≡ true ↔ (lanes ≡ 1) ⊎ (lanes ≡ 3)
 unfolding takes-low
 low-lanes lanes = one-of lanes 1 3
 
+-- Lanes 2 and 3 select the high byte.
 pub high-lanes : (lanes : ℕ) → takes-high lanes ≡ true ↔ (lanes ≡ 2) ⊎ (lanes ≡ 3)
 unfolding takes-high
 high-lanes lanes = one-of lanes 2 3
@@ -37,18 +39,22 @@ lanes-named n = go (eqb n 1) (eqb n 2) (eqb n 3) refl refl refl
     go false false true p q r = (λ _. omega (arith, eqb-true n 3 r), λ _. refl)
     go false false false p q r = (λ x. absurd (false≢true x), λ h. absurd (omega (arith, h .0, h .1, eqb-false n 1 p, eqb-false n 2 q, eqb-false n 3 r)))
 
+-- Any number that does not is none of the three.
 pub lanes-unnamed : (n : ℕ) → are-lanes n ≡ false → (n ≢ 1) × (n ≢ 2) × (n ≢ 3)
 unfolding are-lanes
 lanes-unnamed n e =
     (λ q. true≢false (sym (ap are-lanes q) ∙ e), λ q. true≢false (sym (ap are-lanes q) ∙ e), λ q. true≢false (sym (ap are-lanes q) ∙ e))
 
 -- ---- a word is its two bytes
+-- The low byte of a word made of two bytes is the first.
 pub low-of : (l h : ℕ) → l < 256 → lo (l + 256 * h) ≡ l
 low-of l h p = omega arith
 
+-- The high byte is the second.
 pub high-of : (l h : ℕ) → l < 256 → h < 256 → hi (l + 256 * h) ≡ h
 high-of l h p q = omega arith
 
+-- A word is made of its two bytes.
 pub whole-word : (w : ℕ) → w < 65536 → lo w + 256 * hi w ≡ w
 whole-word w p = omega arith
 
@@ -64,39 +70,49 @@ module _ (lanes old l h : ℕ) (p : l < 256) (q : h < 256) where
   high-below : cond (takes-high lanes) h (hi old) < 256
   high-below = byte-below (takes-high lanes) h (hi old) q (omega arith)
 
+  -- What is laid is a word.
   pub laid-word : lay lanes old l h < 65536
   unfolding lay
   laid-word = omega (arith, low-below, high-below)
 
+  -- Its low byte is the new one where selected, else the old one.
   pub laid-low : lo (lay lanes old l h) ≡ cond (takes-low lanes) l (lo old)
   unfolding lay
   laid-low = low-of _ _ low-below
 
+  -- Its high byte is the new one where selected, else the old one.
   pub laid-high : hi (lay lanes old l h) ≡ cond (takes-high lanes) h (hi old)
   unfolding lay
   laid-high = high-of _ _ low-below high-below
 
 -- ---- a write
+-- A write leaves the written low byte where it is selected, and else the old one.
 pub replaced-low : (lanes old new : ℕ) → lo (replaced lanes old new) ≡ cond (takes-low lanes) (lo new) (lo old)
 replaced-low lanes old new = laid-low lanes old (lo new) (hi new) (omega arith) (omega arith)
 
+-- So with the high byte.
 pub replaced-high : (lanes old new : ℕ) → hi (replaced lanes old new) ≡ cond (takes-high lanes) (hi new) (hi old)
 replaced-high lanes old new = laid-high lanes old (lo new) (hi new) (omega arith) (omega arith)
 
+-- A write leaves a word.
 pub replaced-word : (lanes old new : ℕ) → replaced lanes old new < 65536
 replaced-word lanes old new = laid-word lanes old (lo new) (hi new) (omega arith) (omega arith)
 
+-- A write of both bytes leaves the written word.
 pub replaced-whole : (old w : ℕ) → w < 65536 → replaced 3 old w ≡ w
 unfolding lay takes-low takes-high
 replaced-whole old w p = whole-word w p
 
 -- ---- an answer
+-- An answer has the low byte where it is selected, and else 0.
 pub shown-low : (lanes w : ℕ) → lo (shown lanes w) ≡ cond (takes-low lanes) (lo w) 0
 shown-low lanes w = laid-low lanes 0 (lo w) (hi w) (omega arith) (omega arith)
 
+-- So with the high byte.
 pub shown-high : (lanes w : ℕ) → hi (shown lanes w) ≡ cond (takes-high lanes) (hi w) 0
 shown-high lanes w = laid-high lanes 0 (lo w) (hi w) (omega arith) (omega arith)
 
+-- An answer on both lanes is the whole word.
 pub shown-whole : (w : ℕ) → w < 65536 → shown 3 w ≡ w
 unfolding lay takes-low takes-high
 shown-whole w p = whole-word w p

@@ -20,24 +20,27 @@ module _ (m : List ℕ) (n : WordNumber) where
   pub in-memory-when : in-memory m n ≡ true ↔ n .0 < length m
   in-memory-when = (ltb-true (n .0) (length m), lt-ltb (n .0) (length m))
 
-  -- A fetch brings memory's word, or FFFFh.
+  -- A fetch inside memory brings its word.
   pub fetched-inside : in-memory m n ≡ true → fetch-at m n ≡ record { word = getD m (n .0) 0; inside = true }
   unfolding fetch-at
   fetched-inside e = rw e
 
+  -- Beyond memory it brings FFFFh, and says so.
   pub fetched-beyond : in-memory m n ≡ false → fetch-at m n ≡ record { word = 65535; inside = false }
   unfolding fetch-at
   fetched-beyond e = rw e
 
-  -- A store beyond memory is dropped; one inside changes its own word and no other.
+  -- A store beyond memory is dropped.
   pub stored-beyond : (w : ℕ) → in-memory m n ≡ false → store-at m n w ≡ m
   unfolding store-at
   stored-beyond w e = rw e
 
+  -- A store inside is found in its own word.
   pub stored-here : (w : ℕ) → in-memory m n ≡ true → getD (store-at m n w) (n .0) 0 ≡ w
   unfolding store-at
   stored-here w e = rw e (getD-set-same m (n .0) w 0 (ltb-true _ _ e))
 
+  -- It changes no other word.
   pub stored-elsewhere : (w k : ℕ) → k ≢ n .0 → getD (store-at m n w) k 0 ≡ getD m k 0
   unfolding store-at
   stored-elsewhere w k d = go (in-memory m n)
@@ -46,6 +49,7 @@ module _ (m : List ℕ) (n : WordNumber) where
       go true = getD-set-other m (n .0) k w 0 d
       go false = refl
 
+  -- No store changes the length.
   pub stored-length : (w : ℕ) → length (store-at m n w) ≡ length m
   unfolding store-at
   stored-length w = go (in-memory m n)
@@ -54,11 +58,12 @@ module _ (m : List ℕ) (n : WordNumber) where
       go true = length-set m (n .0) w
       go false = refl
 
-  -- What was stored is fetched; what was fetched, stored again, changes nothing.
+  -- What was stored is fetched.
   pub fetch-stored : (w : ℕ) → in-memory m n ≡ true → fetch-at (store-at m n w) n ≡ record { word = w; inside = true }
   unfolding fetch-at
   fetch-stored w e = rw (stored-length w, e, stored-here w e)
 
+  -- What was fetched, stored again, changes nothing.
   pub store-fetched : store-at m n (fetch-at m n .word) ≡ m
   unfolding store-at fetch-at
   store-fetched = go (in-memory m n)

@@ -10,6 +10,7 @@ use Rattle.words.specs.declared.WordNumber.{WordNumber}
 pub one-value : {A : Type 0} {x r r′ : A} → r ≡ x → r′ ≡ x → r ≡ r′
 one-value p q = p ∙ sym q
 
+-- A store has one outcome.
 pub one-stored : {m m′ m″ : List ℕ} {n : WordNumber} {w : ℕ} {i j : Bool} →
     Stored m n w i m′ → Stored m n w j m″ → (i ≡ j) × (m′ ≡ m″)
 one-stored p q = (one-value (p .fell) (q .fell), one-value (p .memory) (q .memory))
