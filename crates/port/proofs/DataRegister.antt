@@ -3,8 +3,8 @@
 use Prim.Native.Nat.{ℕ}
 use mathlib.Core.Path.{_≡_, refl, ap, _∙_}
 use mathlib.Core.Bool.{Bool, true, false, cond, _&&_}
-use lib.Dec.{eqb}
 use mathlib.Core.List.{List}
+use lib.Dec.{eqb}
 use Rattle.words.specs.Addresses.{address, word-at}
 use Rattle.words.specs.Bytes.{replaced}
 use Rattle.words.specs.Memory.{store-at}
@@ -62,7 +62,7 @@ module _ (r : Registers) (m : List ℕ) where
       go true false s = refl
       go false u s = refl
 
-  -- "The pointer gains 16 modulo 2^32: after FFFFFFF0h comes 0", before a fetch and after a store.
+  -- "The pointer gains 16 modulo 2^32: after FFFFFFF0h comes 0": before a fetch.
   pub read-wraps : (lanes : ℕ) → access r m (Read 2 lanes) .answer .number ≡ 0 → closes c lanes ≡ true → incr c ≡ true → r .pointer ≡ address 0xfffffff0 →
       access r m (Read 2 lanes) .registers ≡ standing m c (address 0)
   read-wraps lanes n e i p = read-fetches lanes n e ∙ rw (i, p)

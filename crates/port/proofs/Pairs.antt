@@ -37,10 +37,12 @@ abbrev pub last-of : Registers → Sixteen → Begun
 last-of r a = begin-access (first-of r a .registers) (on (last-lane (r .control)) a)
 
 -- ---- the pointer's halves
+
+-- The low half of a pointer made of two halves is the first.
 pub low-of-halves : (l h : ℕ) → l < 65536 → low-half (halves l h) ≡ l
 low-of-halves l h p = omega arith
 
--- And its high half the other.
+-- Its high half is the second.
 pub high-of-halves : (l h : ℕ) → l < 65536 → h < 65536 → high-half (halves l h) ≡ h
 high-of-halves l h p q = omega arith
 
