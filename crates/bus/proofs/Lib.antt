@@ -1,5 +1,6 @@
+-- What the definitions of the bus say.
 pub mod Sources
-pub mod HighestFirst
 pub mod Numbers
+pub mod HighestFirst
 pub mod Requests
 pub mod InTurn

@@ -1,5 +1,6 @@
+-- What the definitions of HSTCTL say.
 pub mod BitPlaces
-pub mod LowByte
 pub mod BitTen
-pub mod ClosingByte
+pub mod LowByte
 pub mod Written
+pub mod ClosingByte

@@ -1,21 +1,28 @@
+-- The laws of the port, in reading order. Proofs of single functions are in the folders beside them.
+-- ---- an access that is accepted, and one that is refused; demand 1
 pub mod Taken
 pub mod Numbers
-pub mod OpenByte
-pub mod Pairs
-pub mod Alike
 pub mod One
-pub mod ProcessorSide
-pub mod AfterReset
+-- ---- the host's side, sentence by sentence
+pub mod RegisterWords
+pub mod Unselected
+pub mod OpenByte
 pub mod Leaves
 pub mod DataRegister
 pub mod OtherRegisters
 pub mod LowBits
+-- ---- the processor's side, and reset
+pub mod ProcessorSide
+pub mod AfterReset
+-- ---- demand 3: bytes and words end alike
+pub mod Pairs
+pub mod Alike
+-- ---- the tuner's law: every word is handed out
 pub mod Handed
 pub mod TableWords
 pub mod EveryWord
-pub mod RegisterWords
+-- ---- the keeper's law: no miss looks good
 pub mod Marks
 pub mod Origins
 pub mod NoMiss
 pub mod WholeWords
-pub mod Unselected

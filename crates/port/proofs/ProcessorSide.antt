@@ -5,7 +5,7 @@ use Prim.Native.Nat.{ℕ, _*_, _<_, _≤_}
 use native.Mathlib.Omega.{arith}
 use mathlib.Core.Path.{_≡_, refl, ap}
 use mathlib.Core.Bool.{Bool, true, false, cond}
-use mathlib.Core.Logic.{_↔_, _≢_}
+use mathlib.Core.Logic.{_⊎_, inl, inr, _↔_, _≢_}
 use lib.Dec.{eqb, ltb}
 use borrow.Author.Tests.{ltb-true, ltb-false, le-ltb}
 use Rattle.words.specs.Bytes.{lo, hi, takes-low, takes-high, lay}
@@ -20,8 +20,15 @@ use Rattle.port.specs.declared.ProcessorWrite.{ProcessorWrite}
 -- ---- demand 1
 -- n is the number of a call that names register k
 pub record Numbered (k n : ℕ) : Type 0 where
+  pub listed : (n ≡ 0) ⊎ (n ≡ 2)
   pub done : n ≡ 0 ↔ k ≤ 4
   pub unlisted : n ≡ 2 ↔ 4 < k
+
+served : (k : ℕ) → k ≤ 4 → Numbered k 0
+served k h = record { listed = inl refl; done = omega arith; unlisted = omega arith }
+
+away : (k : ℕ) → 4 < k → Numbered k 2
+away k h = record { listed = inr refl; done = omega arith; unlisted = omega arith }
 
 pub record ReadSays (k : ℕ) (x : ProcessorRead) : Type 0 where
   pub number : Numbered k (x .number)
@@ -37,8 +44,8 @@ unfolding processor-reads
 read-says r k = go (ltb 4 k) refl
   where
     go : (t : Bool) → ltb 4 k ≡ t → ReadSays k (cond t (record { number = 2; word = 0 }) (record { number = 0; word = processor-word r k }))
-    go true e = record { number = omega (arith, ltb-true 4 k e); refused = λ _. refl }
-    go false e = record { number = omega (arith, ltb-false 4 k e); refused = λ n. absurd (n refl) }
+    go true e = record { number = away k (ltb-true 4 k e); refused = λ _. refl }
+    go false e = record { number = served k (ltb-false 4 k e); refused = λ n. absurd (n refl) }
 
 -- A write by the processor answers 0 or 2, each when, and only then, and leaves the registers with 2.
 pub write-says : (r : Registers) (k w : ℕ) → WriteSays r k (processor-writes r k w)
@@ -46,8 +53,8 @@ unfolding processor-writes
 write-says r k w = go (ltb 4 k) refl
   where
     go : (t : Bool) → ltb 4 k ≡ t → WriteSays r k (cond t (record { number = 2; registers = r }) (record { number = 0; registers = processor-written r k w }))
-    go true e = record { number = omega (arith, ltb-true 4 k e); refused = λ _. refl }
-    go false e = record { number = omega (arith, ltb-false 4 k e); refused = λ n. absurd (n refl) }
+    go true e = record { number = away k (ltb-true 4 k e); refused = λ _. refl }
+    go false e = record { number = served k (ltb-false 4 k e); refused = λ n. absurd (n refl) }
 
 -- ---- what it reads
 module _ (r : Registers) where

@@ -1,7 +1,8 @@
+-- What the definitions of words say.
 pub mod Choices
+pub mod Addresses
 pub mod Bits
 pub mod Lanes
 pub mod ByBytes
-pub mod Addresses
 pub mod MemoryWords
 pub mod One
