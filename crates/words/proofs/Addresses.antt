@@ -2,7 +2,8 @@
 use Prim.Native.Nat.{ℕ, suc, _+_, _*_, _%_, _^_, _<_}
 use native.Mathlib.Omega.{arith}
 use mathlib.Core.Path.{_≡_, refl}
-use Rattle.words.specs.Addresses.{address, word-at, step}
+use mathlib.Core.Bool.{true, false}
+use Rattle.words.specs.Addresses.{address, word-at, step, stepped-from}
 use Rattle.words.specs.declared.BitAddress.{BitAddress}
 
 -- Bit address b is bit b mod 16 of word b div 16.
@@ -32,3 +33,7 @@ step-wraps = refl
 -- The stepped address has 32 bits.
 pub step-fits : (a : BitAddress) → step a .0 < 2 ^ 32
 step-fits a = omega arith
+
+-- A step that is taken goes one word on; where none is taken the address stays.
+pub step-or-stay : (a : BitAddress) → (stepped-from true a ≡ step a) × (stepped-from false a ≡ a)
+step-or-stay a = (refl, refl)
