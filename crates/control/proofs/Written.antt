@@ -11,15 +11,18 @@ use Rattle.control.specs.Control.{msgin, intin, msgout, intout, bare, ho
 use Rattle.control.proofs.LowByte.{Parts, host-parts, host-byte, processor-parts, processor-byte}
 use Rattle.control.proofs.BitTen.{ten-hidden}
 
+high-below : (v : ℕ) → hi v < 256
+high-below v = omega arith
+
 -- low is the writer's rule for the low byte
 module _ (low : ℕ → ℕ → ℕ) (byte : (x y : ℕ) → low x y < 256) (lanes c w : ℕ) where
   -- The low byte follows the writer's rule if it is selected, and else stays.
   pub low-lane : lo (control-laid low lanes c w) ≡ cond (takes-low lanes) (low (lo c) (lo w)) (lo c)
-  low-lane = laid-low lanes c (low (lo c) (lo w)) (hi (bare w)) (byte (lo c) (lo w)) (omega arith)
+  low-lane = laid-low lanes c _ _ (byte _ _) (high-below _)
 
   -- The high byte is the written one without bit 10 if it is selected, and else stays.
   pub high-lane : hi (control-laid low lanes c w) ≡ cond (takes-high lanes) (hi (bare w)) (hi c)
-  high-lane = laid-high lanes c (low (lo c) (lo w)) (hi (bare w)) (byte (lo c) (lo w)) (omega arith)
+  high-lane = laid-high lanes c _ _ (byte _ _) (high-below _)
 
   -- A high bit that is written is the word's, but for bit 10, which is left 0.
   pub high-bit-written : takes-high lanes ≡ true → (i : ℕ) → i < 8 → bit (control-laid low lanes c w) (8 + i) ≡ bit (bare w) (8 + i)

@@ -12,7 +12,7 @@ use Rattle.words.proofs.ByBytes.{lay-both, replaced-both, shown-both}
 use Rattle.control.specs.Control.{lbl, bare, host-low, control-laid, closes, fetches, first-lane, last-lane}
 use Rattle.control.proofs.LowByte.{host-byte}
 use Rattle.control.proofs.ClosingByte.{first-is-open, last-closes, both-close}
-use Rattle.port.specs.Registers.{low-half, high-half, halves, with-pointer, with-latch, with-control, register-word, half-written, written}
+use Rattle.port.specs.Registers.{low-half, high-half, halves, with-pointer, with-control, register-word, half-written, written}
 use Rattle.port.specs.Host.{read-due, write-due, begin-access}
 use Rattle.port.specs.Runs.{Sixteen, load, save, on}
 use Rattle.port.specs.declared.Registers.{Registers}
@@ -126,7 +126,7 @@ module _ (r : Registers) where
   begin-pair (save (suc zero) w) =
       write-pair 1 w (rw (last-closes c, both-close c)) (ap (with-pointer r) (high-both (lbl c) (r .pointer) w))
   begin-pair (save (suc (suc zero)) w) =
-      write-pair 2 w (rw (last-closes c, both-close c)) (ap (λ (v : ℕ). with-latch r v (r .hollow)) (replaced-both (lbl c) (r .latch) w))
+      write-pair 2 w (rw (last-closes c, both-close c)) (rw (replaced-both (lbl c) (r .latch) w))
   begin-pair (save (suc (suc (suc k))) w) =
       let h : 2 < suc (suc (suc k)) = omega arith in
       write-pair (suc (suc (suc k))) w

@@ -27,6 +27,7 @@ takes-low lanes = eqb lanes 1 || eqb lanes 3
 unfoldable pub takes-high : ℕ → Bool
 takes-high lanes = eqb lanes 2 || eqb lanes 3
 
+-- "lanes not 1, 2 or 3" are refused
 unfoldable pub are-lanes : ℕ → Bool
 are-lanes lanes = eqb lanes 1 || (eqb lanes 2 || eqb lanes 3)
 
