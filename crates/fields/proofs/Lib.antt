@@ -1,0 +1,5 @@
+pub mod WordBits
+pub mod Steps
+pub mod WordByWord
+pub mod Costs
+pub mod Accepted

@@ -1,0 +1,83 @@
+-- The part of a field that lies in one word, done at once: n bits of that word from bit o on are the field's next n bits.
+-- By induction on n, a bit at a time.
+use Prim.Native.Nat.{ℕ, zero, suc, _+_, _*_, _/_, _%_, _^_, _≤_, _<_}
+use native.Mathlib.Nat.{add-zero, add-suc, add-mul, mod-one}
+use native.Mathlib.Numerals.{add-one}
+use native.Mathlib.Omega.{arith}
+use mathlib.Core.Path.{_≡_, refl, sym, ap, _∙_}
+use mathlib.Core.Bool.{Bool, true, false, cond}
+use mathlib.Core.List.{List}
+use lib.ListN.{length, getD, set, length-set}
+use lib.Seq.{getD-set-same, set-set, set-getD}
+use Rattle.words.specs.Bytes.{bit}
+use Rattle.words.specs.declared.BitAddress.{BitAddress}
+use Rattle.words.proofs.Bits.{bit-of-quotient}
+use Rattle.fields.specs.Field.{ahead, memory-bit, with-bit, set-memory-bit, field-at, with-field}
+use Rattle.fields.specs.Parts.{with-bits}
+use Rattle.fields.proofs.WordBits.{weight-up, one-bit-more, no-bits, next-bit}
+
+-- ---- a bit address by word and bit of the word
+
+module _ (m : List ℕ) (b : BitAddress) (w o : ℕ) (e : b .0 ≡ w * 16 + o) (l : o < 16) where
+  pub bit-in : memory-bit m b ≡ bit (getD m w 0) o
+  unfolding memory-bit
+  bit-in =
+      let q : b .0 / 16 ≡ w = omega arith in
+      let r : b .0 % 16 ≡ o = omega arith in
+      rw (q, r)
+
+  pub set-bit-in : (v : Bool) → set-memory-bit m b v ≡ set m w (with-bit (getD m w 0) o v)
+  unfolding set-memory-bit
+  set-bit-in v =
+      let q : b .0 / 16 ≡ w = omega arith in
+      let r : b .0 % 16 ≡ o = omega arith in
+      rw (q, r)
+
+-- ---- lengths
+
+set-length : (m : List ℕ) (b : BitAddress) (v : Bool) → length (set-memory-bit m b v) ≡ length m
+unfolding set-memory-bit
+set-length m b v = length-set m (b .0 / 16) _
+
+-- No putting in changes the memory's length.
+pub put-length : (m : List ℕ) (a : BitAddress) (n v : ℕ) → length (with-field m a n v) ≡ length m
+unfolding with-field
+put-length m a zero v = refl
+put-length m a (suc n) v = set-length (with-field m a n v) (ahead a n) (bit v n) ∙ put-length m a n v
+
+-- ---- the next n bits
+
+module _ (m : List ℕ) (a : BitAddress) (d w o : ℕ) (e : a .0 + d ≡ w * 16 + o) where
+  pub take-part : (n : ℕ) → o + n ≤ 16 → field-at m a (d + n) ≡ field-at m a d + getD m w 0 / 2 ^ o % 2 ^ n * 2 ^ d
+  unfolding field-at
+  take-part zero l = rw (add-zero d, mod-one (getD m w 0 / 2 ^ o)) (omega arith)
+  take-part (suc n) l =
+      let x : ℕ = getD m w 0 in
+      let here : memory-bit m (ahead a (d + n)) ≡ bit x (o + n) = bit-in m (ahead a (d + n)) w (o + n) (omega arith) (omega arith) in
+      let more : x / 2 ^ o % 2 ^ (n + 1) * 2 ^ d ≡ cond (bit x (o + n)) (2 ^ (d + n)) 0 + x / 2 ^ o % 2 ^ n * 2 ^ d =
+      ap (λ (y : ℕ). y * 2 ^ d) (one-bit-more (x / 2 ^ o) n) ∙ add-mul _ _ _
+      ∙ ap (λ (y : ℕ). y + x / 2 ^ o % 2 ^ n * 2 ^ d) (weight-up (bit (x / 2 ^ o) n) n d ∙ rw (bit-of-quotient x o n))
+      in rw (add-suc d n, here, take-part n (omega arith), ← add-one n, more) (omega arith)
+
+  pub put-part : (v n : ℕ) → o + n ≤ 16 → w < length m
+      → with-field m a (d + n) v ≡ set (with-field m a d v) w (with-bits (getD (with-field m a d v) w 0) o n (v / 2 ^ d))
+  unfolding with-field
+  put-part v zero l h = rw (add-zero d, no-bits, set-getD)
+  put-part v (suc n) l h =
+      let M : List ℕ = with-field m a d v in
+      let x : ℕ = getD M w 0 in
+      let inside : w < length M = rw (put-length m a d v) h in
+      let here = set-bit-in (set M w (with-bits x o n (v / 2 ^ d))) (ahead a (d + n)) w (o + n) (omega arith) (omega arith) (bit v (d + n)) in
+      rw (add-suc d n, put-part v n (omega arith) h, here, getD-set-same M w (with-bits x o n (v / 2 ^ d)) 0 inside, set-set, ← bit-of-quotient v d n, next-bit, add-one n)
+
+-- ---- the field's size
+
+add-weight : (b : Bool) (x n : ℕ) → x < 2 ^ n → x + cond b (2 ^ n) 0 < 2 ^ suc n
+add-weight true x n h = omega arith
+add-weight false x n h = omega arith
+
+-- A field of n bits is a number of n bits.
+pub field-fits : (m : List ℕ) (a : BitAddress) (n : ℕ) → field-at m a n < 2 ^ n
+unfolding field-at
+field-fits m a zero = omega arith
+field-fits m a (suc n) = add-weight (memory-bit m (ahead a n)) (field-at m a n) n (field-fits m a n)

@@ -1,0 +1,13 @@
+-- `fields::parts::cost_of` meets its contract: its test is the definition's.
+use borrow.Author.Tests.{eq-eqb, ne-eqb}
+use Rattle.fields.proofs.parts.cost_of.Statement.{statement}
+use Rattle.fields.proofs.parts.cost_of.Tie as tie
+
+returns : tie.Need-returns
+returns c = rw (eq-eqb _ _ (c .if1 .taken))
+
+returns-2 : tie.Need-returns-2
+returns-2 c = rw (ne-eqb _ _ (c .if1 .left))
+
+pub cost-of-spec : {M : Type 1} → statement M
+cost-of-spec = tie.close (tie.spec returns returns-2)

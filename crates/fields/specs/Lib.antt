@@ -1,0 +1,4 @@
+pub mod Field
+pub mod Count
+pub mod Answers
+pub mod Parts
