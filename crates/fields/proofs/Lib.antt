@@ -3,3 +3,5 @@ pub mod Steps
 pub mod WordByWord
 pub mod Costs
 pub mod Accepted
+pub mod Answered
+pub mod Signs

@@ -1,26 +1,21 @@
-use borrow.Author.Needs.{needs}
+-- `fields::take_out` meets its contract: it gathers what is accepted, and answers zeros to what is refused.
+use mathlib.Core.Path.{sym, _∙_}
+use Rattle.fields.proofs.Accepted.{is-accepted}
+use Rattle.fields.proofs.Answered.{taken-done, taken-refused}
 use Rattle.fields.proofs.take_out.Statement.{statement}
 use Rattle.fields.proofs.take_out.Tie as tie
-use Rattle.fields.proofs.take_out.Reads as reads
-use Rattle.fields.proofs.take_out.Lts as lts
-use Rattle.fields.proofs.parts.gather.Reads as gather-reads
-use Rattle.fields.proofs.refusal_of.Reads as refusal-of-reads
 
--- src/lib.rt:65:9
 refusal-of-requires : tie.Need-refusal-of-requires
-refusal-of-requires c κs = search needs
+refusal-of-requires c κs = tt
 
--- src/lib.rt:67:9
 gather-requires : tie.Need-gather-requires
-gather-requires c κs = ?
+gather-requires c κs = is-accepted _ _ _ (sym (c .before .refusal-of .ensures) ∙ c .if1 .taken)
 
--- src/lib.rt:67:9
 returns : tie.Need-returns
-returns c = ?
+returns c = c .gather .ensures ∙ sym (taken-done _ _ _ (sym (c .before .before .refusal-of .ensures) ∙ c .before .if1 .taken))
 
--- src/lib.rt:62:1
 returns-2 : tie.Need-returns-2
-returns-2 c = ?
+returns-2 c = rw (c .before .refusal-of .ensures) (sym (taken-refused _ _ _ (λ e. c .if1 .left (c .before .refusal-of .ensures ∙ e))))
 
 pub take-out-spec : {M : Type 1} → statement M
 take-out-spec = tie.close (tie.spec refusal-of-requires gather-requires returns returns-2)

@@ -1,31 +1,33 @@
-use borrow.Author.Needs.{needs}
+-- `fields::take_out_signed` meets its contract: it gathers what is accepted and reads it as signed, and answers zeros to what
+-- is refused.
+use borrow.Author.Needs.{sfits-of}
+use mir.Facts.{toZ-ofZ}
+use mir.Syntax.{w32}
+use mathlib.Core.Path.{sym, _∙_}
+use Rattle.fields.proofs.Accepted.{is-accepted}
+use Rattle.fields.proofs.Answered.{signed-done, signed-refused}
+use Rattle.fields.proofs.Steps.{field-fits}
 use Rattle.fields.proofs.take_out_signed.Statement.{statement}
 use Rattle.fields.proofs.take_out_signed.Tie as tie
-use Rattle.fields.proofs.take_out_signed.Reads as reads
-use Rattle.fields.proofs.take_out_signed.Lts as lts
-use Rattle.fields.proofs.parts.gather.Reads as gather-reads
-use Rattle.fields.proofs.parts.signed_of.Reads as signed-of-reads
-use Rattle.fields.proofs.refusal_of.Reads as refusal-of-reads
 
--- src/lib.rt:80:9
 refusal-of-requires : tie.Need-refusal-of-requires
-refusal-of-requires c κs = search needs
+refusal-of-requires c κs = tt
 
--- src/lib.rt:82:13
 gather-requires : tie.Need-gather-requires
-gather-requires c κs = ?
+gather-requires c κs = is-accepted _ _ _ (sym (c .before .refusal-of .ensures) ∙ c .if1 .taken)
 
--- src/lib.rt:85:20
 signed-of-requires : tie.Need-signed-of-requires
-signed-of-requires c κs = ?
+signed-of-requires c κs =
+    let i = is-accepted _ _ _ (sym (c .before .before .refusal-of .ensures) ∙ c .before .if1 .taken) in
+    (i .some, (i .most, rw (c .gather .ensures) (field-fits _ _ _)))
 
--- src/lib.rt:83:9
 returns : tie.Need-returns
-returns c = ?
+returns c =
+    rw (toZ-ofZ (sfits-of {w = w32} (c .signed-of .ok)), c .signed-of .ensures, c .before .gather .ensures)
+    (sym (signed-done _ _ _ (sym (c .before .before .before .refusal-of .ensures) ∙ c .before .before .if1 .taken)))
 
--- src/lib.rt:77:1
 returns-2 : tie.Need-returns-2
-returns-2 c = ?
+returns-2 c = rw (c .before .refusal-of .ensures) (sym (signed-refused _ _ _ (λ e. c .if1 .left (c .before .refusal-of .ensures ∙ e))))
 
 pub take-out-signed-spec : {M : Type 1} → statement M
 take-out-signed-spec =

@@ -1,0 +1,47 @@
+-- The answer to a field that is accepted, and to one that is refused.
+use Prim.Native.Nat.{ℕ}
+use mathlib.Core.Path.{_≡_}
+use mathlib.Core.List.{List}
+use mathlib.Core.Logic.{_≢_}
+use lib.IntN.{pos}
+use lib.ListN.{length}
+use borrow.Author.Tests.{ne-eqb}
+use Rattle.words.specs.declared.BitAddress.{BitAddress}
+use Rattle.fields.specs.Field.{field-at, with-field, signed}
+use Rattle.fields.specs.Count.{take-cycles, put-cycles}
+use Rattle.fields.specs.Answers.{refusal, done-taking, taken, taken-signed, put-answer, put-memory}
+
+module _ (m : List ℕ) (a : BitAddress) (n : ℕ) where
+  module _ (e : refusal (length m) a n ≡ 0) where
+    pub taken-done : taken m a n ≡ done-taking m a n
+    unfolding taken
+    taken-done = rw e
+
+    pub signed-done : taken-signed m a n ≡ record { number = 0; value = signed n (field-at m a n); cycles = take-cycles a n }
+    unfolding taken-signed
+    signed-done = rw e
+
+    pub put-done : put-answer (length m) a n ≡ record { number = 0; cycles = put-cycles a n }
+    unfolding put-answer
+    put-done = rw e
+
+    pub memory-done : (v : ℕ) → put-memory m a n v ≡ with-field m a n v
+    unfolding put-memory
+    memory-done v = rw e
+
+  module _ (e : refusal (length m) a n ≢ 0) where
+    pub taken-refused : taken m a n ≡ record { number = refusal (length m) a n; value = 0; cycles = 0 }
+    unfolding taken
+    taken-refused = rw (ne-eqb _ _ e)
+
+    pub signed-refused : taken-signed m a n ≡ record { number = refusal (length m) a n; value = pos 0; cycles = 0 }
+    unfolding taken-signed
+    signed-refused = rw (ne-eqb _ _ e)
+
+    pub put-refused : put-answer (length m) a n ≡ record { number = refusal (length m) a n; cycles = 0 }
+    unfolding put-answer
+    put-refused = rw (ne-eqb _ _ e)
+
+    pub memory-refused : (v : ℕ) → put-memory m a n v ≡ m
+    unfolding put-memory
+    memory-refused v = rw (ne-eqb _ _ e)
