@@ -5,3 +5,6 @@ pub mod Costs
 pub mod Accepted
 pub mod Answered
 pub mod Signs
+pub mod OneBit
+pub mod Readings
+pub mod RoundTrips

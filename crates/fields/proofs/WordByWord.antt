@@ -2,7 +2,7 @@
 -- The arithmetic is `omega`'s, once a part's place in its word is named (`Next`).
 use Prim.Native.Nat.{ℕ, _+_, _-_, _*_, _/_, _^_, _≤_, _<_, min}
 use native.Mathlib.Omega.{arith}
-use mathlib.Core.Path.{_≡_, refl, ap, _∙_}
+use mathlib.Core.Path.{_≡_, refl, sym, ap, subst, _∙_}
 use Rattle.words.specs.Addresses.{word-at}
 use Rattle.words.specs.declared.BitAddress.{BitAddress}
 use Rattle.fields.specs.Count.{last-word, touched}
@@ -17,20 +17,8 @@ pub record Next (a : BitAddress) (n d : ℕ) (p : Part) : Type 0 where
   pub bit : p .from < 16
   pub count : p .count ≡ min (16 - p .from) (n - d)
 
-pub is-next : (a : BitAddress) (n d : ℕ) → Next a n d (next-part a n d)
+is-next : (a : BitAddress) (n d : ℕ) → Next a n d (next-part a n d)
 is-next a n d = record { place = omega arith; bit = omega arith; count = refl }
-
--- It has a bit at least, it stays in its word, and it does not go past the field.
-pub record Moves (n d : ℕ) (p : Part) : Type 0 where
-  pub less : n - (d + p .count) < n - d
-  pub in-word : p .from + p .count ≤ 16
-  pub in-field : d + p .count ≤ n
-
-pub moves : (a : BitAddress) (n d : ℕ) (p : Part) → Next a n d p → d < n → Moves n d p
-moves a n d p h l =
-    let b : p .from < 16 = h .bit in
-    let e : p .count ≡ min (16 - p .from) (n - d) = h .count in
-    record { less = omega arith; in-word = omega arith; in-field = omega arith }
 
 -- ---- how far the loops are
 
@@ -54,7 +42,7 @@ module _ (a : BitAddress) (n c d : ℕ) (p : Part) (h : Way a n c d) (l : d < n)
       let b : p .from < 16 = q .bit in
       omega arith
 
-  pub way-in : p .word .0 ≤ last-word a n .0
+  way-in : p .word .0 ≤ last-word a n .0
   way-in =
       let e : p .word .0 * 16 + p .from ≡ a .0 + d = q .place in
       let b : p .from < 16 = q .bit in
@@ -76,9 +64,35 @@ module _ (a : BitAddress) (n c d : ℕ) (p : Part) (h : Way a n c d) (l : d < n)
       let i : d ≡ min n ((a .0 / 16 + c) * 16 - a .0) = h .here in
       rw e (omega arith)
 
+-- All bits are done: every word touched was passed.
 pub way-end : (a : BitAddress) (n c d : ℕ) → Way a n c d → n ≤ d → 1 ≤ n → (d ≡ n) × (c ≡ touched a n)
 unfolding touched
 way-end a n c d h l s =
     let i : d ≡ min n ((a .0 / 16 + c) * 16 - a .0) = h .here in
     let j : a .0 / 16 + c ≤ (a .0 + (n - 1)) / 16 + 1 = h .words in
     (omega arith, omega arith)
+
+-- ---- one turn
+
+-- What a turn of a loop needs of the part p that it works on: its place in memory and in the field, and how far the loop then is.
+pub record Turn (a : BitAddress) (n c d : ℕ) (p : Part) : Type 0 where
+  pub next : Next a n d p
+  pub in-word : p .from + p .count ≤ 16
+  pub in-field : d + p .count ≤ n
+  pub in-touched : p .word .0 ≤ last-word a n .0
+  pub less : n - (d + p .count) < n - d
+  pub way : Way a n (c + 1) (d + p .count)
+
+pub turn : (a : BitAddress) (n c d : ℕ) (p : Part) → Way a n c d → d < n → p ≡ next-part a n d → Turn a n c d p
+turn a n c d p h l e =
+    let q : Next a n d p = subst (Next a n d) (sym e) (is-next a n d) in
+    let b : p .from < 16 = q .bit in
+    let k : p .count ≡ min (16 - p .from) (n - d) = q .count in
+    record {
+      next = q;
+      in-word = omega arith;
+      in-field = omega arith;
+      in-touched = way-in a n c d p h l q;
+      less = omega arith;
+      way = way-next a n c d p h l q;
+    }

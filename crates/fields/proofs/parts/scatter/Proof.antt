@@ -1,42 +1,47 @@
 -- `fields::parts::scatter` meets its contract: after each turn the memory has the bits done so far put in (`put-part`),
 -- and the cycles are the sum over the words passed (`Spent`).
 use native.Mathlib.Omega.{arith}
-use Prim.Native.Nat.{_+_, _-_, _^_, _≤_, _<_}
-use mathlib.Core.Path.{_≡_, refl, sym, ap, subst, _∙_}
+use Prim.Native.Nat.{ℕ, _+_, _-_, _^_, _≤_, _<_}
+use mathlib.Core.Path.{_≡_, refl, sym, ap, _∙_}
 use mathlib.Core.Bool.{cond}
+use mathlib.Core.List.{List}
 use lib.Dec.{eqb}
 use lib.ListN.{length}
 use lib.Pow.{pow-pos}
+use Rattle.words.specs.declared.BitAddress.{BitAddress}
 use Rattle.fields.specs.Field.{with-field}
 use Rattle.fields.proofs.Steps.{put-part, put-length}
-use Rattle.fields.proofs.WordByWord.{Next, is-next, Moves, moves, way-in}
+use Rattle.fields.proofs.WordByWord.{Turn, turn}
 use Rattle.fields.proofs.Costs.{Spent, spent-start, spent-next, spent-end}
 use Rattle.fields.proofs.parts.scatter.Statement.{statement}
 use Rattle.fields.proofs.parts.scatter.Tie as tie
 
+-- After `done` bits: the cycles, and the memory.
+record Scattering (m : List ℕ) (a : BitAddress) (n v : ℕ) (m′ : List ℕ) (cycles done : ℕ) : Type 0 where
+  pub spent : Spent a n done cycles
+  pub memory-is : m′ ≡ with-field m a done v
+
 abbrev Inv-loop : tie.InvT-loop
-Inv-loop memory₀ at size value cycles₀ done₀ memory cycles done = Spent at size done cycles × (memory ≡ with-field memory₀ at done value)
+Inv-loop memory₀ at size value cycles₀ done₀ memory cycles done = Scattering memory₀ at size value memory cycles done
 
 abbrev μ-loop : tie.MeasureT-loop
 μ-loop memory₀ at size value cycles₀ done₀ memory cycles done = size - done
 
 loop-holds : tie.Need-loop-holds Inv-loop μ-loop
 unfolding with-field
-loop-holds c = (spent-start _ _, refl)
+loop-holds c = record { spent = spent-start _ _; memory-is = refl }
 
 next-part-of-requires : tie.Need-next-part-of-requires Inv-loop μ-loop
 next-part-of-requires c κs = (c .loop-test .taken, omega arith)
 
 -- The part that the turn works on.
-next : (c : tie.After-next-part-of Inv-loop μ-loop) →
+part : (c : tie.After-next-part-of Inv-loop μ-loop) →
     let l = c .before .before in
     let g = l .before .before .args in
-    Next (g .at) (g .size) (l .loop .done) (c .next-part-of .result)
-next c = subst (Next _ _ _) (sym (c .next-part-of .ensures)) (is-next _ _ _)
-
-moved : (c : tie.After-next-part-of Inv-loop μ-loop) →
-    Moves (c .before .before .before .before .args .size) (c .before .before .loop .done) (c .next-part-of .result)
-moved c = moves _ _ _ _ (next c) (c .before .loop-test .taken)
+    Turn (g .at) (g .size) (l .loop .inv .spent .passed) (l .loop .done) (c .next-part-of .result)
+part c =
+    let l = c .before .before in
+    turn _ _ _ _ _ (l .loop .inv .spent .way) (c .before .loop-test .taken) (c .next-part-of .ensures)
 
 -- Its word is in memory, as memory stood and as it is now.
 there : (c : tie.After-next-part-of Inv-loop μ-loop) →
@@ -46,16 +51,16 @@ there : (c : tie.After-next-part-of Inv-loop μ-loop) →
 there c =
     let l = c .before .before in
     let h : c .next-part-of .result .word .0 < length (l .before .before .args .memory .now) =
-        omega (arith, way-in _ _ _ _ _ (l .loop .inv .0 .way) (c .before .loop-test .taken) (next c), l .before .before .pre .there)
-    in (h, rw (l .loop .inv .1, put-length) h)
+        omega (arith, part c .in-touched, l .before .before .pre .there)
+    in (h, rw (l .loop .inv .memory-is, put-length) h)
 
 -- The cycles after the turn.
-turn : (c : tie.After-next-part-of Inv-loop μ-loop) →
+after : (c : tie.After-next-part-of Inv-loop μ-loop) →
     let l = c .before .before in
     let g = l .before .before .args in
     let k = c .next-part-of .result .count in
     Spent (g .at) (g .size) (l .loop .done + k) (l .loop .cycles + cond (eqb k 16) 1 2)
-turn c = spent-next _ _ _ _ _ (c .before .before .loop .inv .0) (c .before .loop-test .taken) (next c)
+after c = spent-next _ _ _ _ _ (c .before .before .loop .inv .spent) (c .before .loop-test .taken) (part c .next)
 
 cast-i : tie.Need-cast-i Inv-loop μ-loop
 cast-i c = omega (arith, there (c .before) .0)
@@ -73,7 +78,7 @@ div-replace-bits : tie.Need-div-replace-bits Inv-loop μ-loop
 div-replace-bits c = rw (c .pow2 .ensures) (pow-pos _)
 
 replace-bits-requires : tie.Need-replace-bits-requires Inv-loop μ-loop
-replace-bits-requires c κs = moved (c .before .before .before) .in-word
+replace-bits-requires c κs = part (c .before .before .before) .in-word
 
 mul-memory : tie.Need-mul-memory Inv-loop μ-loop
 mul-memory c = omega (arith, there (c .before .before .before .before) .0)
@@ -82,39 +87,40 @@ slice-write-memory : tie.Need-slice-write-memory Inv-loop μ-loop
 slice-write-memory c = there (c .before .before .before .before) .1
 
 add-done : tie.Need-add-done Inv-loop μ-loop
-add-done c = omega (arith, moved (c .before .before .before .before .before) .in-field)
+add-done c = omega (arith, part (c .before .before .before .before .before) .in-field)
 
 cost-of-requires : tie.Need-cost-of-requires Inv-loop μ-loop
 cost-of-requires c κs = tt
 
 add-cycles : tie.Need-add-cycles Inv-loop μ-loop
 add-cycles c =
-    let t = turn (c .before .before .before .before .before .before) in
+    let t = after (c .before .before .before .before .before .before) in
     rw (c .cost-of .ensures) (omega (arith, t .little, t .way .words))
 
 loop-less : tie.Need-loop-less Inv-loop μ-loop
-loop-less c = moved (c .before .before .before .before .before .before) .less
+loop-less c = part (c .before .before .before .before .before .before) .less
 
 loop-again : tie.Need-loop-again Inv-loop μ-loop
 loop-again c =
     let n = c .before .before .before .before .before .before in
     let l = n .before .before in
     let g = l .before .before .args in
-    let p = n .next-part-of .result in (
-      rw (c .cost-of .ensures) (turn n),
-      rw (c .before .before .replace-bits .ensures, c .before .before .before .pow2 .ensures, l .loop .inv .1)
+    let p = n .next-part-of .result in
+    record {
+      spent = rw (c .cost-of .ensures) (after n);
+      memory-is = rw (c .before .before .replace-bits .ensures, c .before .before .before .pow2 .ensures, l .loop .inv .memory-is)
           (sym (put-part (g .memory .now) (g .at) (l .loop .done) (p .word .0) (p .from)
-          (sym (next n .place)) (g .value) (p .count) (moved n .in-word) (there n .0))),
-    )
+          (sym (part n .next .place)) (g .value) (p .count) (part n .in-word) (there n .0)));
+    }
 
 same-length : tie.Need-same-length Inv-loop μ-loop
-same-length c = ap length (c .before .loop .inv .1) ∙ put-length _ _ _ _
+same-length c = ap length (c .before .loop .inv .memory-is) ∙ put-length _ _ _ _
 
 returns : tie.Need-returns Inv-loop μ-loop
 returns c =
     let l = c .before .loop in
-    let z = spent-end _ _ _ _ (l .inv .0) (c .loop-test .left) (c .before .before .before .pre .some) in
-    record { count = z .1; memory = rw (l .inv .1, z .0) }
+    let z = spent-end _ _ _ _ (l .inv .spent) (c .loop-test .left) (c .before .before .before .pre .some) in
+    record { count = z .1; memory = rw (l .inv .memory-is, z .0) }
 
 pub scatter-spec : {M : Type 1} → statement M
 scatter-spec =

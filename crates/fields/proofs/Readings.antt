@@ -1,0 +1,117 @@
+-- What the definitions of a field say, bit by bit: bit i of a field is memory bit address + i; putting in makes memory bit
+-- address + i the value's bit i, and changes no other bit. Each law goes by induction on the field's bits.
+use Prim.Native.Nat.{ℕ, zero, suc, _+_, _-_, _*_, _/_, _%_, _^_, _≤_, _<_}
+use native.Mathlib.Nat.{add-comm, mod-eq-of-lt}
+use native.Mathlib.Omega.{arith}
+use mathlib.Core.Path.{_≡_, refl, sym, ap, subst, _∙_}
+use mathlib.Core.Bool.{Bool, false, cond}
+use mathlib.Core.List.{List}
+use mathlib.Core.Logic.{⊎-elim, _≢_}
+use lib.ListN.{length, getD, set}
+use lib.Seq.{set-out, getD-set-same, getD-set-other, set-getD}
+use Rattle.words.specs.Addresses.{word-at}
+use Rattle.words.specs.Bytes.{bit}
+use Rattle.words.specs.declared.BitAddress.{BitAddress}
+use Rattle.words.proofs.Bits.{bit-above, bit-of-remainder}
+use Rattle.fields.specs.Field.{ahead, memory-bit, with-bit, set-memory-bit, field-at, with-field}
+use Rattle.fields.proofs.OneBit.{less-or-not, same-or-not, top-is, rest-is, bit-made, bit-kept, bit-as-it-is, bit-fits}
+use Rattle.fields.proofs.Steps.{put-length, field-fits}
+
+-- ---- one bit of memory
+
+module _ (m : List ℕ) (b : BitAddress) where
+  -- A bit of a word in memory is made what is asked.
+  pub made : (v : Bool) → word-at b .0 < length m → memory-bit (set-memory-bit m b v) b ≡ v
+  unfolding memory-bit set-memory-bit
+  made v h = rw (getD-set-same m (b .0 / 16) (with-bit (getD m (b .0 / 16) 0) (b .0 % 16) v) 0 h) (bit-made (getD m (b .0 / 16) 0) (b .0 % 16) v)
+
+  -- No other bit changes.
+  pub kept : (v : Bool) (c : BitAddress) → c .0 ≢ b .0 → memory-bit (set-memory-bit m b v) c ≡ memory-bit m c
+  unfolding memory-bit set-memory-bit
+  kept v c d =
+      let w : ℕ = b .0 / 16 in
+      let x : ℕ = with-bit (getD m w 0) (b .0 % 16) v in
+      ⊎-elim
+      (λ e. ⊎-elim
+      (λ l. ap (λ (k : ℕ). bit (getD (set m w x) k 0) (c .0 % 16)) e
+      ∙ ap (λ (y : ℕ). bit y (c .0 % 16)) (getD-set-same m w x 0 l)
+      ∙ bit-kept (getD m w 0) (b .0 % 16) v (c .0 % 16) (λ f. d (omega (arith, e, f)))
+      ∙ ap (λ (k : ℕ). bit (getD m k 0) (c .0 % 16)) (sym e))
+      (λ l. rw (set-out m w x l))
+      (less-or-not w (length m)))
+      (λ n. rw (getD-set-other m w (c .0 / 16) x 0 n))
+      (same-or-not (c .0 / 16) w)
+
+  -- A bit made what it is changes nothing.
+  pub as-it-is : set-memory-bit m b (memory-bit m b) ≡ m
+  unfolding memory-bit set-memory-bit
+  as-it-is = rw (bit-as-it-is (getD m (b .0 / 16) 0) (b .0 % 16), set-getD)
+
+-- ---- taking out
+
+-- Bit i of a field is memory bit address + i.
+pub field-bit : (m : List ℕ) (a : BitAddress) (n i : ℕ) → i < n → bit (field-at m a n) i ≡ memory-bit m (ahead a i)
+unfolding field-at
+field-bit m a zero i l = absurd (omega arith)
+field-bit m a (suc n) i l =
+    let f : ℕ = field-at m a n in
+    let t : Bool = memory-bit m (ahead a n) in
+    rw (add-comm f (cond t (2 ^ n) 0))
+    (⊎-elim
+    (λ e. rw e (top-is n f (field-fits m a n) t))
+    (λ d. let k : i < n = omega (arith, d) in
+    sym (bit-of-remainder (cond t (2 ^ n) 0 + f) n i k)
+    ∙ ap (λ (x : ℕ). bit x i) (rest-is n f (field-fits m a n) t) ∙ field-bit m a n i k)
+    (same-or-not i n))
+
+-- It has no bit beyond its size.
+pub field-bit-beyond : (m : List ℕ) (a : BitAddress) (n i : ℕ) → n ≤ i → bit (field-at m a n) i ≡ false
+field-bit-beyond m a n i l = bit-above n (field-fits m a n) l
+
+-- ---- putting in
+
+-- Memory bit address + i becomes the value's bit i.
+pub put-bit : (m : List ℕ) (a : BitAddress) (n v i : ℕ) → i < n → word-at (ahead a i) .0 < length m
+    → memory-bit (with-field m a n v) (ahead a i) ≡ bit v i
+unfolding with-field
+put-bit m a zero v i l h = absurd (omega arith)
+put-bit m a (suc n) v i l h =
+    ⊎-elim
+    (λ e. rw e (made (with-field m a n v) (ahead a n) (bit v n) (rw put-length (rw e at h))))
+    (λ d. kept (with-field m a n v) (ahead a n) (bit v n) (ahead a i) (λ f. d (omega (arith, f)))
+    ∙ put-bit m a n v i (omega (arith, d)) h)
+    (same-or-not i n)
+
+-- No bit outside the field changes.
+pub put-elsewhere : (m : List ℕ) (a : BitAddress) (n v : ℕ) (b : BitAddress) → ((i : ℕ) → i < n → b .0 ≢ a .0 + i)
+    → memory-bit (with-field m a n v) b ≡ memory-bit m b
+unfolding with-field
+put-elsewhere m a zero v b d = refl
+put-elsewhere m a (suc n) v b d =
+    kept (with-field m a n v) (ahead a n) (bit v n) b (d n (omega arith))
+    ∙ put-elsewhere m a n v b (λ i l. d i (omega (arith, l)))
+
+-- ---- words stay words
+
+-- A memory of 16-bit words.
+abbrev pub Words : List ℕ → Type 0
+Words m = (i : ℕ) → getD m i 0 < 2 ^ 16
+
+set-words : (m : List ℕ) (b : BitAddress) (v : Bool) → Words m → Words (set-memory-bit m b v)
+unfolding set-memory-bit
+set-words m b v h i =
+    let w : ℕ = b .0 / 16 in
+    let x : ℕ = with-bit (getD m w 0) (b .0 % 16) v in
+    ⊎-elim
+    (λ e. ⊎-elim
+    (λ l. rw e (rw (getD-set-same m w x 0 l) (bit-fits (getD m w 0) (b .0 % 16) 16 v (h w) (omega arith))))
+    (λ l. rw (set-out m w x l) (h i))
+    (less-or-not w (length m)))
+    (λ n. rw (getD-set-other m w i x 0 n) (h i))
+    (same-or-not i w)
+
+-- Putting in leaves words of sixteen bits, and as many as there were (`put-length`).
+pub put-words : (m : List ℕ) (a : BitAddress) (n v : ℕ) → Words m → Words (with-field m a n v)
+unfolding with-field
+put-words m a zero v h = h
+put-words m a (suc n) v h = set-words (with-field m a n v) (ahead a n) (bit v n) (put-words m a n v h)
