@@ -15,7 +15,7 @@ use Rattle.fields.proofs.WordByWord.{Next, Way, way-start, way-word, wa
 
 -- ---- taking out
 
-sum-ones : (w : WordNumber) (k : ℕ) → sum-over (λ v. 1) w k ≡ k
+pub sum-ones : (w : WordNumber) (k : ℕ) → sum-over (λ v. 1) w k ≡ k
 unfolding sum-over
 sum-ones w zero = refl
 sum-ones w (suc k) = ap (λ (x : ℕ). x + 1) (sum-ones w k) ∙ add-one k

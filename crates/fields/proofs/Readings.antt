@@ -1,9 +1,9 @@
 -- What the definitions of a field say, bit by bit: bit i of a field is memory bit address + i; putting in makes memory bit
 -- address + i the value's bit i, and changes no other bit. Each law goes by induction on the field's bits.
-use Prim.Native.Nat.{ℕ, zero, suc, _+_, _-_, _*_, _/_, _%_, _^_, _≤_, _<_}
-use native.Mathlib.Nat.{add-comm, mod-eq-of-lt}
+use Prim.Native.Nat.{ℕ, zero, suc, _+_, _/_, _%_, _^_, _≤_, _<_}
+use native.Mathlib.Nat.{add-comm}
 use native.Mathlib.Omega.{arith}
-use mathlib.Core.Path.{_≡_, refl, sym, ap, subst, _∙_}
+use mathlib.Core.Path.{_≡_, refl, sym, ap, _∙_}
 use mathlib.Core.Bool.{Bool, false, cond}
 use mathlib.Core.List.{List}
 use mathlib.Core.Logic.{⊎-elim, _≢_}
@@ -14,6 +14,7 @@ use Rattle.words.specs.Bytes.{bit}
 use Rattle.words.specs.declared.BitAddress.{BitAddress}
 use Rattle.words.proofs.Bits.{bit-above, bit-of-remainder}
 use Rattle.fields.specs.Field.{ahead, memory-bit, with-bit, set-memory-bit, field-at, with-field}
+use Rattle.fields.specs.InPlainWords.{Covers, Words}
 use Rattle.fields.proofs.OneBit.{less-or-not, same-or-not, top-is, rest-is, bit-made, bit-kept, bit-as-it-is, bit-fits}
 use Rattle.fields.proofs.Steps.{put-length, field-fits}
 
@@ -83,19 +84,15 @@ put-bit m a (suc n) v i l h =
     (same-or-not i n)
 
 -- No bit outside the field changes.
-pub put-elsewhere : (m : List ℕ) (a : BitAddress) (n v : ℕ) (b : BitAddress) → ((i : ℕ) → i < n → b .0 ≢ a .0 + i)
+pub put-elsewhere : (m : List ℕ) (a : BitAddress) (n v : ℕ) (b : BitAddress) → (Covers a n b → ⊥)
     → memory-bit (with-field m a n v) b ≡ memory-bit m b
 unfolding with-field
 put-elsewhere m a zero v b d = refl
 put-elsewhere m a (suc n) v b d =
-    kept (with-field m a n v) (ahead a n) (bit v n) b (d n (omega arith))
-    ∙ put-elsewhere m a n v b (λ i l. d i (omega (arith, l)))
+    kept (with-field m a n v) (ahead a n) (bit v n) b (λ e. d (record { from = omega (arith, e); to = omega (arith, e) }))
+    ∙ put-elsewhere m a n v b (λ h. d (record { from = h .from; to = omega (arith, h .to) }))
 
 -- ---- words stay words
-
--- A memory of 16-bit words.
-abbrev pub Words : List ℕ → Type 0
-Words m = (i : ℕ) → getD m i 0 < 2 ^ 16
 
 set-words : (m : List ℕ) (b : BitAddress) (v : Bool) → Words m → Words (set-memory-bit m b v)
 unfolding set-memory-bit

@@ -1,27 +1,25 @@
 -- What was put in is taken out, modulo 2^size; what was taken out, put in again, changes nothing; and of a value only its low
 -- bits matter. Said of the definitions bit by bit, and then of the calls' answers.
-use Prim.Native.Nat.{ℕ, zero, suc, _+_, _-_, _/_, _%_, _^_, _≤_, _<_}
-use native.Mathlib.Nat.{add-comm, mod-one}
+use Prim.Native.Nat.{ℕ, zero, suc, _%_, _^_, _<_}
+use native.Mathlib.Nat.{mod-one}
 use native.Mathlib.Numerals.{add-one}
 use native.Mathlib.Omega.{arith}
 use mathlib.Core.Path.{_≡_, refl, sym, ap, _∙_}
-use mathlib.Core.Bool.{Bool, true, false, cond}
 use mathlib.Core.List.{List}
 use mathlib.Core.Logic.{⊎-elim}
 use lib.ListN.{length}
-use Rattle.words.specs.Addresses.{word-at}
 use Rattle.words.specs.Bytes.{bit}
 use Rattle.words.specs.declared.BitAddress.{BitAddress}
 use Rattle.words.proofs.Bits.{bit-of-remainder}
-use Rattle.fields.specs.Field.{ahead, memory-bit, set-memory-bit, field-at, with-field, signed}
+use Rattle.fields.specs.Field.{ahead, memory-bit, field-at, with-field, signed}
 use Rattle.fields.specs.Count.{last-word, take-cycles}
 use Rattle.fields.specs.Answers.{refusal, taken, taken-signed, put-memory}
-use Rattle.fields.specs.declared.Taken.{Taken}
 use Rattle.fields.proofs.Accepted.{is-accepted}
 use Rattle.fields.proofs.Answered.{taken-done, signed-done, memory-done, memory-refused}
 use Rattle.fields.proofs.OneBit.{same-or-not}
 use Rattle.fields.proofs.Readings.{as-it-is, field-bit, put-bit}
-use Rattle.fields.proofs.Steps.{put-length}
+use Rattle.fields.proofs.Signs.{same-bits, same-low-bits}
+use Rattle.fields.proofs.Steps.{put-length, field-fits}
 use Rattle.fields.proofs.WordBits.{one-bit-more}
 
 -- ---- of the definitions
@@ -74,6 +72,19 @@ module _ (m : List ℕ) (a : BitAddress) (n : ℕ) where
       ⊎-elim
       (λ e. rw (memory-done m a n e (taken m a n .value), taken-done m a n e) (put-as-it-is m a n (field-at m a n) (field-bit m a n)))
       (λ d. memory-refused m a n d (taken m a n .value))
+      (same-or-not (refusal (length m) a n) 0)
+
+  -- Nor does what was taken out signed, given back as the 32 bits that it has.
+  pub put-after-signed : put-memory m a n (same-bits (taken-signed m a n .value)) ≡ m
+  put-after-signed =
+      ⊎-elim
+      (λ e. let i = is-accepted _ _ _ e in
+      let f : ℕ = field-at m a n in
+      let back : same-bits (signed n f) % 2 ^ n ≡ f = same-low-bits n f (i .some) (i .most) (field-fits m a n) in
+      rw (memory-done m a n e (same-bits (taken-signed m a n .value)), signed-done m a n e)
+      (put-as-it-is m a n (same-bits (signed n f))
+      (λ j l. sym (bit-of-remainder (same-bits (signed n f)) n j l) ∙ ap (λ (x : ℕ). bit x j) back ∙ field-bit m a n j l)))
+      (λ d. memory-refused m a n d (same-bits (taken-signed m a n .value)))
       (same-or-not (refusal (length m) a n) 0)
 
   -- Putting in uses the value modulo 2^size.

@@ -1,16 +1,18 @@
 -- What the signed reading says: the field itself if its top bit is clear, and less 2^n if it is set.
 -- The top bit of a field of n bits is set exactly if the field is 2^(n - 1) or more.
-use Prim.Native.Nat.{ℕ, suc, _+_, _-_, _*_, _%_, _^_, _≤_, _<_}
-use native.Mathlib.Nat.{mod-lt, mod-eq-of-lt, pow-succ'}
+use Prim.Native.Nat.{ℕ, zero, suc, _+_, _-_, _*_, _%_, _^_, _≤_, _<_}
+use native.Mathlib.Nat.{mod-lt, mod-eq-of-lt, suc-mul, pow-succ'}
 use native.Mathlib.Omega.{arith}
-use mathlib.Core.Path.{_≡_, refl, ap, subst, _∙_}
+use mathlib.Core.Path.{_≡_, refl, sym, ap, subst, _∙_}
 use mathlib.Core.Bool.{Bool, true, false, cond}
-use lib.IntN.{pos, negsuc}
-use lib.Pow.{pow-pos}
+use lib.IntN.{ℤ, pos, negsuc, _-ℤ_}
+use lib.Pow.{pow-pos, pow-add, suc-ones, low}
+use mathlib.Core.Logic.{⊎-elim}
 use borrow.Author.Tests.{lt-ltb}
 use Rattle.words.specs.Bytes.{bit}
 use Rattle.words.proofs.Bits.{bit-above}
 use Rattle.fields.specs.Field.{signed}
+use Rattle.fields.proofs.OneBit.{less-or-not}
 use Rattle.fields.proofs.WordBits.{one-bit-more}
 
 -- ---- the top bit
@@ -37,12 +39,56 @@ top-set n x s l h =
 
 -- ---- the reading
 
--- Below half of 2^n the field reads as itself.
+-- A number less a larger one (`negsuc k` is -1 - k).
+less-larger : (x k : ℕ) → x < k → pos x -ℤ pos k ≡ negsuc (k - suc x)
+less-larger x zero h = absurd (omega arith)
+less-larger x (suc k) h = rw (lt-ltb x (suc k) h)
+
+-- Below half of 2^n a field reads as itself.
 pub reads-low : (n x : ℕ) → x < 2 ^ (n - 1) → signed n x ≡ pos x
 unfolding signed
 reads-low n x h = rw (top-clear n x h)
 
--- From there on it reads as the negative number 2^n less (`negsuc k` is -1 - k).
+-- From there on it reads as the negative number that lies 2^n below it.
 pub reads-high : (n x : ℕ) → 1 ≤ n → x < 2 ^ n → 2 ^ (n - 1) ≤ x → signed n x ≡ negsuc (2 ^ n - suc x)
 unfolding signed
-reads-high n x s l h = rw (top-set n x s l h, lt-ltb x (2 ^ n) l)
+reads-high n x s l h = rw (top-set n x s l h) (less-larger x (2 ^ n) l)
+
+-- ---- its range
+
+-- z is one of -2^(n - 1) to 2^(n - 1) - 1.
+pub data InRange (n : ℕ) : ℤ → Type 0 where
+  at-least-zero : {k : ℕ} → k < 2 ^ (n - 1) → InRange n (pos k)
+  below-zero : {k : ℕ} → k < 2 ^ (n - 1) → InRange n (negsuc k)
+
+-- The signed reading of a field of n bits is one of -2^(n - 1) to 2^(n - 1) - 1.
+pub in-range : (n x : ℕ) → 1 ≤ n → x < 2 ^ n → InRange n (signed n x)
+in-range n x s l =
+    ⊎-elim
+    (λ h. rw (reads-low n x h) (at-least-zero h))
+    (λ h. rw (reads-high n x s l h) (below-zero {k = 2 ^ n - suc x} (omega (arith, twice n s, h, l))))
+    (less-or-not x (2 ^ (n - 1)))
+
+-- ---- back again
+
+-- A signed number of 32 bits as the unsigned number with the same bits.
+abbrev pub same-bits : ℤ → ℕ
+same-bits (pos k) = k
+same-bits (negsuc k) = 2 ^ 32 - suc k
+
+lacking : (q p x : ℕ) → x < p → q * p + p - suc (p - suc x) ≡ q * p + x
+lacking q p x h = omega arith
+
+-- The signed reading as 32 bits: the n low bits are the field.
+pub same-low-bits : (n x : ℕ) → 1 ≤ n → n ≤ 32 → x < 2 ^ n → same-bits (signed n x) % 2 ^ n ≡ x
+same-low-bits n x s m l =
+    ⊎-elim
+    (λ h. rw (reads-low n x h) (mod-eq-of-lt l))
+    (λ h.
+    let q : ℕ = 2 ^ (32 - n) - 1 in
+    let w : 32 ≡ 32 - n + n = omega (arith, m) in
+    let e : 2 ^ 32 ≡ q * 2 ^ n + 2 ^ n =
+    ap (λ (k : ℕ). 2 ^ k) w ∙ pow-add 2 (32 - n) n
+    ∙ ap (λ (k : ℕ). k * 2 ^ n) (sym (suc-ones (32 - n))) ∙ suc-mul q (2 ^ n)
+    in rw (reads-high n x s l h, e, lacking q (2 ^ n) x l) (low q n l))
+    (less-or-not x (2 ^ (n - 1)))

@@ -1,9 +1,9 @@
 -- Bits of one word replaced: `with-bits` replaces n bits at once, as the code does, and comes to `with-bit` done n times.
 -- Everything follows from where its three terms stand: the upper is a multiple of 2^(o + n), the other two lie below that.
-use Prim.Native.Nat.{ℕ, suc, _+_, _-_, _*_, _/_, _%_, _^_, _≤_, _<_}
+use Prim.Native.Nat.{ℕ, _+_, _-_, _*_, _/_, _%_, _^_, _≤_, _<_}
 use native.Mathlib.Nat.{add-assoc, add-comm, add-mul, mul-comm, zero-mul, mod-one, mod-lt, add-zero, div-eq-of-lt}
 use native.Mathlib.Omega.{arith}
-use mathlib.Core.Path.{_≡_, refl, sym, ap, ap₂, subst, _∙_}
+use mathlib.Core.Path.{_≡_, sym, ap, subst, _∙_}
 use mathlib.Core.Bool.{Bool, true, false, cond}
 use lib.Arith.{digits-lt}
 use lib.Pow.{pow-pos, pow-add, split, high, low, shr-shr, shr-lt, mod-mod-pow}

@@ -1,6 +1,6 @@
 -- A field's words one after the other, as the code's loops go through them: after c words, d of its n bits are done.
 -- The arithmetic is `omega`'s, once a part's place in its word is named (`Next`).
-use Prim.Native.Nat.{ℕ, _+_, _-_, _*_, _/_, _^_, _≤_, _<_, min}
+use Prim.Native.Nat.{ℕ, _+_, _-_, _*_, _/_, _≤_, _<_, min}
 use native.Mathlib.Omega.{arith}
 use mathlib.Core.Path.{_≡_, refl, sym, ap, subst, _∙_}
 use Rattle.words.specs.Addresses.{word-at}

@@ -9,7 +9,7 @@
 use Prim.Native.Nat.{ℕ, zero, suc, _+_, _-_, _*_, _/_, _%_, _^_}
 use mathlib.Core.Bool.{Bool, cond}
 use mathlib.Core.List.{List}
-use lib.IntN.{ℤ, pos, subℕ}
+use lib.IntN.{ℤ, pos, _-ℤ_}
 use lib.ListN.{getD, set}
 use Rattle.words.specs.Addresses.{address, word-at}
 use Rattle.words.specs.Bytes.{bit}
@@ -45,4 +45,4 @@ with-field m a (suc i) v = set-memory-bit (with-field m a i v) (ahead a i) (bit 
 
 -- "the signed one: less 2^size if the top bit is set"
 unfoldable pub signed : ℕ → ℕ → ℤ
-signed n x = cond (bit x (n - 1)) (subℕ x (2 ^ n)) (pos x)
+signed n x = cond (bit x (n - 1)) (pos x -ℤ pos (2 ^ n)) (pos x)

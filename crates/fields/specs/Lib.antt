@@ -2,3 +2,4 @@ pub mod Field
 pub mod Count
 pub mod Answers
 pub mod Parts
+pub mod InPlainWords

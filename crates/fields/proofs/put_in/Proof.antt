@@ -1,7 +1,6 @@
 -- `fields::put_in` meets its contract: it scatters what is accepted, and answers zeros to what is refused.
 use borrow.Author.Needs.{needs}
-use mathlib.Core.Path.{_≡_, sym, _∙_}
-use mathlib.Core.Logic.{_≢_}
+use mathlib.Core.Path.{sym, _∙_}
 use Rattle.fields.proofs.Accepted.{is-accepted}
 use Rattle.fields.proofs.Answered.{put-done, put-refused, memory-done, memory-refused}
 use Rattle.fields.proofs.put_in.Statement.{statement}

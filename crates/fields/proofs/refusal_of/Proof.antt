@@ -1,9 +1,7 @@
 -- `fields::refusal_of` meets its contract: each test is the definition's.
 use borrow.Author.Needs.{needs}
-use mathlib.Core.Path.{_≡_, sym, ap, _∙_}
-use native.Mathlib.Omega.{arith}
+use mathlib.Core.Path.{sym, _∙_}
 use borrow.Author.Tests.{lt-ltb, le-ltb}
-use Prim.Native.Nat.{_≤_, _<_}
 use Rattle.fields.specs.Answers.{refusal}
 use Rattle.fields.proofs.Accepted.{five, six, none}
 use Rattle.fields.proofs.refusal_of.Statement.{statement}

@@ -2,7 +2,7 @@
 -- and the cycles are the words passed (`Way`).
 use native.Mathlib.Nat.{lt-of-lt-of-le}
 use native.Mathlib.Omega.{arith}
-use Prim.Native.Nat.{ℕ, _+_, _-_, _*_, _^_, _≤_, _<_}
+use Prim.Native.Nat.{ℕ, _+_, _-_, _*_, _^_, _<_}
 use mathlib.Core.Path.{_≡_, refl, sym}
 use mathlib.Core.List.{List}
 use lib.ListN.{length}
@@ -78,8 +78,8 @@ after c =
     let p = n .next-part-of .result in
     let d = l .loop .done in
     let e : l .loop .value + c .before .bits-of .result * c .pow2 .result ≡ field-at m (g .at) (d + p .count) =
-        rw (c .before .bits-of .ensures, c .pow2 .ensures, l .loop .inv .value-is)
-        (sym (take-part m (g .at) d (p .word .0) (p .from) (sym (part n .next .place)) (p .count) (part n .in-word)))
+    rw (c .before .bits-of .ensures, c .pow2 .ensures, l .loop .inv .value-is)
+    (sym (take-part m (g .at) d (p .word .0) (p .from) (sym (part n .next .place)) (p .count) (part n .in-word)))
     in (e, rw e (lt-of-lt-of-le (field-fits m (g .at) (d + p .count)) (pow-mono {j = 32} (omega (arith, part n .in-field)))))
 
 mul-value : tie.Need-mul-value Inv-loop μ-loop

@@ -1,7 +1,7 @@
 -- `fields::parts::next_part_of` meets its contract: its choice between what is left and the word's room is the smaller one.
 use borrow.Author.Needs.{needs}
 use native.Mathlib.Omega.{arith}
-use mathlib.Core.Path.{_≡_, refl, sym}
+use mathlib.Core.Path.{_≡_}
 use Prim.Native.Nat.{_-_, _%_, _+_, min}
 use Rattle.fields.proofs.parts.next_part_of.Statement.{statement}
 use Rattle.fields.proofs.parts.next_part_of.Tie as tie

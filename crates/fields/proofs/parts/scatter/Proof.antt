@@ -1,7 +1,7 @@
 -- `fields::parts::scatter` meets its contract: after each turn the memory has the bits done so far put in (`put-part`),
 -- and the cycles are the sum over the words passed (`Spent`).
 use native.Mathlib.Omega.{arith}
-use Prim.Native.Nat.{ℕ, _+_, _-_, _^_, _≤_, _<_}
+use Prim.Native.Nat.{ℕ, _+_, _-_, _<_}
 use mathlib.Core.Path.{_≡_, refl, sym, ap, _∙_}
 use mathlib.Core.Bool.{cond}
 use mathlib.Core.List.{List}
@@ -51,7 +51,7 @@ there : (c : tie.After-next-part-of Inv-loop μ-loop) →
 there c =
     let l = c .before .before in
     let h : c .next-part-of .result .word .0 < length (l .before .before .args .memory .now) =
-        omega (arith, part c .in-touched, l .before .before .pre .there)
+    omega (arith, part c .in-touched, l .before .before .pre .there)
     in (h, rw (l .loop .inv .memory-is, put-length) h)
 
 -- The cycles after the turn.

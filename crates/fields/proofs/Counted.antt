@@ -1,0 +1,67 @@
+-- Which words are counted: exactly those that hold a bit of the field; and a word is wholly covered exactly if all its sixteen
+-- bits are the field's.
+use Prim.Native.Nat.{ℕ, _+_, _-_, _*_, _/_, _≤_, _<_, max}
+use native.Mathlib.Omega.{arith}
+use mathlib.Core.Path.{_≡_, refl, ap}
+use mathlib.Core.Bool.{Bool, true, false, _&&_}
+use mathlib.Core.Logic.{_↔_}
+use lib.Dec.{leb}
+use borrow.Author.Tests.{le-leb, leb-true}
+use Rattle.words.specs.Addresses.{address}
+use Rattle.words.specs.declared.BitAddress.{BitAddress}
+use Rattle.words.specs.declared.WordNumber.{WordNumber}
+use Rattle.fields.specs.Field.{ahead}
+use Rattle.fields.specs.Count.{touched, start-of, wholly-covered}
+use Rattle.fields.specs.InPlainWords.{Covers, Holds, Counted}
+
+-- ---- the words
+
+module _ (a : BitAddress) (n : ℕ) (w : WordNumber) where
+  -- The bit in w: the field's first, or the word's first if the field began before it.
+  counted-holds : 1 ≤ n → Counted a n w → Holds a n w
+  unfolding touched
+  counted-holds s h =
+      let f : a .0 / 16 ≤ w .0 = h .from in
+      let t : w .0 < a .0 / 16 + ((a .0 + (n - 1)) / 16 + 1 - a .0 / 16) = h .to in
+      let u : w .0 ≤ (a .0 + (n - 1)) / 16 = omega arith in
+      record {
+        bit = address (max (a .0) (w .0 * 16));
+        covered = record { from = omega arith; to = omega arith };
+        in-word = ap (λ (k : ℕ). record { 0 = k }) (omega arith);
+      }
+
+  holds-counted : Holds a n w → Counted a n w
+  unfolding touched
+  holds-counted h =
+      let b : ℕ = h .bit .0 in
+      let p : a .0 ≤ b = h .covered .from in
+      let q : b < a .0 + n = h .covered .to in
+      let e : b / 16 ≡ w .0 = ap (λ (x : WordNumber). x .0) (h .in-word) in
+      record { from = omega arith; to = omega arith }
+
+  -- A counted word is exactly one that holds a bit of the field.
+  pub counted-when : 1 ≤ n → Counted a n w ↔ Holds a n w
+  counted-when s = (counted-holds s, holds-counted)
+
+  both-true : (s t : Bool) → s && t ≡ true → (s ≡ true) × (t ≡ true)
+  both-true true t e = (refl, e)
+  both-true false t e = (e, absurd (let z : _≡_ {A = ℕ} 0 1 = cc in omega arith))
+
+  covers-all : wholly-covered a n w ≡ true → (j : ℕ) → j < 16 → Covers a n (ahead (start-of w) j)
+  unfolding wholly-covered
+  covers-all e j l =
+      let t = both-true (leb (a .0) (w .0 * 16)) (leb (w .0 * 16 + 16) (a .0 + n)) e in
+      let p : a .0 ≤ w .0 * 16 = leb-true _ _ (t .0) in
+      let q : w .0 * 16 + 16 ≤ a .0 + n = leb-true _ _ (t .1) in
+      record { from = omega arith; to = omega arith }
+
+  all-covered : ((j : ℕ) → j < 16 → Covers a n (ahead (start-of w) j)) → wholly-covered a n w ≡ true
+  unfolding wholly-covered
+  all-covered h =
+      let p : a .0 ≤ w .0 * 16 + 0 = h 0 (omega arith) .from in
+      let q : w .0 * 16 + 15 < a .0 + n = h 15 (omega arith) .to in
+      rw (le-leb (a .0) (w .0 * 16) (omega arith), le-leb (w .0 * 16 + 16) (a .0 + n) (omega arith))
+
+  -- A word is wholly covered exactly if all its sixteen bits are the field's.
+  pub wholly-when : wholly-covered a n w ≡ true ↔ ((j : ℕ) → j < 16 → Covers a n (ahead (start-of w) j))
+  wholly-when = (covers-all, all-covered)

@@ -1,0 +1,44 @@
+-- What a sceptical reader means by the words of document 01, 'Fields'. The laws are said with these; no contract cites them.
+--   Covers a n b       bit address b is one of the field's: a, a + 1, .., a + n - 1
+--   Holds a n w        word w holds a bit of the field: it is touched
+--   Counted a n w      word w is one of those that the cycles are added up over
+--   Missing words a n  a touched word isn't in a memory of so many words
+--   Words m            every word of the memory has sixteen bits
+--   number-of m        the whole memory as one number, its first word lowest
+use Prim.Native.Nat.{ℕ, _+_, _*_, _^_, _≤_, _<_}
+use mathlib.Core.List.{List, [], _∷_}
+use mathlib.Core.Path.{_≡_}
+use lib.ListN.{getD}
+use Rattle.words.specs.Addresses.{word-at}
+use Rattle.words.specs.declared.BitAddress.{BitAddress}
+use Rattle.words.specs.declared.WordNumber.{WordNumber}
+use Rattle.fields.specs.Count.{touched}
+
+-- ---- bits and words of a field
+
+pub record Covers (a : BitAddress) (n : ℕ) (b : BitAddress) : Type 0 where
+  pub from : a .0 ≤ b .0
+  pub to : b .0 < a .0 + n
+
+pub record Holds (a : BitAddress) (n : ℕ) (w : WordNumber) : Type 0 where
+  pub bit : BitAddress
+  pub covered : Covers a n bit
+  pub in-word : word-at bit ≡ w
+
+pub record Counted (a : BitAddress) (n : ℕ) (w : WordNumber) : Type 0 where
+  pub from : word-at a .0 ≤ w .0
+  pub to : w .0 < word-at a .0 + touched a n
+
+pub record Missing (words : ℕ) (a : BitAddress) (n : ℕ) : Type 0 where
+  pub word : WordNumber
+  pub holds : Holds a n word
+  pub beyond : words ≤ word .0
+
+-- ---- memory
+
+abbrev pub Words : List ℕ → Type 0
+Words m = (i : ℕ) → getD m i 0 < 2 ^ 16
+
+unfoldable pub number-of : List ℕ → ℕ
+number-of [] = 0
+number-of (w ∷ m) = number-of m * 2 ^ 16 + w
