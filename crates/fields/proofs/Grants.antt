@@ -2,14 +2,14 @@
 -- (document 01, 'Bus order').
 use Prim.Native.Nat.{ℕ, zero, suc, _+_, _*_, _≤_}
 use native.Mathlib.Nat.{add-zero, add-suc, add-assoc, zero-add}
+use native.Mathlib.Numerals.{add-one}
 use native.Mathlib.Omega.{arith}
-use mathlib.Core.Path.{_≡_, refl, _∙_}
+use mathlib.Core.Path.{_≡_, refl, ap, _∙_}
 use mathlib.Core.Bool.{Bool, true, false, cond}
 use Rattle.words.specs.Addresses.{word-at}
 use Rattle.words.specs.declared.BitAddress.{BitAddress}
 use Rattle.words.specs.declared.WordNumber.{WordNumber}
-use Rattle.fields.specs.Count.{touched, wholly-covered, sum-over, put-cycles, put-grants}
-use Rattle.fields.proofs.Costs.{sum-ones}
+use Rattle.fields.specs.Count.{touched, wholly-covered, sum-over, take-cost, take-cycles, put-cost, put-cycles, put-grants}
 
 -- ---- the sum
 
@@ -43,7 +43,8 @@ sum-alike f g w h (suc k) = rw (sum-alike f g w h k, h (record { 0 = w .0 + k })
 abbrev pub partly : BitAddress → ℕ → WordNumber → ℕ
 partly a n w = cond (wholly-covered a n w) 0 1
 
-one-more : (t : Bool) → cond t 1 2 ≡ 1 + cond t 0 1
+one-more : (whole : Bool) → put-cost whole ≡ 1 + cond whole 0 1
+unfolding put-cost
 one-more true = refl
 one-more false = refl
 
@@ -51,7 +52,7 @@ one-more false = refl
 pub cycles-of-grants : (a : BitAddress) (n : ℕ) → put-cycles a n ≡ put-grants a n + sum-over (partly a n) (word-at a) (touched a n)
 unfolding put-cycles put-grants
 cycles-of-grants a n =
-    sum-alike (λ w. cond (wholly-covered a n w) 1 2) (λ w. 1 + partly a n w) (word-at a) (λ w. one-more (wholly-covered a n w)) (touched a n)
+    sum-alike (λ w. put-cost (wholly-covered a n w)) (λ w. 1 + partly a n w) (word-at a) (λ w. one-more (wholly-covered a n w)) (touched a n)
     ∙ sum-of-sums (λ w. 1) (word-at a) (partly a n) (touched a n)
 
 at-most : (f g : WordNumber → ℕ) (w : WordNumber) → ((v : WordNumber) → f v ≤ g v) → (k : ℕ) → sum-over f w k ≤ sum-over g w k
@@ -62,6 +63,18 @@ at-most f g w h (suc k) = omega (arith, at-most f g w h k, h (record { 0 = w .0 
 partly-one : (t : Bool) → cond t 0 1 ≤ 1
 partly-one true = omega arith
 partly-one false = omega arith
+
+-- ---- one for each word
+
+sum-ones : (w : WordNumber) (k : ℕ) → sum-over (λ v. 1) w k ≡ k
+unfolding sum-over
+sum-ones w zero = refl
+sum-ones w (suc k) = ap (λ (x : ℕ). x + 1) (sum-ones w k) ∙ add-one k
+
+-- Taking out has one cycle for each word touched.
+pub cycle-each : (a : BitAddress) (n : ℕ) → take-cycles a n ≡ touched a n
+unfolding take-cycles take-cost
+cycle-each a n = sum-ones (word-at a) (touched a n)
 
 -- Putting in needs one grant for each word touched.
 pub grant-each : (a : BitAddress) (n : ℕ) → put-grants a n ≡ touched a n

@@ -44,12 +44,16 @@ module _ (w i : ℕ) where
   as-bits true = rw (one-mul (2 ^ i))
   as-bits false = rw (zero-mul (2 ^ i))
 
+  one-bit : (v : Bool) → cond v 1 0 < 2 ^ 1
+  one-bit true = omega arith
+  one-bit false = omega arith
+
   above : (v : Bool) → with-bit w i v / 2 ^ (i + 1) ≡ w / 2 ^ (i + 1)
-  above v = rw (as-bits v) (bits-above w i 1 (cond v 1 0))
+  above v = rw (as-bits v) (bits-above w i 1 (cond v 1 0) (one-bit v))
 
   upto : (v : Bool) → with-bit w i v % 2 ^ (i + 1) ≡ cond v (2 ^ i) 0 + w % 2 ^ i
-  upto true = rw (as-bits true, bits-below w i 1 1, one-mul (2 ^ i))
-  upto false = rw (as-bits false, bits-below w i 1 0, zero-mul (2 ^ i))
+  upto true = rw (as-bits true, bits-below w i 1 1 (one-bit true), one-mul (2 ^ i))
+  upto false = rw (as-bits false, bits-below w i 1 0 (one-bit false), zero-mul (2 ^ i))
 
   -- Bit i is the new one.
   pub bit-made : (v : Bool) → bit (with-bit w i v) i ≡ v
@@ -83,4 +87,4 @@ module _ (w i : ℕ) where
 
   -- A number of k bits stays one.
   pub bit-fits : (k : ℕ) (v : Bool) → w < 2 ^ k → i < k → with-bit w i v < 2 ^ k
-  bit-fits k v h l = rw (as-bits v) (bits-fit w i 1 (cond v 1 0) k h (omega arith))
+  bit-fits k v h l = rw (as-bits v) (bits-fit w i 1 (cond v 1 0) (one-bit v) k h (omega arith))

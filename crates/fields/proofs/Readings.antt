@@ -9,7 +9,7 @@ use mathlib.Core.List.{List}
 use mathlib.Core.Logic.{⊎-elim, _≢_}
 use lib.ListN.{length, getD, set}
 use lib.Seq.{set-out, getD-set-same, getD-set-other, set-getD}
-use Rattle.words.specs.Addresses.{word-at}
+use Rattle.words.specs.Addresses.{address, word-at}
 use Rattle.words.specs.Bytes.{bit}
 use Rattle.words.specs.declared.BitAddress.{BitAddress}
 use Rattle.words.proofs.Bits.{bit-above, bit-of-remainder}
@@ -51,7 +51,7 @@ module _ (m : List ℕ) (b : BitAddress) where
 -- ---- taking out
 
 -- Bit i of a field is memory bit address + i.
-pub field-bit : (m : List ℕ) (a : BitAddress) (n i : ℕ) → i < n → bit (field-at m a n) i ≡ memory-bit m (ahead a i)
+pub field-bit : (m : List ℕ) (a : BitAddress) (n i : ℕ) → i < n → bit (field-at m a n) i ≡ memory-bit m (address (a .0 + i))
 unfolding field-at
 field-bit m a zero i l = absurd (omega arith)
 field-bit m a (suc n) i l =
@@ -72,8 +72,8 @@ field-bit-beyond m a n i l = bit-above n (field-fits m a n) l
 -- ---- putting in
 
 -- Memory bit address + i becomes the value's bit i.
-pub put-bit : (m : List ℕ) (a : BitAddress) (n v i : ℕ) → i < n → word-at (ahead a i) .0 < length m
-    → memory-bit (with-field m a n v) (ahead a i) ≡ bit v i
+pub put-bit : (m : List ℕ) (a : BitAddress) (n v i : ℕ) → i < n → word-at (address (a .0 + i)) .0 < length m
+    → memory-bit (with-field m a n v) (address (a .0 + i)) ≡ bit v i
 unfolding with-field
 put-bit m a zero v i l h = absurd (omega arith)
 put-bit m a (suc n) v i l h =

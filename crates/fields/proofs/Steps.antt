@@ -60,15 +60,15 @@ module _ (m : List ℕ) (a : BitAddress) (d w o : ℕ) (e : a .0 + d ≡ w * 16 
       in rw (add-suc d n, here, take-part n (omega arith), ← add-one n, more) (omega arith)
 
   pub put-part : (v n : ℕ) → o + n ≤ 16 → w < length m
-      → with-field m a (d + n) v ≡ set (with-field m a d v) w (with-bits (getD (with-field m a d v) w 0) o n (v / 2 ^ d))
+      → with-field m a (d + n) v ≡ set (with-field m a d v) w (with-bits (getD (with-field m a d v) w 0) o n (v / 2 ^ d % 2 ^ n))
   unfolding with-field
-  put-part v zero l h = rw (add-zero d, no-bits, set-getD)
+  put-part v zero l h = rw (add-zero d, mod-one (v / 2 ^ d), no-bits, set-getD)
   put-part v (suc n) l h =
       let M : List ℕ = with-field m a d v in
       let x : ℕ = getD M w 0 in
       let inside : w < length M = rw (put-length m a d v) h in
-      let here = set-bit-in (set M w (with-bits x o n (v / 2 ^ d))) (ahead a (d + n)) w (o + n) (omega arith) (omega arith) (bit v (d + n)) in
-      rw (add-suc d n, put-part v n (omega arith) h, here, getD-set-same M w (with-bits x o n (v / 2 ^ d)) 0 inside, set-set, ← bit-of-quotient v d n, next-bit, add-one n)
+      let here = set-bit-in (set M w (with-bits x o n (v / 2 ^ d % 2 ^ n))) (ahead a (d + n)) w (o + n) (omega arith) (omega arith) (bit v (d + n)) in
+      rw (add-suc d n, put-part v n (omega arith) h, here, getD-set-same M w (with-bits x o n (v / 2 ^ d % 2 ^ n)) 0 inside, set-set, ← bit-of-quotient v d n, next-bit, add-one n)
 
 -- ---- the field's size
 

@@ -1,7 +1,7 @@
 -- Bits of one word replaced: `with-bits` replaces n bits at once, as the code does, and comes to `with-bit` done n times.
 -- Everything follows from where its three terms stand: the upper is a multiple of 2^(o + n), the other two lie below that.
 use Prim.Native.Nat.{ℕ, _+_, _-_, _*_, _/_, _%_, _^_, _≤_, _<_}
-use native.Mathlib.Nat.{add-assoc, add-comm, add-mul, mul-comm, zero-mul, mod-one, mod-lt, add-zero, div-eq-of-lt}
+use native.Mathlib.Nat.{add-assoc, add-comm, add-mul, mul-comm, zero-mul, mod-lt, add-zero, div-eq-of-lt}
 use native.Mathlib.Omega.{arith}
 use mathlib.Core.Path.{_≡_, sym, ap, subst, _∙_}
 use mathlib.Core.Bool.{Bool, true, false, cond}
@@ -29,43 +29,55 @@ one-bit-more x n =
 
 -- ---- n bits replaced
 
-module _ (w o n v : ℕ) where
+module _ (w o n b : ℕ) (h : b < 2 ^ n) where
   -- The new bits and what lies below them stand below bit o + n.
-  below-top : v % 2 ^ n * 2 ^ o + w % 2 ^ o < 2 ^ (o + n)
-  below-top =
-      rw (pow-add 2 o n, mul-comm (2 ^ o) (2 ^ n)) (digits-lt (mod-lt v (pow-pos n)) (mod-lt w (pow-pos o)))
+  below-top : b * 2 ^ o + w % 2 ^ o < 2 ^ (o + n)
+  below-top = rw (pow-add 2 o n, mul-comm (2 ^ o) (2 ^ n)) (digits-lt h (mod-lt w (pow-pos o)))
 
-  as-two : with-bits w o n v ≡ w / 2 ^ (o + n) * 2 ^ (o + n) + (v % 2 ^ n * 2 ^ o + w % 2 ^ o)
+  as-two : with-bits w o n b ≡ w / 2 ^ (o + n) * 2 ^ (o + n) + (b * 2 ^ o + w % 2 ^ o)
   unfolding with-bits
   as-two = add-assoc _ _ _
 
-  pub bits-above : with-bits w o n v / 2 ^ (o + n) ≡ w / 2 ^ (o + n)
+  pub bits-above : with-bits w o n b / 2 ^ (o + n) ≡ w / 2 ^ (o + n)
   bits-above = rw as-two (high (w / 2 ^ (o + n)) (o + n) below-top)
 
-  pub bits-below : with-bits w o n v % 2 ^ (o + n) ≡ v % 2 ^ n * 2 ^ o + w % 2 ^ o
+  pub bits-below : with-bits w o n b % 2 ^ (o + n) ≡ b * 2 ^ o + w % 2 ^ o
   bits-below = rw as-two (low (w / 2 ^ (o + n)) (o + n) below-top)
 
+  -- The new bits fit in o + n bits.
+  pub new-fit : b * 2 ^ o < 2 ^ (o + n)
+  new-fit = omega (arith, below-top)
+
   -- A number of k bits stays one.
-  pub bits-fit : (k : ℕ) → w < 2 ^ k → o + n ≤ k → with-bits w o n v < 2 ^ k
-  bits-fit k h l =
+  pub bits-fit : (k : ℕ) → w < 2 ^ k → o + n ≤ k → with-bits w o n b < 2 ^ k
+  bits-fit k l m =
       let e : k ≡ k - (o + n) + (o + n) = omega arith in
-      let q : w / 2 ^ (o + n) < 2 ^ (k - (o + n)) = shr-lt (k - (o + n)) (o + n) (subst (λ (j : ℕ). w < 2 ^ j) e h) in
+      let q : w / 2 ^ (o + n) < 2 ^ (k - (o + n)) = shr-lt (k - (o + n)) (o + n) (subst (λ (j : ℕ). w < 2 ^ j) e l) in
       rw as-two (
-      subst (λ (j : ℕ). w / 2 ^ (o + n) * 2 ^ (o + n) + (v % 2 ^ n * 2 ^ o + w % 2 ^ o) < j)
+      subst (λ (j : ℕ). w / 2 ^ (o + n) * 2 ^ (o + n) + (b * 2 ^ o + w % 2 ^ o) < j)
       (sym (pow-add 2 (k - (o + n)) (o + n)) ∙ ap (λ (j : ℕ). 2 ^ j) (sym e)) (digits-lt q below-top))
 
 -- No bits replaced.
-pub no-bits : (w o v : ℕ) → with-bits w o 0 v ≡ w
+pub no-bits : (w o : ℕ) → with-bits w o 0 0 ≡ w
 unfolding with-bits
-no-bits w o v = rw (add-zero o, mod-one v) (omega (arith, split w o))
+no-bits w o = rw (add-zero o) (omega (arith, split w o))
 
--- One bit more replaced.
-pub next-bit : (w o n v : ℕ) → with-bit (with-bits w o n v) (o + n) (bit v n) ≡ with-bits w o (n + 1) v
+-- One bit more of v replaced.
+pub next-bit : (w o n v : ℕ) → with-bit (with-bits w o n (v % 2 ^ n)) (o + n) (bit v n) ≡ with-bits w o (n + 1) (v % 2 ^ (n + 1))
 unfolding with-bit
 next-bit w o n v =
-    let above : with-bits w o n v / 2 ^ (o + n + 1) ≡ w / 2 ^ (o + n + 1) =
-    sym (shr-shr (with-bits w o n v) (o + n) 1) ∙ ap (λ (y : ℕ). y / 2 ^ 1) (bits-above w o n v) ∙ shr-shr w (o + n) 1
+    let l : v % 2 ^ n < 2 ^ n = mod-lt v (pow-pos n) in
+    let above : with-bits w o n (v % 2 ^ n) / 2 ^ (o + n + 1) ≡ w / 2 ^ (o + n + 1) =
+    sym (shr-shr (with-bits w o n (v % 2 ^ n)) (o + n) 1)
+    ∙ ap (λ (y : ℕ). y / 2 ^ 1) (bits-above w o n (v % 2 ^ n) l) ∙ shr-shr w (o + n) 1
     in let middle : v % 2 ^ (n + 1) * 2 ^ o ≡ cond (bit v n) (2 ^ (o + n)) 0 + v % 2 ^ n * 2 ^ o =
     ap (λ (y : ℕ). y * 2 ^ o) (one-bit-more v n) ∙ add-mul _ _ _
     ∙ ap (λ (y : ℕ). y + v % 2 ^ n * 2 ^ o) (weight-up (bit v n) n o)
-    in rw (above, bits-below w o n v, as-two w o (n + 1) v, middle, add-assoc o n 1) (omega arith)
+    in rw (
+      above,
+      bits-below w o n (v % 2 ^ n) l,
+      as-two w o (n + 1) (v % 2 ^ (n + 1)) (mod-lt v (pow-pos (n + 1))),
+      middle,
+      add-assoc o n 1,
+    )
+    (omega arith)

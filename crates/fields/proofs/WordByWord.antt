@@ -35,7 +35,7 @@ next-here a n d w o k l e b c = omega arith
 
 module _ (a : BitAddress) (n c d : ℕ) (p : Part) (h : Way a n c d) (l : d < n) (q : Next a n d p) where
   -- The next part lies in the word that comes next.
-  pub way-word : p .word .0 ≡ word-at a .0 + c
+  way-word : p .word .0 ≡ word-at a .0 + c
   way-word =
       let i : d ≡ min n ((a .0 / 16 + c) * 16 - a .0) = h .here in
       let e : p .word .0 * 16 + p .from ≡ a .0 + d = q .place in
@@ -48,7 +48,7 @@ module _ (a : BitAddress) (n c d : ℕ) (p : Part) (h : Way a n c d) (l : d < n)
       let b : p .from < 16 = q .bit in
       omega arith
 
-  pub way-next : Way a n (c + 1) (d + p .count)
+  way-next : Way a n (c + 1) (d + p .count)
   way-next =
       let e : p .word .0 + 1 ≡ a .0 / 16 + (c + 1) = omega (arith, way-word) in
       record {
@@ -58,7 +58,7 @@ module _ (a : BitAddress) (n c d : ℕ) (p : Part) (h : Way a n c d) (l : d < n)
       }
 
   -- Its first bit is the word's first, unless the field begins inside the word.
-  pub way-first : d ≡ p .word .0 * 16 - a .0
+  way-first : d ≡ p .word .0 * 16 - a .0
   way-first =
       let e : p .word .0 ≡ a .0 / 16 + c = way-word in
       let i : d ≡ min n ((a .0 / 16 + c) * 16 - a .0) = h .here in
@@ -77,6 +77,8 @@ way-end a n c d h l s =
 -- What a turn of a loop needs of the part p that it works on: its place in memory and in the field, and how far the loop then is.
 pub record Turn (a : BitAddress) (n c d : ℕ) (p : Part) : Type 0 where
   pub next : Next a n d p
+  pub word-is : p .word .0 ≡ word-at a .0 + c
+  pub first : d ≡ p .word .0 * 16 - a .0
   pub in-word : p .from + p .count ≤ 16
   pub in-field : d + p .count ≤ n
   pub in-touched : p .word .0 ≤ last-word a n .0
@@ -90,6 +92,8 @@ turn a n c d p h l e =
     let k : p .count ≡ min (16 - p .from) (n - d) = q .count in
     record {
       next = q;
+      word-is = way-word a n c d p h l q;
+      first = way-first a n c d p h l q;
       in-word = omega arith;
       in-field = omega arith;
       in-touched = way-in a n c d p h l q;

@@ -44,7 +44,7 @@ taken m a n =
 
 unfoldable pub taken-signed : List ℕ → BitAddress → ℕ → SignedTaken
 taken-signed m a n =
-    cond (accepted (length m) a n) (record { number = 0; value = signed n (field-at m a n); cycles = take-cycles a n })
+    cond (accepted (length m) a n) (record { number = 0; value = signed n (done-taking m a n .value); cycles = done-taking m a n .cycles })
     (record { number = refusal (length m) a n; value = pos 0; cycles = 0 })
 
 unfoldable pub put-answer : ℕ → BitAddress → ℕ → Put

@@ -4,8 +4,9 @@
 --   start-of w             the bit address of bit 0 of word w
 --   wholly-covered a n w   all of word w lies in the field
 --   sum-over f w k         f added up over k words, w the first of them
---   take-cycles a n        the memory cycles of taking the field out
---   put-cycles a n         those of putting it in
+--   take-cost              the memory cycles of one word in taking out
+--   put-cost whole         those of one word in putting in, by whether it is wholly covered
+--   take-cycles, put-cycles a n   the memory cycles of the whole field
 --   put-grants a n         the grants of the bus that putting it in needs
 use Prim.Native.Nat.{ℕ, zero, suc, _+_, _-_, _*_}
 use mathlib.Core.Bool.{Bool, cond, _&&_}
@@ -36,12 +37,18 @@ sum-over f w (suc k) = sum-over f w k + f (record { 0 = w .0 + k })
 -- ---- what they cost
 
 -- "taking out, one per word touched"
+unfoldable pub take-cost : ℕ
+take-cost = 1
+
 unfoldable pub take-cycles : BitAddress → ℕ → ℕ
-take-cycles a n = sum-over (λ w. 1) (word-at a) (touched a n)
+take-cycles a n = sum-over (λ w. take-cost) (word-at a) (touched a n)
 
 -- "putting in, one for a word wholly covered, two (read, write) for one partly covered"
+unfoldable pub put-cost : Bool → ℕ
+put-cost whole = cond whole 1 2
+
 unfoldable pub put-cycles : BitAddress → ℕ → ℕ
-put-cycles a n = sum-over (λ w. cond (wholly-covered a n w) 1 2) (word-at a) (touched a n)
+put-cycles a n = sum-over (λ w. put-cost (wholly-covered a n w)) (word-at a) (touched a n)
 
 -- "The two cycles of a partly covered word are one grant"
 unfoldable pub put-grants : BitAddress → ℕ → ℕ

@@ -1,5 +1,5 @@
 -- The parts of a field, one in each word that it touches: what the private functions state.
---   with-bits w o n v    the word w with its n bits from bit o on made the n low bits of v
+--   with-bits w o n b    the word w with its n bits from bit o on made b
 --   next-part a n d      after the first d bits of a field of n bits at a: the part in the next word
 --   Accepted words a n   a field that is accepted by a memory of so many words
 --   Scattered            what putting in an accepted field leaves
@@ -14,7 +14,7 @@ use Rattle.fields.specs.declared.parts.Part.{Part}
 
 -- what lies above them, the new bits at their weight, and what lies below
 unfoldable pub with-bits : ℕ → ℕ → ℕ → ℕ → ℕ
-with-bits w o n v = w / 2 ^ (o + n) * 2 ^ (o + n) + v % 2 ^ n * 2 ^ o + w % 2 ^ o
+with-bits w o n b = w / 2 ^ (o + n) * 2 ^ (o + n) + b * 2 ^ o + w % 2 ^ o
 
 -- it goes to the end of the word or of the field, whichever comes first
 abbrev pub next-part : BitAddress → ℕ → ℕ → Part

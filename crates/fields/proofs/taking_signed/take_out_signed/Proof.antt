@@ -1,14 +1,15 @@
--- `fields::take_out_signed` meets its contract: it gathers what is accepted and reads it as signed, and answers zeros to what
--- is refused.
+-- `fields::taking_signed::take_out_signed` meets its contract: it gathers what is accepted and reads it as signed, and answers
+-- zeros to what is refused.
 use borrow.Author.Needs.{sfits-of}
+use borrow.Author.Tests.{ne-eqb}
 use mir.Facts.{toZ-ofZ}
 use mir.Syntax.{w32}
 use mathlib.Core.Path.{sym, _∙_}
+use Rattle.fields.specs.Answers.{taken-signed}
 use Rattle.fields.proofs.Accepted.{is-accepted}
-use Rattle.fields.proofs.Answered.{signed-done, signed-refused}
 use Rattle.fields.proofs.Steps.{field-fits}
-use Rattle.fields.proofs.take_out_signed.Statement.{statement}
-use Rattle.fields.proofs.take_out_signed.Tie as tie
+use Rattle.fields.proofs.taking_signed.take_out_signed.Statement.{statement}
+use Rattle.fields.proofs.taking_signed.take_out_signed.Tie as tie
 
 refusal-of-requires : tie.Need-refusal-of-requires
 refusal-of-requires c κs = tt
@@ -22,12 +23,18 @@ signed-of-requires c κs =
     (i .some, (i .most, rw (c .gather .ensures) (field-fits _ _ _)))
 
 returns : tie.Need-returns
+unfolding taken-signed
 returns c =
-    rw (toZ-ofZ (sfits-of {w = w32} (c .signed-of .ok)), c .signed-of .ensures, c .before .gather .ensures)
-    (sym (signed-done _ _ _ (sym (c .before .before .before .refusal-of .ensures) ∙ c .before .before .if1 .taken)))
+    rw (
+      sym (c .before .before .before .refusal-of .ensures) ∙ c .before .before .if1 .taken,
+      toZ-ofZ (sfits-of {w = w32} (c .signed-of .ok)),
+      c .signed-of .ensures,
+      c .before .gather .ensures,
+    )
 
 returns-2 : tie.Need-returns-2
-returns-2 c = rw (c .before .refusal-of .ensures) (sym (signed-refused _ _ _ (λ e. c .if1 .left (c .before .refusal-of .ensures ∙ e))))
+unfolding taken-signed
+returns-2 c = rw (← c .before .refusal-of .ensures, ne-eqb _ _ (c .if1 .left))
 
 pub take-out-signed-spec : {M : Type 1} → statement M
 take-out-signed-spec =

@@ -1,4 +1,4 @@
--- `fields::parts::signed_of` meets its contract: below half the field is its own reading, and from there on it lies as far
+-- `fields::taking_signed::signed_of` meets its contract: below half the field is its own reading, and from there on it lies as far
 -- below -1 as it lies below all bits set.
 use borrow.Author.Needs.{needs}
 use borrow.Author.Needs.{sfits-of}
@@ -12,8 +12,8 @@ use mathlib.Core.Path.{_≡_, refl, sym, ap, _∙_}
 use lib.IntN.{pos, negsuc, _-ℤ_}
 use lib.Pow.{pow-pos, pow-mono}
 use Rattle.fields.proofs.Signs.{twice, reads-low, reads-high}
-use Rattle.fields.proofs.parts.signed_of.Statement.{statement}
-use Rattle.fields.proofs.parts.signed_of.Tie as tie
+use Rattle.fields.proofs.taking_signed.signed_of.Statement.{statement}
+use Rattle.fields.proofs.taking_signed.signed_of.Tie as tie
 
 sub-pow2 : tie.Need-sub-pow2
 sub-pow2 c = search needs
