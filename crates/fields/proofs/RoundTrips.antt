@@ -14,7 +14,7 @@ use Rattle.words.proofs.Bits.{bit-of-remainder}
 use Rattle.fields.specs.Field.{ahead, memory-bit, field-at, with-field, signed}
 use Rattle.fields.specs.Count.{last-word, take-cycles}
 use Rattle.fields.specs.Answers.{refusal, taken, taken-signed, put-memory}
-use Rattle.fields.proofs.Accepted.{is-accepted}
+use Rattle.fields.proofs.Accepted.{none-applies}
 use Rattle.fields.proofs.Answered.{taken-done, signed-done, memory-done, memory-refused}
 use Rattle.fields.proofs.OneBit.{same-or-not}
 use Rattle.fields.proofs.Readings.{as-it-is, field-bit, put-bit}
@@ -57,14 +57,14 @@ module _ (m : List ℕ) (a : BitAddress) (n : ℕ) where
       → taken (put-memory m a n v) a n ≡ record { number = 0; value = v % 2 ^ n; cycles = take-cycles a n }
   taken-after-put v e =
       let p = put-length m a n v in
-      rw (memory-done m a n e v, taken-done (with-field m a n v) a n (rw p e), take-put m a n v (is-accepted _ _ _ e .there))
+      rw (memory-done m a n e v, taken-done (with-field m a n v) a n (rw p e), take-put m a n v (none-applies _ _ _ e .there))
 
   -- Taken out signed, it is the signed reading of that.
   pub signed-after-put : (v : ℕ) → refusal (length m) a n ≡ 0
       → taken-signed (put-memory m a n v) a n ≡ record { number = 0; value = signed n (v % 2 ^ n); cycles = take-cycles a n }
   signed-after-put v e =
       let p = put-length m a n v in
-      rw (memory-done m a n e v, signed-done (with-field m a n v) a n (rw p e), take-put m a n v (is-accepted _ _ _ e .there))
+      rw (memory-done m a n e v, signed-done (with-field m a n v) a n (rw p e), take-put m a n v (none-applies _ _ _ e .there))
 
   -- What was taken out, put in again, changes nothing; nor does a refused call.
   pub put-after-taken : put-memory m a n (taken m a n .value) ≡ m
@@ -78,7 +78,7 @@ module _ (m : List ℕ) (a : BitAddress) (n : ℕ) where
   pub put-after-signed : put-memory m a n (same-bits (taken-signed m a n .value)) ≡ m
   put-after-signed =
       ⊎-elim
-      (λ e. let i = is-accepted _ _ _ e in
+      (λ e. let i = none-applies _ _ _ e in
       let f : ℕ = field-at m a n in
       let back : same-bits (signed n f) % 2 ^ n ≡ f = same-low-bits n f (i .some) (i .most) (field-fits m a n) in
       rw (memory-done m a n e (same-bits (taken-signed m a n .value)), signed-done m a n e)

@@ -1,102 +1,94 @@
--- A field's words one after the other, as the code's loops go through them: after c words, d of its n bits are done.
--- The arithmetic is `omega`'s, once a part's place in its word is named (`Next`).
+-- A field's words one after the other, as the code's loops go through them: after c words, how many bits are done and where the
+-- field goes on.
+-- The arithmetic is `omega`'s.
 use Prim.Native.Nat.{ℕ, _+_, _-_, _*_, _/_, _≤_, _<_, min}
 use native.Mathlib.Omega.{arith}
-use mathlib.Core.Path.{_≡_, refl, sym, ap, subst, _∙_}
-use Rattle.words.specs.Addresses.{word-at}
+use mathlib.Core.Path.{_≡_, ap, _∙_}
+use Rattle.words.specs.Addresses.{address, word-at}
 use Rattle.words.specs.declared.BitAddress.{BitAddress}
 use Rattle.fields.specs.Count.{last-word, touched}
-use Rattle.fields.specs.Parts.{next-part}
-use Rattle.fields.specs.declared.parts.Part.{Part}
+use Rattle.fields.specs.Parts.{first-place, count-at, place-after}
+use Rattle.fields.specs.declared.places.Place.{Place}
 
--- ---- the next part
-
--- p is the part after the first d bits.
-pub record Next (a : BitAddress) (n d : ℕ) (p : Part) : Type 0 where
-  pub place : p .word .0 * 16 + p .from ≡ a .0 + d
+-- After c words the field of n bits at a goes on at p.
+pub record Reached (a : BitAddress) (n c : ℕ) (p : Place) : Type 0 where
+  pub words : c ≤ touched a n
+  pub word-is : p .word .0 ≡ word-at a .0 + c
+  pub done-is : p .done ≡ min n (p .word .0 * 16 - a .0)
   pub bit : p .from < 16
-  pub count : p .count ≡ min (16 - p .from) (n - d)
+  pub goes-on : c < touched a n → p .word .0 * 16 + p .from ≡ a .0 + p .done
 
-is-next : (a : BitAddress) (n d : ℕ) → Next a n d (next-part a n d)
-is-next a n d = record { place = omega arith; bit = omega arith; count = refl }
+-- The bit address at which a place lies. (A loop's invariant knows the place that it began with, and by it the field's address.)
+abbrev pub address-of : Place → BitAddress
+address-of p = address (p .word .0 * 16 + p .from)
 
--- ---- how far the loops are
+pub address-is : (a : BitAddress) (p : Place) → p ≡ first-place a → address-of p ≡ a
+address-is a p e = ap address-of e ∙ ap address (omega arith)
 
--- After c words d bits are done.
-pub record Way (a : BitAddress) (n c d : ℕ) : Type 0 where
-  pub here : d ≡ min n ((word-at a .0 + c) * 16 - a .0)
-  pub words : word-at a .0 + c ≤ last-word a n .0 + 1
+pub reached-start : (a : BitAddress) (n : ℕ) → Reached a n 0 (first-place a)
+reached-start a n =
+    record { words = omega arith; word-is = omega arith; done-is = omega arith; bit = omega arith; goes-on = λ l. omega arith }
 
-pub way-start : (a : BitAddress) (n : ℕ) → Way a n 0 0
-way-start a n = record { here = omega arith; words = omega arith }
+-- One turn: k bits lie in the word that comes next.
+pub record Turn (a : BitAddress) (n c : ℕ) (p : Place) (k : ℕ) : Type 0 where
+  pub place : p .word .0 * 16 + p .from ≡ a .0 + p .done
+  pub left : p .done < n
+  pub first : p .done ≡ p .word .0 * 16 - a .0
+  pub count : k ≡ min (16 - p .from) (n - p .done)
+  pub in-word : p .from + k ≤ 16
+  pub in-field : p .done + k ≤ n
+  pub in-touched : p .word .0 ≤ last-word a n .0
+  pub next : Reached a n (c + 1) (place-after p k)
 
-next-here : (a n d w o k : ℕ) → d < n → w * 16 + o ≡ a + d → o < 16 → k ≡ min (16 - o) (n - d) → d + k ≡ min n ((w + 1) * 16 - a)
-next-here a n d w o k l e b c = omega arith
+-- ---- the same of numbers: w is the next word
 
-module _ (a : BitAddress) (n c d : ℕ) (p : Part) (h : Way a n c d) (l : d < n) (q : Next a n d p) where
-  -- The next part lies in the word that comes next.
-  way-word : p .word .0 ≡ word-at a .0 + c
-  way-word =
-      let i : d ≡ min n ((a .0 / 16 + c) * 16 - a .0) = h .here in
-      let e : p .word .0 * 16 + p .from ≡ a .0 + d = q .place in
-      let b : p .from < 16 = q .bit in
-      omega arith
+-- If it is one of those touched, a bit of the field is left, and what is done ends where the word begins.
+some-left : (a n w d : ℕ) → 1 ≤ n → w ≤ (a + (n - 1)) / 16 → d ≡ min n (w * 16 - a) → (d < n) × (d ≡ w * 16 - a)
+some-left a n w d s l e = (omega arith, omega arith)
 
-  way-in : p .word .0 ≤ last-word a n .0
-  way-in =
-      let e : p .word .0 * 16 + p .from ≡ a .0 + d = q .place in
-      let b : p .from < 16 = q .bit in
-      omega arith
+done-next : (a n w o d k : ℕ) → d < n → w * 16 + o ≡ a + d → o < 16 → k ≡ min (16 - o) (n - d) → d + k ≡ min n ((w + 1) * 16 - a)
+done-next a n w o d k l p b q = omega arith
 
-  way-next : Way a n (c + 1) (d + p .count)
-  way-next =
-      let e : p .word .0 + 1 ≡ a .0 / 16 + (c + 1) = omega (arith, way-word) in
-      record {
-        here = next-here (a .0) n d (p .word .0) (p .from) (p .count) l (q .place) (q .bit) (q .count)
-            ∙ ap (λ (x : ℕ). min n (x * 16 - a .0)) e;
-        words = omega (arith, way-in, way-word);
-      }
+next-place : (a n w d : ℕ) → w + 1 ≤ (a + (n - 1)) / 16 → a ≤ (w + 1) * 16 → 1 ≤ n → d ≡ min n ((w + 1) * 16 - a) → (w + 1) * 16 + 0 ≡ a + d
+next-place a n w d l m s e = omega arith
 
-  -- Its first bit is the word's first, unless the field begins inside the word.
-  way-first : d ≡ p .word .0 * 16 - a .0
-  way-first =
-      let e : p .word .0 ≡ a .0 / 16 + c = way-word in
-      let i : d ≡ min n ((a .0 / 16 + c) * 16 - a .0) = h .here in
-      rw e (omega arith)
-
--- All bits are done: every word touched was passed.
-pub way-end : (a : BitAddress) (n c d : ℕ) → Way a n c d → n ≤ d → 1 ≤ n → (d ≡ n) × (c ≡ touched a n)
+-- Word number c of the touched ones, counted from 0, is no later than the last.
+next-touched : (a : BitAddress) (n c w : ℕ) → w ≡ word-at a .0 + c → c < touched a n → w ≤ last-word a n .0
 unfolding touched
-way-end a n c d h l s =
-    let i : d ≡ min n ((a .0 / 16 + c) * 16 - a .0) = h .here in
-    let j : a .0 / 16 + c ≤ (a .0 + (n - 1)) / 16 + 1 = h .words in
-    (omega arith, omega arith)
+next-touched a n c w e l = omega arith
 
 -- ---- one turn
 
--- What a turn of a loop needs of the part p that it works on: its place in memory and in the field, and how far the loop then is.
-pub record Turn (a : BitAddress) (n c d : ℕ) (p : Part) : Type 0 where
-  pub next : Next a n d p
-  pub word-is : p .word .0 ≡ word-at a .0 + c
-  pub first : d ≡ p .word .0 * 16 - a .0
-  pub in-word : p .from + p .count ≤ 16
-  pub in-field : d + p .count ≤ n
-  pub in-touched : p .word .0 ≤ last-word a n .0
-  pub less : n - (d + p .count) < n - d
-  pub way : Way a n (c + 1) (d + p .count)
-
-pub turn : (a : BitAddress) (n c d : ℕ) (p : Part) → Way a n c d → d < n → p ≡ next-part a n d → Turn a n c d p
-turn a n c d p h l e =
-    let q : Next a n d p = subst (Next a n d) (sym e) (is-next a n d) in
-    let b : p .from < 16 = q .bit in
-    let k : p .count ≡ min (16 - p .from) (n - d) = q .count in
+pub turn : (a : BitAddress) (n c : ℕ) (p : Place) (k : ℕ) → Reached a n c p → 1 ≤ n → c < touched a n → k ≡ count-at p n → Turn a n c p k
+turn a n c p k h s l e =
+    let w : ℕ = p .word .0 in
+    let t : w ≤ last-word a n .0 = next-touched a n c w (h .word-is) l in
+    let g : w * 16 + p .from ≡ a .0 + p .done = h .goes-on l in
+    let left = some-left (a .0) n w (p .done) s t (h .done-is) in
+    let done : p .done + k ≡ min n ((w + 1) * 16 - a .0) = done-next (a .0) n w (p .from) (p .done) k (left .0) g (h .bit) e in
     record {
-      next = q;
-      word-is = way-word a n c d p h l q;
-      first = way-first a n c d p h l q;
-      in-word = omega arith;
-      in-field = omega arith;
-      in-touched = way-in a n c d p h l q;
-      less = omega arith;
-      way = way-next a n c d p h l q;
+      place = g;
+      left = left .0;
+      first = left .1;
+      count = e;
+      in-word = omega (arith, h .bit);
+      in-field = omega (arith, left .0);
+      in-touched = t;
+      next = record {
+        words = omega (arith, l);
+        word-is = omega (arith, h .word-is);
+        done-is = done;
+        bit = omega arith;
+        goes-on = λ m. next-place (a .0) n w (p .done + k) (next-touched a n (c + 1) (w + 1) (omega (arith, h .word-is)) m) (omega (arith, g, h .bit)) s done;
+      };
     }
+
+-- There are three words at most.
+pub at-most-three : (a : BitAddress) (n c : ℕ) (p : Place) → Reached a n c p → n ≤ 32 → c ≤ 3
+unfolding touched
+at-most-three a n c p h m = omega (arith, h .words)
+
+-- All words are passed: all bits are done.
+pub reached-end : (a : BitAddress) (n c : ℕ) (p : Place) → Reached a n c p → 1 ≤ n → touched a n ≤ c → (p .done ≡ n) × (c ≡ touched a n)
+unfolding touched
+reached-end a n c p h s l = (omega (arith, h .word-is, h .done-is), omega (arith, h .words))

@@ -2,8 +2,9 @@
 //
 // A call judges its numbers first, and refuses by number. An accepted field is then done word by word, in numbers
 // of 32 bits.
+mod bits;
 mod judging;
-mod parts;
+mod places;
 mod putting;
 mod taking;
 mod taking_signed;

@@ -4,10 +4,14 @@ ghost use lib.ListN.{length};
 ghost use Rattle.fields.specs.Answers.{done-taking, taken};
 ghost use Rattle.fields.specs.Parts.{Accepted};
 use crate::Taken;
+use crate::bits::bits_of;
+use crate::bits::pow2;
+use crate::judging::is_accepted;
 use crate::judging::refusal_of;
-use crate::parts::bits_of;
-use crate::parts::next_part_of;
-use crate::parts::pow2;
+use crate::judging::touched_by;
+use crate::places::count_of;
+use crate::places::first_place_of;
+use crate::places::place_past;
 use words::BitAddress;
 
 // Takes an accepted field out, one cycle for each word.
@@ -15,15 +19,18 @@ pub fn gather(memory: &[u16], at: BitAddress, size: u32) -> Taken
     requires { ⌜ Accepted (length (now memory)) at size ⌝ }
     ensures { λ r. ⌜ r ≡ done-taking (now (memory .entry)) at size ⌝ }
 {
+    let words = touched_by(at, size);
+    let mut place = first_place_of(at);
     let mut value: u32 = 0;
     let mut cycles: u32 = 0;
-    let mut done: u32 = 0;
-    while done < size {
-        let part = next_part_of(at, size, done);
-        let word = memory[part.word.0 as usize];
-        value += bits_of(word as u32, part.from, part.count) * pow2(done);
-        done += part.count;
+    let mut passed: u32 = 0;
+    while passed < words {
+        let count = count_of(place, size);
+        let word = memory[place.word.0 as usize];
+        value += bits_of(word as u32, place.from, count) * pow2(place.done);
         cycles += 1;
+        place = place_past(place, count);
+        passed += 1;
     }
     Taken {
         number: 0,
@@ -36,12 +43,11 @@ pub fn gather(memory: &[u16], at: BitAddress, size: u32) -> Taken
 pub fn take_out(memory: &[u16], at: BitAddress, size: u32) -> Taken
     ensures { λ r. ⌜ r ≡ taken (now (memory .entry)) at size ⌝ }
 {
-    let number = refusal_of(memory.len(), at, size);
-    if number == 0 {
+    if is_accepted(memory.len(), at, size) {
         return gather(memory, at, size);
     }
     Taken {
-        number,
+        number: refusal_of(memory.len(), at, size),
         value: 0,
         cycles: 0,
     }

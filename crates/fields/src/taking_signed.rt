@@ -4,8 +4,9 @@ ghost use Prim.Native.Nat.{_^_, _≤_, _<_};
 ghost use Rattle.fields.specs.Field.{signed};
 ghost use Rattle.fields.specs.Answers.{taken-signed};
 use crate::SignedTaken;
+use crate::bits::pow2;
+use crate::judging::is_accepted;
 use crate::judging::refusal_of;
-use crate::parts::pow2;
 use crate::taking::gather;
 use words::BitAddress;
 
@@ -28,8 +29,7 @@ fn signed_of(size: u32, value: u32) -> i32
 pub fn take_out_signed(memory: &[u16], at: BitAddress, size: u32) -> SignedTaken
     ensures { λ r. ⌜ r ≡ taken-signed (now (memory .entry)) at size ⌝ }
 {
-    let number = refusal_of(memory.len(), at, size);
-    if number == 0 {
+    if is_accepted(memory.len(), at, size) {
         let field = gather(memory, at, size);
         return SignedTaken {
             number: 0,
@@ -38,7 +38,7 @@ pub fn take_out_signed(memory: &[u16], at: BitAddress, size: u32) -> SignedTaken
         };
     }
     SignedTaken {
-        number,
+        number: refusal_of(memory.len(), at, size),
         value: 0,
         cycles: 0,
     }

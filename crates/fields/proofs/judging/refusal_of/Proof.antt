@@ -1,9 +1,10 @@
 -- `fields::judging::refusal_of` meets its contract: each test is the definition's.
 use borrow.Author.Needs.{needs}
 use mathlib.Core.Path.{sym, _∙_}
-use borrow.Author.Tests.{lt-ltb, le-ltb}
+use native.Mathlib.Omega.{arith}
+use borrow.Author.Tests.{lt-ltb, le-ltb, le-leb, lt-leb}
 use Rattle.fields.specs.Answers.{refusal}
-use Rattle.fields.proofs.Accepted.{wide, not-wide, missing, not-missing}
+use Rattle.fields.proofs.Accepted.{touched-is, last-is}
 use Rattle.fields.proofs.judging.refusal_of.Statement.{statement}
 use Rattle.fields.proofs.judging.refusal_of.Tie as tie
 
@@ -22,11 +23,8 @@ returns-3 : tie.Need-returns-3
 unfolding refusal
 returns-3 c = rw (sym (c .before .before .before .is-over-limit .ensures) ∙ c .before .before .if1 .left, le-ltb _ _ (c .before .if2 .left), lt-ltb _ _ (c .if3 .taken))
 
-add-more : tie.Need-add-more
-add-more c = search needs
-
-sub-more : tie.Need-sub-more
-sub-more c = search needs
+touched-by-requires : tie.Need-touched-by-requires
+touched-by-requires c κs = search needs
 
 returns-4 : tie.Need-returns-4
 unfolding refusal
@@ -35,7 +33,7 @@ returns-4 c =
       sym (c .before .before .before .before .before .is-over-limit .ensures) ∙ c .before .before .before .before .if1 .left,
       le-ltb _ _ (c .before .before .before .if2 .left),
       le-ltb _ _ (c .before .before .if3 .left),
-      wide (c .before .before .before .before .before .before .args .words) _ _ (c .before .before .before .if2 .left) (c .if4 .taken),
+      lt-ltb _ _ (rw (c .before .touched-by .ensures) at (c .if4 .taken)),
     )
 
 word-of-requires : tie.Need-word-of-requires
@@ -44,29 +42,38 @@ word-of-requires c κs = tt
 add-last : tie.Need-add-last
 add-last c = rw (c .before .word-of .ensures) (search needs)
 
+sub-last : tie.Need-sub-last
+sub-last c =
+    let a = c .before .before .before .before .before .before .before .before .args in
+    omega (arith, c .before .before .before .touched-by .ensures, touched-is (a .at) (a .size) (c .before .before .before .before .before .if2 .left))
+
 cast-if5 : tie.Need-cast-if5
 cast-if5 c = search needs
 
 returns-5 : tie.Need-returns-5
 unfolding refusal
 returns-5 c =
+    let l = rw (c .before .before .word-of .ensures, c .before .before .before .before .touched-by .ensures) at (c .if5 .taken) in
     rw (
       sym (c .before .before .before .before .before .before .before .before .is-over-limit .ensures) ∙ c .before .before .before .before .before .before .before .if1 .left,
       le-ltb _ _ (c .before .before .before .before .before .before .if2 .left),
       le-ltb _ _ (c .before .before .before .before .before .if3 .left),
-      not-wide (c .before .before .before .before .before .before .before .before .before .args .words) _ _ (c .before .before .before .before .before .before .if2 .left) (c .before .before .before .if4 .left),
-      missing _ _ _ (c .before .before .before .before .before .before .if2 .left) (rw (c .before .before .word-of .ensures) at (c .if5 .taken)),
+      le-ltb _ _ (rw (c .before .before .before .before .touched-by .ensures) at (c .before .before .before .if4 .left)),
+      last-is _ _ (c .before .before .before .before .before .before .if2 .left),
+      le-leb _ _ l,
     )
 
 returns-6 : tie.Need-returns-6
 unfolding refusal
 returns-6 c =
+    let l = rw (c .before .before .word-of .ensures, c .before .before .before .before .touched-by .ensures) at (c .if5 .left) in
     rw (
       sym (c .before .before .before .before .before .before .before .before .is-over-limit .ensures) ∙ c .before .before .before .before .before .before .before .if1 .left,
       le-ltb _ _ (c .before .before .before .before .before .before .if2 .left),
       le-ltb _ _ (c .before .before .before .before .before .if3 .left),
-      not-wide (c .before .before .before .before .before .before .before .before .before .args .words) _ _ (c .before .before .before .before .before .before .if2 .left) (c .before .before .before .if4 .left),
-      not-missing _ _ _ (c .before .before .before .before .before .before .if2 .left) (rw (c .before .before .word-of .ensures) at (c .if5 .left)),
+      le-ltb _ _ (rw (c .before .before .before .before .touched-by .ensures) at (c .before .before .before .if4 .left)),
+      last-is _ _ (c .before .before .before .before .before .before .if2 .left),
+      lt-leb _ _ l,
     )
 
 pub refusal-of-spec : {M : Type 1} → statement M
@@ -77,11 +84,11 @@ refusal-of-spec =
     returns
     returns-2
     returns-3
-    add-more
-    sub-more
+    touched-by-requires
     returns-4
     word-of-requires
     add-last
+    sub-last
     cast-if5
     returns-5
     returns-6)

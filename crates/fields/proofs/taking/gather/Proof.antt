@@ -1,52 +1,85 @@
 -- `fields::taking::gather` meets its contract: after each turn the value is the field of the bits done so far (`take-part`),
 -- and the cycles are the sum over the words passed (`Spent`).
-use native.Mathlib.Nat.{lt-of-lt-of-le}
+use native.Mathlib.Nat.{le-trans, lt-of-lt-of-le}
 use native.Mathlib.Omega.{arith}
 use Prim.Native.Nat.{ℕ, _+_, _-_, _*_, _^_, _<_}
-use mathlib.Core.Path.{_≡_, refl, sym}
+use mathlib.Core.Path.{_≡_, refl, sym, subst}
 use mathlib.Core.List.{List}
 use lib.ListN.{length}
 use lib.Pow.{pow-mono}
 use Rattle.words.specs.declared.BitAddress.{BitAddress}
 use Rattle.fields.specs.Field.{field-at}
 use Rattle.fields.specs.Count.{take-cost, take-cycles}
+use Rattle.fields.specs.Parts.{first-place}
+use Rattle.fields.specs.declared.places.Place.{Place}
 use Rattle.fields.proofs.Steps.{take-part, field-fits}
-use Rattle.fields.proofs.WordByWord.{Turn, turn}
-use Rattle.fields.proofs.Costs.{Spent, spent-start, spent-next, spent-end, take-little}
+use Rattle.fields.proofs.WordByWord.{Reached, at-most-three, address-of, address-is, reached-start, reached-end, Turn, turn}
+use Rattle.fields.proofs.Costs.{Spent, spent-start, spent-next, few-cycles, take-little}
 use Rattle.fields.proofs.taking.gather.Statement.{statement}
 use Rattle.fields.proofs.taking.gather.Tie as tie
 
--- After `done` bits: the cycles, and the value.
-record Gathered (m : List ℕ) (a : BitAddress) (n value cycles done : ℕ) : Type 0 where
-  pub spent : Spent (λ w. take-cost) a n done cycles
-  pub value-is : value ≡ field-at m a done
+-- After some words: the place, the cycles and the value.
+record Gathered (m : List ℕ) (a : BitAddress) (n : ℕ) (p : Place) (value cycles passed : ℕ) : Type 0 where
+  pub reached : Reached a n passed p
+  pub spent : Spent (λ w. take-cost) a passed cycles
+  pub value-is : value ≡ field-at m a (p .done)
+
+begun : (m : List ℕ) (a : BitAddress) (n : ℕ) → Gathered m a n (first-place a) 0 0 0
+unfolding field-at
+begun m a n = record { reached = reached-start a n; spent = spent-start (λ w. take-cost) a; value-is = refl }
+
+-- Said of the field's own address, or of the one that the loop knows by its first place.
+module _ {m : List ℕ} {a : BitAddress} {n : ℕ} {p q : Place} {v s c : ℕ} (e : p ≡ first-place a) where
+  own : Gathered m (address-of p) n q v s c → Gathered m a n q v s c
+  own = subst (λ (b : BitAddress). Gathered m b n q v s c) (address-is a p e)
+
+  known : Gathered m a n q v s c → Gathered m (address-of p) n q v s c
+  known = subst (λ (b : BitAddress). Gathered m b n q v s c) (sym (address-is a p e))
 
 abbrev Inv-loop : tie.InvT-loop
-Inv-loop memory at size value₀ cycles₀ done₀ value cycles done = Gathered memory at size value cycles done
+Inv-loop memory size words place₀ value₀ cycles₀ passed₀ place value cycles passed = Gathered memory (address-of place₀) size place value cycles passed
 
 abbrev μ-loop : tie.MeasureT-loop
-μ-loop memory at size value₀ cycles₀ done₀ value cycles done = size - done
+μ-loop memory size words place₀ value₀ cycles₀ passed₀ place value cycles passed = words - passed
+
+touched-by-requires : tie.Need-touched-by-requires Inv-loop μ-loop
+touched-by-requires c κs = (c .before .pre .some, c .before .pre .most)
+
+first-place-of-requires : tie.Need-first-place-of-requires Inv-loop μ-loop
+first-place-of-requires c κs = tt
 
 loop-holds : tie.Need-loop-holds Inv-loop μ-loop
-unfolding field-at
-loop-holds c = record { spent = spent-start _ _ _; value-is = refl }
+loop-holds c =
+    let e = c .first-place-of .ensures in
+    known e (rw e (begun _ _ _))
 
-next-part-of-requires : tie.Need-next-part-of-requires Inv-loop μ-loop
-next-part-of-requires c κs = (c .loop-test .taken, omega arith)
+-- The invariant, of the field's own address.
+inv : (c : tie.At-loop Inv-loop μ-loop) →
+    let g = c .before .before .before .before .args in
+    let l = c .loop in
+    Gathered (g .memory .now) (g .at) (g .size) (l .place) (l .value) (l .cycles) (l .passed)
+inv c = own (c .before .first-place-of .ensures) (c .loop .inv)
 
--- The part that the turn works on.
-part : (c : tie.After-next-part-of Inv-loop μ-loop) →
+count-of-requires : tie.Need-count-of-requires Inv-loop μ-loop
+count-of-requires c κs =
+    let i = inv (c .before) .reached in
+    (omega (arith, i .bit), omega (arith, i .done-is))
+
+-- The turn: the bits that lie in the next word.
+this : (c : tie.After-count-of Inv-loop μ-loop) →
     let l = c .before .before in
-    let g = l .before .before .args in
-    Turn (g .at) (g .size) (l .loop .inv .spent .passed) (l .loop .done) (c .next-part-of .result)
-part c =
+    let g = l .before .before .before .before .args in
+    Turn (g .at) (g .size) (l .loop .passed) (l .loop .place) (c .count-of .result)
+this c =
     let l = c .before .before in
-    turn _ _ _ _ _ (l .loop .inv .spent .way) (c .before .loop-test .taken) (c .next-part-of .ensures)
+    let s = l .before .before .before .before in
+    turn _ _ _ _ _ (inv l .reached) (s .pre .some) (rw (l .before .before .touched-by .ensures) at (c .before .loop-test .taken)) (c .count-of .ensures)
 
--- Its word is in memory.
-there : (c : tie.After-next-part-of Inv-loop μ-loop) →
-    c .next-part-of .result .word .0 < length (c .before .before .before .before .args .memory .now)
-there c = omega (arith, part c .in-touched, c .before .before .before .before .pre .there)
+-- That word is in memory.
+there : (c : tie.After-count-of Inv-loop μ-loop) →
+    let l = c .before .before in
+    l .loop .place .word .0 < length (l .before .before .before .before .args .memory .now)
+there c = omega (arith, this c .in-touched, c .before .before .before .before .before .before .pre .there)
 
 cast-word : tie.Need-cast-word Inv-loop μ-loop
 cast-word c = omega (arith, there (c .before))
@@ -58,34 +91,35 @@ shared-slice-read-word : tie.Need-shared-slice-read-word Inv-loop μ-loop
 shared-slice-read-word c = there (c .before .before)
 
 cast-bits-of : tie.Need-cast-bits-of Inv-loop μ-loop
-cast-bits-of c = omega (arith, c .shared-slice-known2 .given (c .before .before .next-part-of .result .word .0))
+cast-bits-of c = omega (arith, c .shared-slice-known2 .given (c .before .before .before .before .loop .place .word .0))
 
 bits-of-requires : tie.Need-bits-of-requires Inv-loop μ-loop
 bits-of-requires c κs =
-    let p = part (c .before .before) in
-    (omega (arith, p .in-word), omega (arith, p .in-word))
+    let t = this (c .before .before) in
+    (omega (arith, t .in-word), omega (arith, t .in-word))
 
 pow2-requires : tie.Need-pow2-requires Inv-loop μ-loop
-pow2-requires c κs = omega arith
+pow2-requires c κs = lt-of-lt-of-le (this (c .before .before .before) .left) (c .before .before .before .before .before .before .before .before .before .pre .most)
 
 -- The value after the turn, and that it fits.
 after : (c : tie.After-pow2 Inv-loop μ-loop) →
     let n = c .before .before .before .before in
     let l = n .before .before in
-    let g = l .before .before .args in
+    let g = l .before .before .before .before .args in
     let v = l .loop .value + c .before .bits-of .result * c .pow2 .result in
-    (v ≡ field-at (g .memory .now) (g .at) (l .loop .done + n .next-part-of .result .count)) × (v < 2 ^ 32)
+    (v ≡ field-at (g .memory .now) (g .at) (l .loop .place .done + n .count-of .result)) × (v < 2 ^ 32)
 after c =
     let n = c .before .before .before .before in
     let l = n .before .before in
-    let g = l .before .before .args in
-    let m = g .memory .now in
-    let p = n .next-part-of .result in
-    let d = l .loop .done in
-    let e : l .loop .value + c .before .bits-of .result * c .pow2 .result ≡ field-at m (g .at) (d + p .count) =
-    rw (c .before .bits-of .ensures, c .pow2 .ensures, l .loop .inv .value-is)
-    (sym (take-part m (g .at) d (p .word .0) (p .from) (sym (part n .next .place)) (p .count) (part n .in-word)))
-    in (e, rw e (lt-of-lt-of-le (field-fits m (g .at) (d + p .count)) (pow-mono {j = 32} (omega (arith, part n .in-field)))))
+    let s = l .before .before .before .before in
+    let m = s .args .memory .now in
+    let a = s .args .at in
+    let p = l .loop .place in
+    let k = n .count-of .result in
+    let e : l .loop .value + c .before .bits-of .result * c .pow2 .result ≡ field-at m a (p .done + k) =
+    rw (c .before .bits-of .ensures, c .pow2 .ensures, inv l .value-is)
+    (sym (take-part m a (p .done) (p .word .0) (p .from) (sym (this n .place)) k (this n .in-word)))
+    in (e, rw e (lt-of-lt-of-le (field-fits m a (p .done + k)) (pow-mono {j = 32} (le-trans (this n .in-field) (s .pre .most)))))
 
 mul-value : tie.Need-mul-value Inv-loop μ-loop
 mul-value c = omega (arith, after c .1)
@@ -93,32 +127,46 @@ mul-value c = omega (arith, after c .1)
 add-value : tie.Need-add-value Inv-loop μ-loop
 add-value c = omega (arith, after c .1)
 
-add-done : tie.Need-add-done Inv-loop μ-loop
-add-done c = omega (arith, part (c .before .before .before .before .before) .in-field)
-
 add-cycles : tie.Need-add-cycles Inv-loop μ-loop
 add-cycles c =
-    let s = c .before .before .before .before .before .before .before .loop .inv .spent in
-    omega (arith, s .little, s .way .words)
+    let i = inv (c .before .before .before .before .before .before) in
+    let s = c .before .before .before .before .before .before .before .before .before .before in
+    omega (arith, few-cycles _ _ _ _ (i .spent) (at-most-three _ _ _ _ (i .reached) (s .pre .most)))
+
+place-past-requires : tie.Need-place-past-requires Inv-loop μ-loop
+place-past-requires c κs =
+    let n = c .before .before .before .before in
+    let s = n .before .before .before .before .before .before in
+    (omega (arith, there n, s .pre .few), omega (arith, this n .in-field, s .pre .most))
+
+add-passed : tie.Need-add-passed Inv-loop μ-loop
+add-passed c = omega (arith, c .before .before .before .before .before .before .loop-test .taken)
 
 loop-less : tie.Need-loop-less Inv-loop μ-loop
-loop-less c = part (c .before .before .before .before .before) .less
+loop-less c = omega (arith, c .before .before .before .before .before .before .loop-test .taken)
 
 loop-again : tie.Need-loop-again Inv-loop μ-loop
 unfolding take-cost
 loop-again c =
     let n = c .before .before .before .before .before in
-    record {
-      spent = spent-next _ _ _ _ _ _ (n .before .before .loop .inv .spent) (part n) take-little;
+    let l = n .before .before in
+    let i = inv l in
+    rw (c .place-past .ensures)
+    (known (l .before .first-place-of .ensures)
+    (record {
+      reached = this n .next;
+      spent = spent-next (λ w. take-cost) _ _ _ _ (l .loop .place) (i .spent) (i .reached) take-little;
       value-is = after (c .before) .0;
-    }
+    }))
 
 returns : tie.Need-returns Inv-loop μ-loop
 unfolding take-cycles
 returns c =
-    let l = c .before .loop in
-    let z = spent-end _ _ _ _ _ (l .inv .spent) (c .loop-test .left) (c .before .before .before .pre .some) in
-    rw (l .inv .value-is, z .0, z .1)
+    let l = c .before in
+    let i = inv l in
+    let s = l .before .before .before .before in
+    let z = reached-end _ _ _ _ (i .reached) (s .pre .some) (rw (l .before .before .touched-by .ensures) at (c .loop-test .left)) in
+    rw (i .value-is, z .0, i .spent .sum, z .1)
 
 pub gather-spec : {M : Type 1} → statement M
 gather-spec =
@@ -126,8 +174,10 @@ gather-spec =
     (tie.spec
     Inv-loop
     μ-loop
+    touched-by-requires
+    first-place-of-requires
     loop-holds
-    next-part-of-requires
+    count-of-requires
     cast-word
     mul-word
     shared-slice-read-word
@@ -136,8 +186,9 @@ gather-spec =
     pow2-requires
     mul-value
     add-value
-    add-done
     add-cycles
+    place-past-requires
+    add-passed
     loop-less
     loop-again
     returns)

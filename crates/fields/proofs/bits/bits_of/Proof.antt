@@ -1,8 +1,8 @@
--- `fields::parts::bits_of` meets its contract: the powers of two are what `pow2` says, and are not 0.
+-- `fields::bits::bits_of` meets its contract: the powers of two are what `pow2` says, and are not 0.
 use borrow.Author.Needs.{needs}
 use lib.Pow.{pow-pos}
-use Rattle.fields.proofs.parts.bits_of.Statement.{statement}
-use Rattle.fields.proofs.parts.bits_of.Tie as tie
+use Rattle.fields.proofs.bits.bits_of.Statement.{statement}
+use Rattle.fields.proofs.bits.bits_of.Tie as tie
 
 pow2-requires : tie.Need-pow2-requires
 pow2-requires c κs = search needs

@@ -1,12 +1,12 @@
--- `fields::parts::pow2` meets its contract: one moved up by n bits is 2^n, which fits.
+-- `fields::bits::pow2` meets its contract: one moved up by n bits is 2^n, which fits.
 use borrow.Author.Needs.{needs}
 use lib.Dec.{lit<}
 use lib.Pow.{shl-exact}
 use mathlib.Core.Path.{_∙_}
 use native.Mathlib.Nat.{one-mul}
 use native.Mathlib.Omega.{arith}
-use Rattle.fields.proofs.parts.pow2.Statement.{statement}
-use Rattle.fields.proofs.parts.pow2.Tie as tie
+use Rattle.fields.proofs.bits.pow2.Statement.{statement}
+use Rattle.fields.proofs.bits.pow2.Tie as tie
 
 shl-result : tie.Need-shl-result
 shl-result c = search needs

@@ -1,0 +1,51 @@
+// How far a field is done, word by word.
+ghost use mathlib.Core.Path.{_≡_};
+ghost use Prim.Native.Nat.{_+_, _^_, _≤_, _<_, min};
+ghost use Rattle.fields.specs.Parts.{first-place, count-at, place-after};
+use words::BitAddress;
+use words::WordNumber;
+use words::word_of;
+
+// The field's first `done` bits are done; it goes on in `word`, from its bit `from` on.
+pub struct Place {
+    pub word: WordNumber,
+    pub from: u32,
+    pub done: u32,
+}
+
+fn least(a: u32, b: u32) -> u32
+    ensures { λ r. ⌜ r ≡ min a b ⌝ }
+{
+    if a < b { a } else { b }
+}
+
+// Nothing is done yet.
+pub fn first_place_of(at: BitAddress) -> Place
+    ensures { λ r. ⌜ r ≡ first-place at ⌝ }
+{
+    Place {
+        word: word_of(at),
+        from: at.0 % 16,
+        done: 0,
+    }
+}
+
+// How many bits of a field of `size` bits lie in the word that comes next.
+pub fn count_of(place: Place, size: u32) -> u32
+    requires { ⌜ (place .from ≤ 16) × (place .done ≤ size) ⌝ }
+    ensures { λ r. ⌜ r ≡ count-at place size ⌝ }
+{
+    least(16 - place.from, size - place.done)
+}
+
+// These are done too.
+pub fn place_past(place: Place, count: u32) -> Place
+    requires { ⌜ (place .word .0 + 1 < 2 ^ 32) × (place .done + count < 2 ^ 32) ⌝ }
+    ensures { λ r. ⌜ r ≡ place-after place count ⌝ }
+{
+    Place {
+        word: WordNumber(place.word.0 + 1),
+        from: 0,
+        done: place.done + count,
+    }
+}
