@@ -4,6 +4,8 @@ use Prim.Native.Nat.{ℕ, _+_, _-_, _/_, _%_, _≤_}
 use native.Mathlib.Omega.{arith}
 use mathlib.Core.Path.{_≡_, refl}
 use mathlib.Core.Bool.{Bool, true, false, _||_}
+use mathlib.Core.Logic.{⊎-elim}
+use Rattle.words.proofs.Choices.{either-way}
 use lib.Dec.{ltb, leb}
 use borrow.Author.Tests.{ltb-false, leb-false}
 use Rattle.words.specs.Addresses.{word-at}
@@ -37,10 +39,11 @@ either-false true t e = absurd (let z : _≡_ {A = ℕ} 0 1 = cc in omega arith)
 pub none-applies : (words : ℕ) (a : BitAddress) (n : ℕ) → refusal words a n ≡ 0 → Accepted words a n
 unfolding refusal
 none-applies words a n e =
-    let few : ltb 32768 words ≡ false = not-true _ (λ t. omega (arith, rw t at e)) in
-    let size : ltb n 1 || ltb 32 n ≡ false = not-true _ (λ t. omega (arith, rw (few, t) at e)) in
-    let narrow : ltb 3 (touched a n) ≡ false = not-true _ (λ t. omega (arith, rw (few, size, t) at e)) in
-    let there : leb words (last-word a n .0) ≡ false = not-true _ (λ t. omega (arith, rw (few, size, narrow, t) at e)) in
+    let few : ltb 32768 words ≡ false =
+    not-true _ (λ t. ⊎-elim (λ s. omega (arith, simp (t, s) at e)) (λ s. omega (arith, simp (t, s) at e)) (either-way (ltb n 1 || ltb 32 n))) in
+    let size : ltb n 1 || ltb 32 n ≡ false = not-true _ (λ t. omega (arith, simp (few, t) at e)) in
+    let narrow : ltb 3 (touched a n) ≡ false = not-true _ (λ t. omega (arith, simp (few, size, t) at e)) in
+    let there : leb words (last-word a n .0) ≡ false = not-true _ (λ t. omega (arith, simp (few, size, narrow, t) at e)) in
     let both = either-false (ltb n 1) (ltb 32 n) size in
     record {
       few = ltb-false 32768 words few;
