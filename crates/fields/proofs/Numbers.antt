@@ -113,29 +113,33 @@ pub record Refused (m : List ℕ) (a : BitAddress) (n k : ℕ) : Type 0 where
   pub memory : (v : ℕ) → put-memory m a n v ≡ m
 
 module _ (m : List ℕ) (a : BitAddress) (n : ℕ) where
-  -- Every call answers the number that applies.
-  pub taken-number : taken m a n .number ≡ refusal (length m) a n
+  taken-number : taken m a n .number ≡ refusal (length m) a n
   taken-number =
       ⊎-elim
       (λ e. ap (λ (r : Taken). r .number) (taken-done m a n e) ∙ sym e)
       (λ d. ap (λ (r : Taken). r .number) (taken-refused m a n d))
       (same-or-not (refusal (length m) a n) 0)
 
-  pub signed-number : taken-signed m a n .number ≡ refusal (length m) a n
+  signed-number : taken-signed m a n .number ≡ refusal (length m) a n
   signed-number =
       ⊎-elim
       (λ e. ap (λ (r : SignedTaken). r .number) (signed-done m a n e) ∙ sym e)
       (λ d. ap (λ (r : SignedTaken). r .number) (signed-refused m a n d))
       (same-or-not (refusal (length m) a n) 0)
 
-  pub put-number : put-answer (length m) a n .number ≡ refusal (length m) a n
+  put-number : put-answer (length m) a n .number ≡ refusal (length m) a n
   put-number =
       ⊎-elim
       (λ e. ap (λ (r : Put). r .number) (put-done m a n e) ∙ sym e)
       (λ d. ap (λ (r : Put). r .number) (put-refused m a n d))
       (same-or-not (refusal (length m) a n) 0)
 
-  -- Where that number is not 0, the call is refused so.
+  -- The number of every call is one of 0, 1, 4, 5 and 6, each when, and only then.
+  pub numbered : When (length m) a n (taken m a n .number) × When (length m) a n (taken-signed m a n .number)
+      × When (length m) a n (put-answer (length m) a n .number)
+  numbered = (rw taken-number (when (length m) a n), rw signed-number (when (length m) a n), rw put-number (when (length m) a n))
+
+  -- Where the number that applies is not 0, every call is refused so.
   pub refuses : refusal (length m) a n ≢ 0 → Refused m a n (refusal (length m) a n)
   refuses d =
       record {

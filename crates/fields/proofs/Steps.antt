@@ -43,7 +43,7 @@ set-length m b v = length-set m (b .0 / 16) _
 pub put-length : (m : List ℕ) (a : BitAddress) (n v : ℕ) → length (with-field m a n v) ≡ length m
 unfolding with-field
 put-length m a zero v = refl
-put-length m a (suc n) v = set-length (with-field m a n v) (ahead a n) (bit v n) ∙ put-length m a n v
+put-length m a (suc n) v = set-length (with-field m a n v) (ahead a n) _ ∙ put-length m a n v
 
 -- ---- the next n bits
 

@@ -4,7 +4,7 @@ ghost use Prim.Native.Nat.{_+_, _/_, _%_, _^_, _≤_, _<_};
 ghost use Rattle.fields.specs.Parts.{with-bits};
 
 // Two to the n. (A quotient, a remainder or a product by it is compiled to a shift or a mask.)
-pub fn pow2(n: u32) -> u32
+pub(crate) fn pow2(n: u32) -> u32
     requires { ⌜ n < 32 ⌝ }
     ensures { λ r. ⌜ r ≡ 2 ^ n ⌝ }
 {
@@ -13,7 +13,7 @@ pub fn pow2(n: u32) -> u32
 }
 
 // The n bits of a number from bit o on.
-pub fn bits_of(x: u32, o: u32, n: u32) -> u32
+pub(crate) fn bits_of(x: u32, o: u32, n: u32) -> u32
     requires { ⌜ (o < 32) × (n < 32) ⌝ }
     ensures { λ r. ⌜ r ≡ x / 2 ^ o % 2 ^ n ⌝ }
 {
@@ -21,7 +21,7 @@ pub fn bits_of(x: u32, o: u32, n: u32) -> u32
 }
 
 // The word with its n bits from bit o on made `bits`.
-pub fn replace_bits(word: u16, o: u32, n: u32, bits: u32) -> u16
+pub(crate) fn replace_bits(word: u16, o: u32, n: u32, bits: u32) -> u16
     requires { ⌜ (o + n ≤ 16) × (bits < 2 ^ n) ⌝ }
     ensures { λ r. ⌜ r ≡ with-bits word o n bits ⌝ }
 {

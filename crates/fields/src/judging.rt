@@ -8,7 +8,7 @@ use words::is_over_limit;
 use words::word_of;
 
 // How many words a field touches.
-pub fn touched_by(at: BitAddress, size: u32) -> u32
+pub(crate) fn touched_by(at: BitAddress, size: u32) -> u32
     requires { ⌜ (1 ≤ size) × (size ≤ 32) ⌝ }
     ensures { λ r. ⌜ r ≡ touched at size ⌝ }
 {
@@ -16,7 +16,7 @@ pub fn touched_by(at: BitAddress, size: u32) -> u32
 }
 
 // Number 1, 4, 5 or 6, or 0 where none applies.
-pub fn refusal_of(words: usize, at: BitAddress, size: u32) -> u8
+pub(crate) fn refusal_of(words: usize, at: BitAddress, size: u32) -> u8
     ensures { λ r. ⌜ r ≡ refusal words at size ⌝ }
 {
     if is_over_limit(words) {
@@ -40,7 +40,7 @@ pub fn refusal_of(words: usize, at: BitAddress, size: u32) -> u8
 }
 
 // No number applies.
-pub fn is_accepted(words: usize, at: BitAddress, size: u32) -> bool
+pub(crate) fn is_accepted(words: usize, at: BitAddress, size: u32) -> bool
     ensures { λ r. ⌜ r ≡ accepted words at size ⌝ }
 {
     refusal_of(words, at, size) == 0

@@ -7,10 +7,10 @@ use words::WordNumber;
 use words::word_of;
 
 // The field's first `done` bits are done; it goes on in `word`, from its bit `from` on.
-pub struct Place {
-    pub word: WordNumber,
-    pub from: u32,
-    pub done: u32,
+pub(crate) struct Place {
+    pub(crate) word: WordNumber,
+    pub(crate) from: u32,
+    pub(crate) done: u32,
 }
 
 fn least(a: u32, b: u32) -> u32
@@ -20,7 +20,7 @@ fn least(a: u32, b: u32) -> u32
 }
 
 // Nothing is done yet.
-pub fn first_place_of(at: BitAddress) -> Place
+pub(crate) fn first_place_of(at: BitAddress) -> Place
     ensures { λ r. ⌜ r ≡ first-place at ⌝ }
 {
     Place {
@@ -31,7 +31,7 @@ pub fn first_place_of(at: BitAddress) -> Place
 }
 
 // How many bits of a field of `size` bits lie in the word that comes next.
-pub fn count_of(place: Place, size: u32) -> u32
+pub(crate) fn count_of(place: Place, size: u32) -> u32
     requires { ⌜ (place .from ≤ 16) × (place .done ≤ size) ⌝ }
     ensures { λ r. ⌜ r ≡ count-at place size ⌝ }
 {
@@ -39,13 +39,15 @@ pub fn count_of(place: Place, size: u32) -> u32
 }
 
 // These are done too.
-pub fn place_past(place: Place, count: u32) -> Place
+pub(crate) fn place_past(place: Place, count: u32) -> Place
     requires { ⌜ (place .word .0 + 1 < 2 ^ 32) × (place .done + count < 2 ^ 32) ⌝ }
     ensures { λ r. ⌜ r ≡ place-after place count ⌝ }
 {
+    let word = place.word.0 + 1;
+    let done = place.done + count;
     Place {
-        word: WordNumber(place.word.0 + 1),
+        word: WordNumber(word),
         from: 0,
-        done: place.done + count,
+        done,
     }
 }

@@ -15,7 +15,7 @@ use crate::places::place_past;
 use words::BitAddress;
 
 // Takes an accepted field out, one cycle for each word.
-pub fn gather(memory: &[u16], at: BitAddress, size: u32) -> Taken
+pub(crate) fn gather(memory: &[u16], at: BitAddress, size: u32) -> Taken
     requires { ⌜ Accepted (length (now memory)) at size ⌝ }
     ensures { λ r. ⌜ r ≡ done-taking (now (memory .entry)) at size ⌝ }
 {

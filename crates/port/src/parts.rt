@@ -28,7 +28,7 @@ fn join_halves(l: u16, h: u16) -> BitAddress
 }
 
 // The registers with another pointer.
-pub fn set_pointer(r: Registers, a: BitAddress) -> Registers
+pub(crate) fn set_pointer(r: Registers, a: BitAddress) -> Registers
     ensures { λ x. ⌜ x ≡ with-pointer r a ⌝ }
 {
     Registers {
@@ -40,7 +40,7 @@ pub fn set_pointer(r: Registers, a: BitAddress) -> Registers
 }
 
 // The registers with another HSTDATA, and its mark.
-pub fn set_latch(r: Registers, w: u16, hollow: bool) -> Registers
+pub(crate) fn set_latch(r: Registers, w: u16, hollow: bool) -> Registers
     ensures { λ x. ⌜ x ≡ with-latch r w hollow ⌝ }
 {
     let a = r.pointer;
@@ -53,7 +53,7 @@ pub fn set_latch(r: Registers, w: u16, hollow: bool) -> Registers
 }
 
 // The registers with another HSTCTL.
-pub fn set_control(r: Registers, c: u16) -> Registers
+pub(crate) fn set_control(r: Registers, c: u16) -> Registers
     ensures { λ x. ⌜ x ≡ with-control r c ⌝ }
 {
     let a = r.pointer;
@@ -66,7 +66,7 @@ pub fn set_control(r: Registers, c: u16) -> Registers
 }
 
 // What a register of the four reads as.
-pub fn read_register(r: Registers, register: u32) -> u16
+pub(crate) fn read_register(r: Registers, register: u32) -> u16
     ensures { λ x. ⌜ x ≡ register-word r register ⌝ }
 {
     let a = r.pointer;
@@ -95,7 +95,7 @@ fn write_half(a: BitAddress, register: u32, lanes: u32, w: u16) -> BitAddress
 }
 
 // The registers with the selected bytes of one of the four written by the host.
-pub fn write_register(r: Registers, register: u32, lanes: u32, w: u16) -> Registers
+pub(crate) fn write_register(r: Registers, register: u32, lanes: u32, w: u16) -> Registers
     ensures { λ x. ⌜ x ≡ written r register lanes w ⌝ }
 {
     if register < 2 {

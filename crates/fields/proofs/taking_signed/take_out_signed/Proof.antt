@@ -4,6 +4,7 @@ use borrow.Author.Needs.{sfits-of}
 use borrow.Author.Tests.{eqb-true}
 use mir.Facts.{toZ-ofZ}
 use mir.Syntax.{w32}
+use native.Mathlib.Omega.{arith}
 use mathlib.Core.Path.{sym, _∙_}
 use Rattle.fields.specs.Answers.{taken-signed}
 use Rattle.fields.proofs.Accepted.{none-applies}
@@ -20,7 +21,8 @@ gather-requires c κs = none-applies _ _ _ (eqb-true _ _ (sym (c .before .is-acc
 signed-of-requires : tie.Need-signed-of-requires
 signed-of-requires c κs =
     let i = none-applies _ _ _ (eqb-true _ _ (sym (c .before .before .is-accepted .ensures) ∙ c .before .if1 .taken)) in
-    (i .some, (i .most, rw (c .gather .ensures) (field-fits _ _ _)))
+    let g = c .before .before .before .before .args in
+    (i .some, (i .most, rw (c .gather .ensures) (omega (arith, field-fits (g .memory .now) (g .at) (g .size)))))
 
 returns : tie.Need-returns
 unfolding taken-signed
