@@ -11,7 +11,7 @@ use borrow.Author.Tests.{ltb-false, leb-false}
 use Rattle.words.specs.Addresses.{word-at}
 use Rattle.words.specs.declared.BitAddress.{BitAddress}
 use Rattle.fields.specs.Count.{last-word, touched}
-use Rattle.fields.specs.Answers.{refusal}
+use Rattle.fields.specs.Answers.{no-size, refusal}
 use Rattle.fields.specs.Parts.{Accepted}
 
 -- ---- the words touched, as the code counts them
@@ -35,19 +35,25 @@ either-false : (s t : Bool) → s || t ≡ false → (s ≡ false) × (t ≡ fal
 either-false false t e = (refl, e)
 either-false true t e = absurd (let z : _≡_ {A = ℕ} 0 1 = cc in omega arith)
 
+-- A size that is accepted is one of 1 to 32.
+sized : (n : ℕ) → no-size n ≡ false → (1 ≤ n) × (n ≤ 32)
+unfolding no-size
+sized n e =
+    let both = either-false (ltb n 1) (ltb 32 n) e in
+    (ltb-false n 1 (both .0), ltb-false 32 n (both .1))
+
 -- No number applies: the memory is short enough, the size is one of 1 to 32, and the last word is in memory.
 pub none-applies : (words : ℕ) (a : BitAddress) (n : ℕ) → refusal words a n ≡ 0 → Accepted words a n
 unfolding refusal
 none-applies words a n e =
     let few : ltb 32768 words ≡ false =
-    not-true _ (λ t. ⊎-elim (λ s. omega (arith, simp (t, s) at e)) (λ s. omega (arith, simp (t, s) at e)) (either-way (ltb n 1 || ltb 32 n))) in
-    let size : ltb n 1 || ltb 32 n ≡ false = not-true _ (λ t. omega (arith, simp (few, t) at e)) in
+    not-true _ (λ t. ⊎-elim (λ s. omega (arith, simp (t, s) at e)) (λ s. omega (arith, simp (t, s) at e)) (either-way (no-size n))) in
+    let size : no-size n ≡ false = not-true _ (λ t. omega (arith, simp (few, t) at e)) in
     let narrow : ltb 3 (touched a n) ≡ false = not-true _ (λ t. omega (arith, simp (few, size, t) at e)) in
     let there : leb words (last-word a n .0) ≡ false = not-true _ (λ t. omega (arith, simp (few, size, narrow, t) at e)) in
-    let both = either-false (ltb n 1) (ltb 32 n) size in
     record {
       few = ltb-false 32768 words few;
-      some = ltb-false n 1 (both .0);
-      most = ltb-false 32 n (both .1);
+      some = sized n size .0;
+      most = sized n size .1;
       there = leb-false words (last-word a n .0) there;
     }

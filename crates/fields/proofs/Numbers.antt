@@ -15,7 +15,7 @@ use Rattle.words.specs.declared.BitAddress.{BitAddress}
 use Rattle.words.specs.declared.WordNumber.{WordNumber}
 use Rattle.fields.specs.Field.{ahead}
 use Rattle.fields.specs.Count.{last-word, touched}
-use Rattle.fields.specs.Answers.{refusal, taken, taken-signed, put-answer, put-memory}
+use Rattle.fields.specs.Answers.{no-size, refusal, taken, taken-signed, put-answer, put-memory}
 use Rattle.fields.specs.InPlainWords.{Missing}
 use Rattle.fields.specs.declared.Taken.{Taken}
 use Rattle.fields.specs.declared.SignedTaken.{SignedTaken}
@@ -65,7 +65,7 @@ record Tested (words n t l v : ℕ) : Type 0 where
   pub done : v ≡ 0 ↔ (words ≤ 32768) × (1 ≤ n) × (n ≤ 32) × (t ≤ 3) × (l < words)
 
 tested : (words : ℕ) (a : BitAddress) (n : ℕ) → Tested words n (touched a n) (last-word a n .0) (refusal words a n)
-unfolding refusal
+unfolding refusal no-size
 tested words a n = go (touched a n) (last-word a n .0) (ltb 32768 words) (ltb n 1) (ltb 32 n) _ _ refl refl refl refl refl
   where
     go : (k l : ℕ) (over small large wide gone : Bool) → ltb 32768 words ≡ over → ltb n 1 ≡ small → ltb 32 n ≡ large
@@ -99,7 +99,10 @@ when words a n =
       );
       done = (
         λ e. let g = t .done .0 e in (g .0, g .1, g .2, g .3, λ m. omega (arith, g .4, missing-last words a n m)),
-        λ h. t .done .1 (h .0, h .1, h .2, h .3, ⊎-elim (λ l. l) (λ k. absurd (h .4 (last-missing words a n (h .1) k))) (less-or-not (last-word a n .0) words)),
+        λ h.
+            let there : last-word a n .0 < words =
+            ⊎-elim (λ l. l) (λ k. absurd (h .4 (last-missing words a n (h .1) k))) (less-or-not (last-word a n .0) words)
+            in t .done .1 (h .0, h .1, h .2, h .3, there),
       );
     }
 

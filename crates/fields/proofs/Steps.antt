@@ -66,9 +66,19 @@ module _ (m : List ℕ) (a : BitAddress) (d w o : ℕ) (e : a .0 + d ≡ w * 16 
   put-part v (suc n) l h =
       let M : List ℕ = with-field m a d v in
       let x : ℕ = getD M w 0 in
+      let y : ℕ = with-bits x o n (v / 2 ^ d % 2 ^ n) in
       let inside : w < length M = rw (put-length m a d v) h in
-      let here = set-bit-in (set M w (with-bits x o n (v / 2 ^ d % 2 ^ n))) (ahead a (d + n)) w (o + n) (omega arith) (omega arith) (bit v (d + n)) in
-      rw (add-suc d n, put-part v n (omega arith) h, here, getD-set-same M w (with-bits x o n (v / 2 ^ d % 2 ^ n)) 0 inside, set-set, ← bit-of-quotient v d n, next-bit, add-one n)
+      let here = set-bit-in (set M w y) (ahead a (d + n)) w (o + n) (omega arith) (omega arith) (bit v (d + n)) in
+      rw (
+        add-suc d n,
+        put-part v n (omega arith) h,
+        here,
+        getD-set-same M w y 0 inside,
+        set-set,
+        ← bit-of-quotient v d n,
+        next-bit,
+        add-one n,
+      )
 
 -- ---- the field's size
 

@@ -79,7 +79,9 @@ turn a n c p k h s l e =
         word-is = omega (arith, h .word-is);
         done-is = done;
         bit = omega arith;
-        goes-on = λ m. next-place (a .0) n w (p .done + k) (next-touched a n (c + 1) (w + 1) (omega (arith, h .word-is)) m) (omega (arith, g, h .bit)) s done;
+        goes-on = λ m.
+            let u : w + 1 ≤ last-word a n .0 = next-touched a n (c + 1) (w + 1) (omega (arith, h .word-is)) m in
+            next-place (a .0) n w (p .done + k) u (omega (arith, g, h .bit)) s done;
       };
     }
 

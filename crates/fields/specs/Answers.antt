@@ -1,5 +1,7 @@
 -- The answers of the field calls, for every input: document 01, 'Fields' and 'Numbers returned'.
+--   no-size n               a field can't have n bits
 --   refusal words a n       number 1, 4, 5 or 6, or 0 where none applies, for a memory of so many words
+--   accepted words a n      none applies
 --   done-taking m a n       what taking out an accepted field answers
 --   taken m a n             what taking out answers
 --   taken-signed m a n      what taking out signed answers
@@ -20,19 +22,23 @@ use Rattle.fields.specs.declared.Taken.{Taken}
 use Rattle.fields.specs.declared.SignedTaken.{SignedTaken}
 use Rattle.fields.specs.declared.Put.{Put}
 
+-- "field size not 1 to 32"
+unfoldable pub no-size : ℕ → Bool
+no-size n = ltb n 1 || ltb 32 n
+
 -- "1 memory over 32,768 words; 4 field size not 1 to 32; 5 field touches more than three words; 6 a touched word isn't in memory",
 -- tested in this order (if any touched word isn't in memory, the last isn't)
 unfoldable pub refusal : ℕ → BitAddress → ℕ → ℕ
 refusal words a n =
     cond (over-limit words) 1
-    (cond (ltb n 1 || ltb 32 n) 4
+    (cond (no-size n) 4
     (cond (ltb 3 (touched a n)) 5
     (cond (leb words (last-word a n .0)) 6 0)))
 
 abbrev pub accepted : ℕ → BitAddress → ℕ → Bool
 accepted words a n = eqb (refusal words a n) 0
 
--- "Each .. answer has" its number, the value where there is one, and the count of memory cycles; "A refusal returns zeros"
+-- ---- "The answer counts memory cycles"; "A refusal returns zeros"
 
 abbrev pub done-taking : List ℕ → BitAddress → ℕ → Taken
 done-taking m a n = record { number = 0; value = field-at m a n; cycles = take-cycles a n }

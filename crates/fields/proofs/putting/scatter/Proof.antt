@@ -44,7 +44,8 @@ module _ {m m′ : List ℕ} {a : BitAddress} {n v : ℕ} {p q : Place} {s c : �
   known = subst (λ (b : BitAddress). Scattering m b n v m′ q s c) (sym (address-is a p e))
 
 abbrev Inv-loop : tie.InvT-loop
-Inv-loop memory₀ size value words place₀ cycles₀ passed₀ memory place cycles passed = Scattering memory₀ (address-of place₀) size value memory place cycles passed
+Inv-loop memory₀ size value words place₀ cycles₀ passed₀ memory place cycles passed =
+    Scattering memory₀ (address-of place₀) size value memory place cycles passed
 
 abbrev μ-loop : tie.MeasureT-loop
 μ-loop memory₀ size value words place₀ cycles₀ passed₀ memory place cycles passed = words - passed
@@ -80,7 +81,8 @@ this : (c : tie.After-count-of Inv-loop μ-loop) →
 this c =
     let l = c .before .before in
     let s = l .before .before .before .before in
-    turn _ _ _ _ _ (inv l .reached) (s .pre .some) (rw (l .before .before .touched-by .ensures) at (c .before .loop-test .taken)) (c .count-of .ensures)
+    let m = rw (l .before .before .touched-by .ensures) at (c .before .loop-test .taken) in
+    turn _ _ _ _ _ (inv l .reached) (s .pre .some) m (c .count-of .ensures)
 
 -- That word is in memory, as memory stood and as it is now.
 there : (c : tie.After-count-of Inv-loop μ-loop) →

@@ -37,7 +37,8 @@ module _ {m : List ℕ} {a : BitAddress} {n : ℕ} {p q : Place} {v s c : ℕ} (
   known = subst (λ (b : BitAddress). Gathered m b n q v s c) (sym (address-is a p e))
 
 abbrev Inv-loop : tie.InvT-loop
-Inv-loop memory size words place₀ value₀ cycles₀ passed₀ place value cycles passed = Gathered memory (address-of place₀) size place value cycles passed
+Inv-loop memory size words place₀ value₀ cycles₀ passed₀ place value cycles passed =
+    Gathered memory (address-of place₀) size place value cycles passed
 
 abbrev μ-loop : tie.MeasureT-loop
 μ-loop memory size words place₀ value₀ cycles₀ passed₀ place value cycles passed = words - passed
@@ -73,7 +74,8 @@ this : (c : tie.After-count-of Inv-loop μ-loop) →
 this c =
     let l = c .before .before in
     let s = l .before .before .before .before in
-    turn _ _ _ _ _ (inv l .reached) (s .pre .some) (rw (l .before .before .touched-by .ensures) at (c .before .loop-test .taken)) (c .count-of .ensures)
+    let m = rw (l .before .before .touched-by .ensures) at (c .before .loop-test .taken) in
+    turn _ _ _ _ _ (inv l .reached) (s .pre .some) m (c .count-of .ensures)
 
 -- That word is in memory.
 there : (c : tie.After-count-of Inv-loop μ-loop) →
@@ -99,7 +101,9 @@ bits-of-requires c κs =
     (omega (arith, t .in-word), omega (arith, t .in-word))
 
 pow2-requires : tie.Need-pow2-requires Inv-loop μ-loop
-pow2-requires c κs = lt-of-lt-of-le (this (c .before .before .before) .left) (c .before .before .before .before .before .before .before .before .before .pre .most)
+pow2-requires c κs =
+    let n = c .before .before .before in
+    lt-of-lt-of-le (this n .left) (n .before .before .before .before .before .before .pre .most)
 
 -- The value after the turn, and that it fits.
 after : (c : tie.After-pow2 Inv-loop μ-loop) →
