@@ -7,10 +7,9 @@ use mathlib.Core.Bool.{Bool, true, false, _&&_}
 use mathlib.Core.Logic.{_↔_}
 use lib.Dec.{leb}
 use borrow.Author.Tests.{le-leb, leb-true}
-use Rattle.words.specs.Addresses.{address}
+use Rattle.words.specs.Addresses.{address, word-at}
 use Rattle.words.specs.declared.BitAddress.{BitAddress}
 use Rattle.words.specs.declared.WordNumber.{WordNumber}
-use Rattle.fields.specs.Field.{ahead}
 use Rattle.fields.specs.Count.{touched, start-of, wholly-covered}
 use Rattle.fields.specs.InPlainWords.{Covers, Holds, Counted}
 
@@ -47,21 +46,22 @@ module _ (a : BitAddress) (n : ℕ) (w : WordNumber) where
   both-true true t e = (refl, e)
   both-true false t e = (e, absurd (let z : _≡_ {A = ℕ} 0 1 = cc in omega arith))
 
-  covers-all : wholly-covered a n w ≡ true → (j : ℕ) → j < 16 → Covers a n (ahead (start-of w) j)
+  covers-all : wholly-covered a n w ≡ true → (b : BitAddress) → word-at b ≡ w → Covers a n b
   unfolding wholly-covered
-  covers-all e j l =
+  covers-all e b i =
       let t = both-true (leb (a .0) (w .0 * 16)) (leb (w .0 * 16 + 16) (a .0 + n)) e in
       let p : a .0 ≤ w .0 * 16 = leb-true _ _ (t .0) in
       let q : w .0 * 16 + 16 ≤ a .0 + n = leb-true _ _ (t .1) in
+      let j : b .0 / 16 ≡ w .0 = ap (λ (x : WordNumber). x .0) i in
       record { from = omega arith; to = omega arith }
 
-  all-covered : ((j : ℕ) → j < 16 → Covers a n (ahead (start-of w) j)) → wholly-covered a n w ≡ true
+  all-covered : ((b : BitAddress) → word-at b ≡ w → Covers a n b) → wholly-covered a n w ≡ true
   unfolding wholly-covered
   all-covered h =
-      let p : a .0 ≤ w .0 * 16 + 0 = h 0 (omega arith) .from in
-      let q : w .0 * 16 + 15 < a .0 + n = h 15 (omega arith) .to in
-      rw (le-leb (a .0) (w .0 * 16) (omega arith), le-leb (w .0 * 16 + 16) (a .0 + n) (omega arith))
+      let p : a .0 ≤ w .0 * 16 = h (address (w .0 * 16)) (ap (λ (k : ℕ). record { 0 = k }) (omega arith)) .from in
+      let q : w .0 * 16 + 15 < a .0 + n = h (address (w .0 * 16 + 15)) (ap (λ (k : ℕ). record { 0 = k }) (omega arith)) .to in
+      rw (le-leb (a .0) (w .0 * 16) p, le-leb (w .0 * 16 + 16) (a .0 + n) (omega arith))
 
-  -- A word is wholly covered exactly if all its sixteen bits are the field's.
-  pub wholly-when : wholly-covered a n w ≡ true ↔ ((j : ℕ) → j < 16 → Covers a n (ahead (start-of w) j))
+  -- A word is wholly covered exactly if every bit of it is one of the field's.
+  pub wholly-when : wholly-covered a n w ≡ true ↔ ((b : BitAddress) → word-at b ≡ w → Covers a n b)
   wholly-when = (covers-all, all-covered)

@@ -130,7 +130,7 @@ module _ (m : List ℕ) (a : BitAddress) (n : ℕ) where
       (λ d. ap (λ (r : SignedTaken). r .number) (signed-refused m a n d))
       (same-or-not (refusal (length m) a n) 0)
 
-  put-number : put-answer (length m) a n .number ≡ refusal (length m) a n
+  pub put-number : put-answer (length m) a n .number ≡ refusal (length m) a n
   put-number =
       ⊎-elim
       (λ e. ap (λ (r : Put). r .number) (put-done m a n e) ∙ sym e)
