@@ -9,11 +9,11 @@ use borrow.Author.Tests.{ne-eqb}
 use Rattle.words.specs.declared.BitAddress.{BitAddress}
 use Rattle.fields.specs.Field.{field-at, with-field, signed}
 use Rattle.fields.specs.Count.{take-cycles, put-cycles}
-use Rattle.fields.specs.Answers.{refusal, done-taking, taken, taken-signed, put-answer, put-memory}
+use Rattle.fields.specs.Answers.{refusal, taken, taken-signed, put-answer, put-memory}
 
 module _ (m : List ℕ) (a : BitAddress) (n : ℕ) where
   module _ (e : refusal (length m) a n ≡ 0) where
-    pub taken-done : taken m a n ≡ done-taking m a n
+    pub taken-done : taken m a n ≡ record { number = 0; value = field-at m a n; cycles = take-cycles a n }
     unfolding taken
     taken-done = rw e
 

@@ -1,19 +1,37 @@
--- Which words are counted: exactly those that hold a bit of the field; and a word is wholly covered exactly if all its sixteen
--- bits are the field's.
-use Prim.Native.Nat.{ℕ, _+_, _-_, _*_, _/_, _≤_, _<_, max}
+-- Which words are counted, and how many: exactly those that hold a bit of the field, three at most; and a word is wholly covered
+-- exactly if all its sixteen bits are the field's.
+use Prim.Native.Nat.{ℕ, _+_, _-_, _*_, _/_, _%_, _≤_, _<_, max}
 use native.Mathlib.Omega.{arith}
-use mathlib.Core.Path.{_≡_, refl, ap}
-use mathlib.Core.Bool.{Bool, true, false, _&&_}
+use mathlib.Core.Path.{_≡_, ap}
+use mathlib.Core.Bool.{true}
 use mathlib.Core.Logic.{_↔_}
 use lib.Dec.{leb}
 use borrow.Author.Tests.{le-leb, leb-true}
+use Rattle.words.proofs.Choices.{both-true}
 use Rattle.words.specs.Addresses.{address, word-at}
 use Rattle.words.specs.declared.BitAddress.{BitAddress}
 use Rattle.words.specs.declared.WordNumber.{WordNumber}
-use Rattle.fields.specs.Count.{touched, start-of, wholly-covered}
+use Rattle.fields.specs.Count.{last-word, touched, wholly-covered}
 use Rattle.fields.specs.InPlainWords.{Covers, Holds, Counted}
 
--- ---- the words
+-- ---- how many
+
+-- A field of at most 32 bits never touches a fourth word.
+pub no-fourth-word : (a : BitAddress) (n : ℕ) → n ≤ 32 → touched a n ≤ 3
+unfolding touched
+no-fourth-word a n l = omega arith
+
+-- The words touched, as the code counts them.
+pub touched-is : (a : BitAddress) (n : ℕ) → 1 ≤ n → touched a n ≡ (a .0 % 16 + n - 1) / 16 + 1
+unfolding touched
+touched-is a n l = omega arith
+
+-- The last of them.
+pub last-is : (a : BitAddress) (n : ℕ) → 1 ≤ n → last-word a n .0 ≡ word-at a .0 + touched a n - 1
+unfolding touched
+last-is a n l = omega arith
+
+-- ---- which
 
 module _ (a : BitAddress) (n : ℕ) (w : WordNumber) where
   -- The bit in w: the field's first, or the word's first if the field began before it.
@@ -41,10 +59,6 @@ module _ (a : BitAddress) (n : ℕ) (w : WordNumber) where
   -- A counted word is exactly one that holds a bit of the field.
   pub counted-when : 1 ≤ n → Counted a n w ↔ Holds a n w
   counted-when s = (counted-holds s, holds-counted)
-
-  both-true : (s t : Bool) → s && t ≡ true → (s ≡ true) × (t ≡ true)
-  both-true true t e = (refl, e)
-  both-true false t e = (e, absurd (let z : _≡_ {A = ℕ} 0 1 = cc in omega arith))
 
   covers-all : wholly-covered a n w ≡ true → (b : BitAddress) → word-at b ≡ w → Covers a n b
   unfolding wholly-covered

@@ -2,16 +2,12 @@
 -- ---- the definitions bit by bit
 pub mod WordBits
 pub mod OneBit
-pub mod Steps
 pub mod Readings
 pub mod Signs
-pub mod OneNumber
--- ---- words and cycles
+-- ---- a field's words, and what they cost
 pub mod Counted
+pub mod Sums
 pub mod Grants
--- ---- the loops, word by word
-pub mod WordByWord
-pub mod Costs
 -- ---- accepted and refused; demand 1
 pub mod Accepted
 pub mod Answered
@@ -19,3 +15,9 @@ pub mod Numbers
 pub mod One
 -- ---- what was put in is taken out, and back
 pub mod RoundTrips
+pub mod AfterPut
+-- ---- the definitions word by word, as the code's loops go
+pub mod Steps
+pub mod OneNumber
+pub mod WordByWord
+pub mod Costs

@@ -3,13 +3,11 @@
 use Prim.Native.Nat.{ℕ, _+_, _-_, _/_, _^_, _≤_, _<_}
 use native.Mathlib.Omega.{arith}
 use mathlib.Core.Path.{_≡_, refl, sym, ap, _∙_}
-use mathlib.Core.Bool.{Bool, true, false, cond, _||_}
 use mathlib.Core.List.{List}
 use mathlib.Core.Logic.{_↔_, _≢_, _⊎_, inl, inr, ⊎-elim}
-use lib.Dec.{ltb, leb}
 use lib.IntN.{pos}
 use lib.ListN.{length}
-use borrow.Author.Tests.{ltb-true, ltb-false, leb-true, leb-false}
+use Rattle.words.proofs.Choices.{less-or-not, same-or-not}
 use Rattle.words.specs.Addresses.{word-at}
 use Rattle.words.specs.declared.BitAddress.{BitAddress}
 use Rattle.words.specs.declared.WordNumber.{WordNumber}
@@ -21,7 +19,7 @@ use Rattle.fields.specs.declared.Taken.{Taken}
 use Rattle.fields.specs.declared.SignedTaken.{SignedTaken}
 use Rattle.fields.specs.declared.Put.{Put}
 use Rattle.fields.proofs.Answered.{taken-done, signed-done, put-done, taken-refused, signed-refused, put-refused, memory-refused}
-use Rattle.fields.proofs.OneBit.{less-or-not, same-or-not}
+use Rattle.fields.proofs.Accepted.{tested}
 
 -- ---- a touched word that isn't in memory
 
@@ -53,34 +51,6 @@ pub record When (words : ℕ) (a : BitAddress) (n v : ℕ) : Type 0 where
   pub missing : v ≡ 6 ↔ (words ≤ 32768) × (1 ≤ n) × (n ≤ 32) × (touched a n ≤ 3) × Missing words a n
   pub done : v ≡ 0 ↔ (words ≤ 32768) × (1 ≤ n) × (n ≤ 32) × (touched a n ≤ 3) × (Missing words a n → ⊥)
 
--- The same of numbers alone: t words are touched, and l is the last.
-record Tested (words n t l v : ℕ) : Type 0 where
-  pub listed : (v ≤ 6) × (v ≢ 2) × (v ≢ 3)
-  pub over : v ≡ 1 ↔ 32768 < words
-  pub small : words ≤ 32768 → n < 1 → v ≡ 4
-  pub large : words ≤ 32768 → 32 < n → v ≡ 4
-  pub no-size : v ≡ 4 → (words ≤ 32768) × (1 ≤ n → 32 < n)
-  pub too-wide : v ≡ 5 ↔ (words ≤ 32768) × (1 ≤ n) × (n ≤ 32) × (3 < t)
-  pub missing : v ≡ 6 ↔ (words ≤ 32768) × (1 ≤ n) × (n ≤ 32) × (t ≤ 3) × (words ≤ l)
-  pub done : v ≡ 0 ↔ (words ≤ 32768) × (1 ≤ n) × (n ≤ 32) × (t ≤ 3) × (l < words)
-
-tested : (words : ℕ) (a : BitAddress) (n : ℕ) → Tested words n (touched a n) (last-word a n .0) (refusal words a n)
-unfolding refusal no-size
-tested words a n = go (touched a n) (last-word a n .0) (ltb 32768 words) (ltb n 1) (ltb 32 n) _ _ refl refl refl refl refl
-  where
-    go : (k l : ℕ) (over small large wide gone : Bool) → ltb 32768 words ≡ over → ltb n 1 ≡ small → ltb 32 n ≡ large
-        → ltb 3 k ≡ wide → leb words l ≡ gone
-        → Tested words n k l (cond over 1 (cond (small || large) 4 (cond wide 5 (cond gone 6 0))))
-    go k l true small large wide gone p q r s t = omega (arith, ltb-true 32768 words p)
-    go k l false true large wide gone p q r s t = omega (arith, ltb-false 32768 words p, ltb-true n 1 q)
-    go k l false false true wide gone p q r s t = omega (arith, ltb-false 32768 words p, ltb-false n 1 q, ltb-true 32 n r)
-    go k l false false false true gone p q r s t =
-        omega (arith, ltb-false 32768 words p, ltb-false n 1 q, ltb-false 32 n r, ltb-true 3 k s)
-    go k l false false false false true p q r s t =
-        omega (arith, ltb-false 32768 words p, ltb-false n 1 q, ltb-false 32 n r, ltb-false 3 k s, leb-true words l t)
-    go k l false false false false false p q r s t =
-        omega (arith, ltb-false 32768 words p, ltb-false n 1 q, ltb-false 32 n r, ltb-false 3 k s, leb-false words l t)
-
 -- The number that applies is one of 0, 1, 4, 5 and 6, each when, and only then.
 pub when : (words : ℕ) (a : BitAddress) (n : ℕ) → When words a n (refusal words a n)
 when words a n =
@@ -108,49 +78,45 @@ when words a n =
 
 -- ---- the calls
 
--- A refused field: every call answers the number and zeros, and no value changes the memory.
-pub record Refused (m : List ℕ) (a : BitAddress) (n k : ℕ) : Type 0 where
-  pub unsigned : taken m a n ≡ record { number = k; value = 0; cycles = 0 }
-  pub signed : taken-signed m a n ≡ record { number = k; value = pos 0; cycles = 0 }
-  pub put : put-answer (length m) a n ≡ record { number = k; cycles = 0 }
-  pub memory : (v : ℕ) → put-memory m a n v ≡ m
+-- The number of an answer, from what it is where the field is accepted and where it is refused.
+answer-number : {A : Type 0} (number : A → ℕ) (k : ℕ) {answer done refused : A} → (k ≡ 0 → answer ≡ done) → number done ≡ 0
+    → (k ≢ 0 → answer ≡ refused) → number refused ≡ k → number answer ≡ k
+answer-number number k d z r e =
+    ⊎-elim (λ q. ap number (d q) ∙ z ∙ sym q) (λ q. ap number (r q) ∙ e) (same-or-not k 0)
 
 module _ (m : List ℕ) (a : BitAddress) (n : ℕ) where
   taken-number : taken m a n .number ≡ refusal (length m) a n
-  taken-number =
-      ⊎-elim
-      (λ e. ap (λ (r : Taken). r .number) (taken-done m a n e) ∙ sym e)
-      (λ d. ap (λ (r : Taken). r .number) (taken-refused m a n d))
-      (same-or-not (refusal (length m) a n) 0)
+  taken-number = answer-number (λ (r : Taken). r .number) _ (taken-done m a n) refl (taken-refused m a n) refl
 
   signed-number : taken-signed m a n .number ≡ refusal (length m) a n
-  signed-number =
-      ⊎-elim
-      (λ e. ap (λ (r : SignedTaken). r .number) (signed-done m a n e) ∙ sym e)
-      (λ d. ap (λ (r : SignedTaken). r .number) (signed-refused m a n d))
-      (same-or-not (refusal (length m) a n) 0)
+  signed-number = answer-number (λ (r : SignedTaken). r .number) _ (signed-done m a n) refl (signed-refused m a n) refl
 
   pub put-number : put-answer (length m) a n .number ≡ refusal (length m) a n
-  put-number =
-      ⊎-elim
-      (λ e. ap (λ (r : Put). r .number) (put-done m a n e) ∙ sym e)
-      (λ d. ap (λ (r : Put). r .number) (put-refused m a n d))
-      (same-or-not (refusal (length m) a n) 0)
+  put-number = answer-number (λ (r : Put). r .number) _ (put-done m a n) refl (put-refused m a n) refl
 
   -- The number of every call is one of 0, 1, 4, 5 and 6, each when, and only then.
   pub numbered : When (length m) a n (taken m a n .number) × When (length m) a n (taken-signed m a n .number)
       × When (length m) a n (put-answer (length m) a n .number)
   numbered = (rw taken-number (when (length m) a n), rw signed-number (when (length m) a n), rw put-number (when (length m) a n))
 
-  -- Where the number that applies is not 0, every call is refused so.
-  pub refuses : refusal (length m) a n ≢ 0 → Refused m a n (refusal (length m) a n)
-  refuses d =
-      record {
-        unsigned = taken-refused m a n d;
-        signed = signed-refused m a n d;
-        put = put-refused m a n d;
-        memory = memory-refused m a n d;
-      }
+  -- A taking out that answers another number than 0 answers zeros beside it.
+  pub refused-taking : taken m a n .number ≢ 0 → (taken m a n .value ≡ 0) × (taken m a n .cycles ≡ 0)
+  refused-taking d =
+      let e = taken-refused m a n (λ q. d (taken-number ∙ q)) in
+      (ap (λ (r : Taken). r .value) e, ap (λ (r : Taken). r .cycles) e)
+
+  -- So does one as signed.
+  pub refused-signed : taken-signed m a n .number ≢ 0 → (taken-signed m a n .value ≡ pos 0) × (taken-signed m a n .cycles ≡ 0)
+  refused-signed d =
+      let e = signed-refused m a n (λ q. d (signed-number ∙ q)) in
+      (ap (λ (r : SignedTaken). r .value) e, ap (λ (r : SignedTaken). r .cycles) e)
+
+  -- So does a putting in, and it leaves the memory as it stood, whatever the value.
+  pub refused-put : put-answer (length m) a n .number ≢ 0
+      → (put-answer (length m) a n .cycles ≡ 0) × ((v : ℕ) → put-memory m a n v ≡ m)
+  refused-put d =
+      let e : refusal (length m) a n ≢ 0 = λ q. d (put-number ∙ q) in
+      (ap (λ (r : Put). r .cycles) (put-refused m a n e), memory-refused m a n e)
 
 -- No memory reaches bit address 2^19. So a field near the end of the addresses misses memory with its first bit already, and
 -- whether its last bits would wrap can't be seen.

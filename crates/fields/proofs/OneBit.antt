@@ -5,24 +5,14 @@ use native.Mathlib.Nat.{zero-add, one-mul, zero-mul, mod-lt, mod-eq-of-lt}
 use native.Mathlib.Omega.{arith}
 use mathlib.Core.Path.{_≡_, sym, ap, subst, _∙_}
 use mathlib.Core.Bool.{Bool, true, false, cond}
-use mathlib.Core.Logic.{_⊎_, inl, inr, ⊎-elim, _≢_}
-use lib.Dec.{ltb, eqb}
+use mathlib.Core.Logic.{⊎-elim, _≢_}
 use lib.Pow.{pow-pos, high, low}
-use borrow.Author.Tests.{ltb-true, ltb-false, eqb-true, eqb-false}
 use Rattle.words.specs.Bytes.{bit}
 use Rattle.words.proofs.Bits.{bit-above, split-at-bit, bit-of-quotient, bit-of-remainder}
-use Rattle.words.proofs.Choices.{either-way}
+use Rattle.words.proofs.Choices.{less-or-not}
 use Rattle.fields.specs.Field.{with-bit}
 use Rattle.fields.specs.Parts.{with-bits}
 use Rattle.fields.proofs.WordBits.{bits-above, bits-below, bits-fit}
-
--- ---- two cases
-
-pub less-or-not : (x y : ℕ) → (x < y) ⊎ (y ≤ x)
-less-or-not x y = ⊎-elim (λ e. inl (ltb-true x y e)) (λ e. inr (ltb-false x y e)) (either-way (ltb x y))
-
-pub same-or-not : (x y : ℕ) → (x ≡ y) ⊎ (x ≢ y)
-same-or-not x y = ⊎-elim (λ e. inl (eqb-true x y e)) (λ e. inr (eqb-false x y e)) (either-way (eqb x y))
 
 -- ---- a bit above a number of i bits
 

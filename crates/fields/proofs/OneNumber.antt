@@ -10,11 +10,11 @@ use lib.Pow.{high, low}
 use Rattle.words.specs.Addresses.{address}
 use Rattle.words.specs.Bytes.{bit}
 use Rattle.words.specs.declared.BitAddress.{BitAddress}
+use Rattle.words.proofs.Choices.{less-or-not}
 use Rattle.words.proofs.Bits.{bit-above, bit-of-quotient, bit-of-remainder}
 use Rattle.fields.specs.Field.{memory-bit, field-at}
 use Rattle.fields.specs.InPlainWords.{Words, number-of}
-use Rattle.fields.proofs.OneBit.{less-or-not}
-use Rattle.fields.proofs.RoundTrips.{field-from-bits}
+use Rattle.fields.proofs.Readings.{field-from-bits}
 use Rattle.fields.proofs.Steps.{bit-in}
 
 no-bit : (i : ℕ) → bit 0 i ≡ false

@@ -1,22 +1,24 @@
 -- What the definitions of a field say, bit by bit: bit i of a field is memory bit address + i; putting in makes memory bit
 -- address + i the value's bit i, and changes no other bit. Each law goes by induction on the field's bits.
 use Prim.Native.Nat.{ℕ, zero, suc, _+_, _/_, _%_, _^_, _≤_, _<_}
-use native.Mathlib.Nat.{add-comm}
+use native.Mathlib.Nat.{add-comm, mod-one}
+use native.Mathlib.Numerals.{add-one}
 use native.Mathlib.Omega.{arith}
 use mathlib.Core.Path.{_≡_, refl, sym, ap, _∙_}
-use mathlib.Core.Bool.{Bool, false, cond}
+use mathlib.Core.Bool.{Bool, true, false, cond}
 use mathlib.Core.List.{List}
 use mathlib.Core.Logic.{⊎-elim, _≢_}
-use lib.ListN.{length, getD, set}
+use lib.ListN.{length, getD, set, length-set}
 use lib.Seq.{set-out, getD-set-same, getD-set-other, set-getD}
 use Rattle.words.specs.Addresses.{address, word-at}
 use Rattle.words.specs.Bytes.{bit}
 use Rattle.words.specs.declared.BitAddress.{BitAddress}
+use Rattle.words.proofs.Choices.{less-or-not, same-or-not}
 use Rattle.words.proofs.Bits.{bit-above, bit-of-remainder}
 use Rattle.fields.specs.Field.{ahead, memory-bit, with-bit, set-memory-bit, field-at, with-field}
 use Rattle.fields.specs.InPlainWords.{Covers, Words}
-use Rattle.fields.proofs.OneBit.{less-or-not, same-or-not, top-is, rest-is, bit-made, bit-kept, bit-as-it-is, bit-fits}
-use Rattle.fields.proofs.Steps.{put-length, field-fits}
+use Rattle.fields.proofs.OneBit.{top-is, rest-is, bit-made, bit-kept, bit-as-it-is, bit-fits}
+use Rattle.fields.proofs.WordBits.{one-bit-more}
 
 -- ---- one bit of memory
 
@@ -48,6 +50,18 @@ module _ (m : List ℕ) (b : BitAddress) where
   unfolding memory-bit set-memory-bit
   as-it-is = rw (bit-as-it-is (getD m (b .0 / 16) 0) (b .0 % 16), set-getD)
 
+-- ---- the field's size
+
+add-weight : (b : Bool) (x n : ℕ) → x < 2 ^ n → x + cond b (2 ^ n) 0 < 2 ^ suc n
+add-weight true x n h = omega arith
+add-weight false x n h = omega arith
+
+-- A field of n bits is a number of n bits.
+pub field-fits : (m : List ℕ) (a : BitAddress) (n : ℕ) → field-at m a n < 2 ^ n
+unfolding field-at
+field-fits m a zero = omega arith
+field-fits m a (suc n) = add-weight (memory-bit m (ahead a n)) (field-at m a n) n (field-fits m a n)
+
 -- ---- taking out
 
 -- Bit i of a field is memory bit address + i.
@@ -69,7 +83,25 @@ field-bit m a (suc n) i l =
 pub field-bit-beyond : (m : List ℕ) (a : BitAddress) (n i : ℕ) → n ≤ i → bit (field-at m a n) i ≡ false
 field-bit-beyond m a n i l = bit-above n (field-fits m a n) l
 
+-- A field whose bits are those of v is v modulo 2^n.
+pub field-from-bits : (m : List ℕ) (a : BitAddress) (n v : ℕ) → ((i : ℕ) → i < n → memory-bit m (ahead a i) ≡ bit v i)
+    → field-at m a n ≡ v % 2 ^ n
+unfolding field-at
+field-from-bits m a zero v h = sym (mod-one v)
+field-from-bits m a (suc n) v h =
+    rw (field-from-bits m a n v (λ i l. h i (omega (arith, l))), h n (omega arith), ← add-one n, one-bit-more v n) (omega arith)
+
 -- ---- putting in
+
+set-length : (m : List ℕ) (b : BitAddress) (v : Bool) → length (set-memory-bit m b v) ≡ length m
+unfolding set-memory-bit
+set-length m b v = length-set m (b .0 / 16) _
+
+-- No putting in changes the memory's length.
+pub put-length : (m : List ℕ) (a : BitAddress) (n v : ℕ) → length (with-field m a n v) ≡ length m
+unfolding with-field
+put-length m a zero v = refl
+put-length m a (suc n) v = set-length (with-field m a n v) (ahead a n) _ ∙ put-length m a n v
 
 -- Memory bit address + i becomes the value's bit i.
 pub put-bit : (m : List ℕ) (a : BitAddress) (n v i : ℕ) → i < n → word-at (address (a .0 + i)) .0 < length m

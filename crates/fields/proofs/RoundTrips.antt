@@ -1,38 +1,25 @@
 -- What was put in is taken out, modulo 2^size; what was taken out, put in again, changes nothing; and of a value only its low
 -- bits matter. Said of the definitions bit by bit, and then of the calls' answers.
 use Prim.Native.Nat.{ℕ, zero, suc, _%_, _^_, _<_}
-use native.Mathlib.Nat.{mod-one}
-use native.Mathlib.Numerals.{add-one}
 use native.Mathlib.Omega.{arith}
 use mathlib.Core.Path.{_≡_, refl, sym, ap, _∙_}
 use mathlib.Core.List.{List}
-use mathlib.Core.Logic.{⊎-elim, _≢_}
+use mathlib.Core.Logic.{⊎-elim}
 use lib.ListN.{length}
 use Rattle.words.specs.Bytes.{bit}
 use Rattle.words.specs.declared.BitAddress.{BitAddress}
+use Rattle.words.proofs.Choices.{same-or-not}
 use Rattle.words.proofs.Bits.{bit-of-remainder}
 use Rattle.fields.specs.Field.{ahead, memory-bit, field-at, with-field, signed}
 use Rattle.fields.specs.Count.{last-word, take-cycles}
-use Rattle.fields.specs.Answers.{refusal, taken, taken-signed, put-memory, PutIn}
-use Rattle.fields.specs.declared.Put.{Put}
+use Rattle.fields.specs.Answers.{refusal, taken, taken-signed, put-memory}
+use Rattle.fields.specs.InPlainWords.{same-bits}
 use Rattle.fields.proofs.Accepted.{none-applies}
-use Rattle.fields.proofs.Answered.{taken-done, signed-done, memory-done, put-refused, memory-refused}
-use Rattle.fields.proofs.Numbers.{put-number}
-use Rattle.fields.proofs.OneBit.{same-or-not}
-use Rattle.fields.proofs.Readings.{as-it-is, field-bit, put-bit}
-use Rattle.fields.proofs.Signs.{same-bits, same-low-bits}
-use Rattle.fields.proofs.Steps.{put-length, field-fits}
-use Rattle.fields.proofs.WordBits.{one-bit-more}
+use Rattle.fields.proofs.Answered.{taken-done, signed-done, memory-done, memory-refused}
+use Rattle.fields.proofs.Readings.{as-it-is, put-length, field-fits, field-bit, field-from-bits, put-bit}
+use Rattle.fields.proofs.Signs.{same-low-bits}
 
 -- ---- of the definitions
-
--- A field whose bits are those of v is v modulo 2^n.
-pub field-from-bits : (m : List ℕ) (a : BitAddress) (n v : ℕ) → ((i : ℕ) → i < n → memory-bit m (ahead a i) ≡ bit v i)
-    → field-at m a n ≡ v % 2 ^ n
-unfolding field-at
-field-from-bits m a zero v h = sym (mod-one v)
-field-from-bits m a (suc n) v h =
-    rw (field-from-bits m a n v (λ i l. h i (omega (arith, l))), h n (omega arith), ← add-one n, one-bit-more v n) (omega arith)
 
 -- What was put in is taken out, modulo 2^n.
 pub take-put : (m : List ℕ) (a : BitAddress) (n v : ℕ) → last-word a n .0 < length m → field-at (with-field m a n v) a n ≡ v % 2 ^ n
@@ -93,19 +80,3 @@ module _ (m : List ℕ) (a : BitAddress) (n : ℕ) where
   pub put-modulo : (v : ℕ) → put-memory m a n v ≡ put-memory m a n (v % 2 ^ n)
   unfolding put-memory
   put-modulo v = rw (put-alike m a n v (v % 2 ^ n) (λ i l. sym (bit-of-remainder v n i l)))
-
--- ---- of the calls: r and m′ are what putting in answered and left
-
-module _ {m m′ : List ℕ} {a : BitAddress} {n v : ℕ} {r : Put} (p : PutIn m a n v r m′) where
-  number-is : r .number ≡ refusal (length m) a n
-  number-is = ap (λ (s : Put). s .number) (p .answer) ∙ put-number m a n
-
-  -- If it said done, the next taking out answers the value, modulo 2^size.
-  pub then-taken : r .number ≡ 0 → taken m′ a n ≡ record { number = 0; value = v % 2 ^ n; cycles = take-cycles a n }
-  then-taken e = rw (p .memory) (taken-after-put m a n v (sym number-is ∙ e))
-
-  -- If not, it counted no cycle and left the memory as it stood.
-  pub then-as-it-stood : r .number ≢ 0 → (r .cycles ≡ 0) × (m′ ≡ m)
-  then-as-it-stood d =
-      let e : refusal (length m) a n ≢ 0 = λ q. d (number-is ∙ q) in
-      (ap (λ (s : Put). s .cycles) (p .answer ∙ put-refused m a n e), p .memory ∙ memory-refused m a n e v)

@@ -10,9 +10,10 @@ use lib.Pow.{pow-pos, pow-add, suc-ones, low}
 use mathlib.Core.Logic.{⊎-elim}
 use borrow.Author.Tests.{lt-ltb}
 use Rattle.words.specs.Bytes.{bit}
+use Rattle.words.proofs.Choices.{less-or-not}
 use Rattle.words.proofs.Bits.{bit-above}
 use Rattle.fields.specs.Field.{signed}
-use Rattle.fields.proofs.OneBit.{less-or-not}
+use Rattle.fields.specs.InPlainWords.{InRange, at-least-zero, below-zero, same-bits}
 use Rattle.fields.proofs.WordBits.{one-bit-more}
 
 -- ---- the top bit
@@ -56,11 +57,6 @@ reads-high n x s l h = rw (top-set n x s l h) (less-larger x (2 ^ n) l)
 
 -- ---- its range
 
--- z is one of -2^(n - 1) to 2^(n - 1) - 1.
-pub data InRange (n : ℕ) : ℤ → Type 0 where
-  at-least-zero : {k : ℕ} → k < 2 ^ (n - 1) → InRange n (pos k)
-  below-zero : {k : ℕ} → k < 2 ^ (n - 1) → InRange n (negsuc k)
-
 -- The signed reading of a field of n bits is one of -2^(n - 1) to 2^(n - 1) - 1.
 pub in-range : (n x : ℕ) → 1 ≤ n → x < 2 ^ n → InRange n (signed n x)
 in-range n x s l =
@@ -70,11 +66,6 @@ in-range n x s l =
     (less-or-not x (2 ^ (n - 1)))
 
 -- ---- back again
-
--- A signed number of 32 bits as the unsigned number with the same bits.
-abbrev pub same-bits : ℤ → ℕ
-same-bits (pos k) = k
-same-bits (negsuc k) = 2 ^ 32 - suc k
 
 lacking : (q p x : ℕ) → x < p → q * p + p - suc (p - suc x) ≡ q * p + x
 lacking q p x h = omega arith

@@ -4,16 +4,17 @@ use Prim.Native.Nat.{ℕ, zero, suc, _+_, _*_, _/_, _%_, _^_, _≤_, _<_}
 use native.Mathlib.Nat.{add-zero, add-suc, add-mul, mod-one}
 use native.Mathlib.Numerals.{add-one}
 use native.Mathlib.Omega.{arith}
-use mathlib.Core.Path.{_≡_, refl, ap, _∙_}
-use mathlib.Core.Bool.{Bool, true, false, cond}
+use mathlib.Core.Path.{_≡_, ap, _∙_}
+use mathlib.Core.Bool.{Bool, cond}
 use mathlib.Core.List.{List}
-use lib.ListN.{length, getD, set, length-set}
+use lib.ListN.{length, getD, set}
 use lib.Seq.{getD-set-same, set-set, set-getD}
 use Rattle.words.specs.Bytes.{bit}
 use Rattle.words.specs.declared.BitAddress.{BitAddress}
 use Rattle.words.proofs.Bits.{bit-of-quotient}
 use Rattle.fields.specs.Field.{ahead, memory-bit, with-bit, set-memory-bit, field-at, with-field}
 use Rattle.fields.specs.Parts.{with-bits}
+use Rattle.fields.proofs.Readings.{put-length}
 use Rattle.fields.proofs.WordBits.{weight-up, one-bit-more, no-bits, next-bit}
 
 -- ---- a bit address by word and bit of the word
@@ -32,18 +33,6 @@ module _ (m : List ℕ) (b : BitAddress) (w o : ℕ) (e : b .0 ≡ w * 16 + o) (
       let q : b .0 / 16 ≡ w = omega arith in
       let r : b .0 % 16 ≡ o = omega arith in
       rw (q, r)
-
--- ---- lengths
-
-set-length : (m : List ℕ) (b : BitAddress) (v : Bool) → length (set-memory-bit m b v) ≡ length m
-unfolding set-memory-bit
-set-length m b v = length-set m (b .0 / 16) _
-
--- No putting in changes the memory's length.
-pub put-length : (m : List ℕ) (a : BitAddress) (n v : ℕ) → length (with-field m a n v) ≡ length m
-unfolding with-field
-put-length m a zero v = refl
-put-length m a (suc n) v = set-length (with-field m a n v) (ahead a n) _ ∙ put-length m a n v
 
 -- ---- the next n bits
 
@@ -79,15 +68,3 @@ module _ (m : List ℕ) (a : BitAddress) (d w o : ℕ) (e : a .0 + d ≡ w * 16 
         next-bit,
         add-one n,
       )
-
--- ---- the field's size
-
-add-weight : (b : Bool) (x n : ℕ) → x < 2 ^ n → x + cond b (2 ^ n) 0 < 2 ^ suc n
-add-weight true x n h = omega arith
-add-weight false x n h = omega arith
-
--- A field of n bits is a number of n bits.
-pub field-fits : (m : List ℕ) (a : BitAddress) (n : ℕ) → field-at m a n < 2 ^ n
-unfolding field-at
-field-fits m a zero = omega arith
-field-fits m a (suc n) = add-weight (memory-bit m (ahead a n)) (field-at m a n) n (field-fits m a n)

@@ -85,11 +85,6 @@ turn a n c p k h s l e =
       };
     }
 
--- There are three words at most.
-pub at-most-three : (a : BitAddress) (n c : ℕ) (p : Place) → Reached a n c p → n ≤ 32 → c ≤ 3
-unfolding touched
-at-most-three a n c p h m = omega (arith, h .words)
-
 -- All words are passed: all bits are done.
 pub reached-end : (a : BitAddress) (n c : ℕ) (p : Place) → Reached a n c p → 1 ≤ n → touched a n ≤ c → (p .done ≡ n) × (c ≡ touched a n)
 unfolding touched

@@ -1,7 +1,6 @@
 -- The answers of the field calls, for every input: document 01, 'Fields' and 'Numbers returned'.
 --   no-size n               a field can't have n bits
 --   refusal words a n       number 1, 4, 5 or 6, or 0 where none applies, for a memory of so many words
---   accepted words a n      none applies
 --   done-taking m a n       what taking out an accepted field answers
 --   taken m a n             what taking out answers
 --   taken-signed m a n      what taking out signed answers
@@ -35,9 +34,6 @@ refusal words a n =
     (cond (ltb 3 (touched a n)) 5
     (cond (leb words (last-word a n .0)) 6 0)))
 
-abbrev pub accepted : ℕ → BitAddress → ℕ → Bool
-accepted words a n = eqb (refusal words a n) 0
-
 -- ---- "The answer counts memory cycles"; "A refusal returns zeros"
 
 abbrev pub done-taking : List ℕ → BitAddress → ℕ → Taken
@@ -45,22 +41,22 @@ done-taking m a n = record { number = 0; value = field-at m a n; cycles = take-c
 
 unfoldable pub taken : List ℕ → BitAddress → ℕ → Taken
 taken m a n =
-    cond (accepted (length m) a n) (done-taking m a n)
+    cond (eqb (refusal (length m) a n) 0) (done-taking m a n)
     (record { number = refusal (length m) a n; value = 0; cycles = 0 })
 
 unfoldable pub taken-signed : List ℕ → BitAddress → ℕ → SignedTaken
 taken-signed m a n =
-    cond (accepted (length m) a n) (record { number = 0; value = signed n (done-taking m a n .value); cycles = done-taking m a n .cycles })
+    cond (eqb (refusal (length m) a n) 0) (record { number = 0; value = signed n (field-at m a n); cycles = take-cycles a n })
     (record { number = refusal (length m) a n; value = pos 0; cycles = 0 })
 
 unfoldable pub put-answer : ℕ → BitAddress → ℕ → Put
 put-answer words a n =
-    cond (accepted words a n) (record { number = 0; cycles = put-cycles a n })
+    cond (eqb (refusal words a n) 0) (record { number = 0; cycles = put-cycles a n })
     (record { number = refusal words a n; cycles = 0 })
 
 -- "nothing lent or passed on changes" in a refusal
 unfoldable pub put-memory : List ℕ → BitAddress → ℕ → ℕ → List ℕ
-put-memory m a n v = cond (accepted (length m) a n) (with-field m a n v) m
+put-memory m a n v = cond (eqb (refusal (length m) a n) 0) (with-field m a n v) m
 
 -- what putting in leaves: its answer and the memory
 pub record PutIn (m : List ℕ) (a : BitAddress) (n v : ℕ) (r : Put) (m′ : List ℕ) : Type 0 where

@@ -20,7 +20,7 @@ ahead a i = address (a .0 + i)
 
 -- ---- one bit of memory
 
--- "Bit address b is bit b mod 16 of word b div 16"
+-- "Bit address b is bit b mod 16 of word b div 16, bit 0 the least significant"
 unfoldable pub memory-bit : List ℕ → BitAddress → Bool
 memory-bit m b = bit (getD m (word-at b .0) 0) (b .0 % 16)
 
@@ -38,7 +38,8 @@ unfoldable pub field-at : List ℕ → BitAddress → ℕ → ℕ
 field-at m a zero = 0
 field-at m a (suc i) = field-at m a i + cond (memory-bit m (ahead a i)) (2 ^ i) 0
 
--- "Putting one in uses the value modulo 2^size": of the value its n low bits alone, bit i to memory bit address + i
+-- "Putting one in uses the value modulo 2^size and changes no other bit": memory bit address + i becomes bit i of the value, for
+-- the n low bits alone
 unfoldable pub with-field : List ℕ → BitAddress → ℕ → ℕ → List ℕ
 with-field m a zero v = m
 with-field m a (suc i) v = set-memory-bit (with-field m a i v) (ahead a i) (bit v i)

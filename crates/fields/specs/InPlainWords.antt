@@ -3,16 +3,21 @@
 --   Holds a n w        word w holds a bit of the field: it is touched
 --   Counted a n w      word w is one of those that the cycles are added up over
 --   Missing words a n  a touched word isn't in a memory of so many words
+--   partly a n w       1 for a word that is only partly covered, else 0
 --   Words m            every word of the memory has sixteen bits
 --   number-of m        the whole memory as one number, its first word lowest
-use Prim.Native.Nat.{ℕ, _+_, _*_, _^_, _≤_, _<_}
+--   InRange n z        z is one of -2^(n - 1) to 2^(n - 1) - 1
+--   same-bits z        the unsigned number of 32 bits with the bits of the signed number z
+use Prim.Native.Nat.{ℕ, suc, _+_, _-_, _*_, _^_, _≤_, _<_}
+use mathlib.Core.Bool.{cond}
 use mathlib.Core.List.{List, [], _∷_}
 use mathlib.Core.Path.{_≡_}
+use lib.IntN.{ℤ, pos, negsuc}
 use lib.ListN.{getD}
 use Rattle.words.specs.Addresses.{word-at}
 use Rattle.words.specs.declared.BitAddress.{BitAddress}
 use Rattle.words.specs.declared.WordNumber.{WordNumber}
-use Rattle.fields.specs.Count.{touched}
+use Rattle.fields.specs.Count.{touched, wholly-covered}
 
 -- ---- bits and words of a field
 
@@ -29,6 +34,9 @@ pub record Counted (a : BitAddress) (n : ℕ) (w : WordNumber) : Type 0 where
   pub from : word-at a .0 ≤ w .0
   pub to : w .0 < word-at a .0 + touched a n
 
+abbrev pub partly : BitAddress → ℕ → WordNumber → ℕ
+partly a n w = cond (wholly-covered a n w) 0 1
+
 pub record Missing (words : ℕ) (a : BitAddress) (n : ℕ) : Type 0 where
   pub word : WordNumber
   pub holds : Holds a n word
@@ -42,3 +50,13 @@ Words m = (i : ℕ) → getD m i 0 < 2 ^ 16
 unfoldable pub number-of : List ℕ → ℕ
 number-of [] = 0
 number-of (w ∷ m) = number-of m * 2 ^ 16 + w
+
+-- ---- signed numbers (`negsuc k` is -1 - k)
+
+pub data InRange (n : ℕ) : ℤ → Type 0 where
+  at-least-zero : {k : ℕ} → k < 2 ^ (n - 1) → InRange n (pos k)
+  below-zero : {k : ℕ} → k < 2 ^ (n - 1) → InRange n (negsuc k)
+
+abbrev pub same-bits : ℤ → ℕ
+same-bits (pos k) = k
+same-bits (negsuc k) = 2 ^ 32 - suc k

@@ -1,18 +1,17 @@
 // Which number refuses a field. Document 01, "Numbers returned": 1, 4, 5 and 6.
 ghost use mathlib.Core.Path.{_≡_};
-ghost use Prim.Native.Nat.{_≤_};
-ghost use Rattle.fields.specs.Count.{touched};
-ghost use Rattle.fields.specs.Answers.{refusal, accepted};
+ghost use Rattle.fields.specs.Answers.{no-size, refusal};
+use crate::places::touched_by;
 use words::BitAddress;
+use words::either;
 use words::is_over_limit;
 use words::word_of;
 
-// How many words a field touches.
-pub(crate) fn touched_by(at: BitAddress, size: u32) -> u32
-    requires { ⌜ (1 ≤ size) × (size ≤ 32) ⌝ }
-    ensures { λ r. ⌜ r ≡ touched at size ⌝ }
+// A field can't have so many bits.
+fn is_no_size(size: u32) -> bool
+    ensures { λ r. ⌜ r ≡ no-size size ⌝ }
 {
-    (at.0 % 16 + size - 1) / 16 + 1
+    either(size < 1, 32 < size)
 }
 
 // Number 1, 4, 5 or 6, or 0 where none applies.
@@ -22,10 +21,7 @@ pub(crate) fn refusal_of(words: usize, at: BitAddress, size: u32) -> u8
     if is_over_limit(words) {
         return 1;
     }
-    if size < 1 {
-        return 4;
-    }
-    if 32 < size {
+    if is_no_size(size) {
         return 4;
     }
     let count = touched_by(at, size);
@@ -37,11 +33,4 @@ pub(crate) fn refusal_of(words: usize, at: BitAddress, size: u32) -> u8
         return 6;
     }
     0
-}
-
-// No number applies.
-pub(crate) fn is_accepted(words: usize, at: BitAddress, size: u32) -> bool
-    ensures { λ r. ⌜ r ≡ accepted words at size ⌝ }
-{
-    refusal_of(words, at, size) == 0
 }

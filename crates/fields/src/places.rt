@@ -1,6 +1,7 @@
-// How far a field is done, word by word.
+// The words that a field touches, and how far it is done, word by word.
 ghost use mathlib.Core.Path.{_≡_};
 ghost use Prim.Native.Nat.{_+_, _^_, _≤_, _<_, min};
+ghost use Rattle.fields.specs.Count.{touched};
 ghost use Rattle.fields.specs.Parts.{first-place, count-at, place-after};
 use words::BitAddress;
 use words::WordNumber;
@@ -13,6 +14,15 @@ pub(crate) struct Place {
     pub(crate) done: u32,
 }
 
+// How many words a field touches.
+pub(crate) fn touched_by(at: BitAddress, size: u32) -> u32
+    requires { ⌜ (1 ≤ size) × (size ≤ 32) ⌝ }
+    ensures { λ r. ⌜ r ≡ touched at size ⌝ }
+{
+    (at.0 % 16 + size - 1) / 16 + 1
+}
+
+// The smaller of two numbers.
 fn least(a: u32, b: u32) -> u32
     ensures { λ r. ⌜ r ≡ min a b ⌝ }
 {
@@ -20,7 +30,7 @@ fn least(a: u32, b: u32) -> u32
 }
 
 // Nothing is done yet.
-pub(crate) fn first_place_of(at: BitAddress) -> Place
+pub(crate) fn first_place(at: BitAddress) -> Place
     ensures { λ r. ⌜ r ≡ first-place at ⌝ }
 {
     Place {
@@ -31,15 +41,15 @@ pub(crate) fn first_place_of(at: BitAddress) -> Place
 }
 
 // How many bits of a field of `size` bits lie in the word that comes next.
-pub(crate) fn count_of(place: Place, size: u32) -> u32
+pub(crate) fn count_at(place: Place, size: u32) -> u32
     requires { ⌜ (place .from ≤ 16) × (place .done ≤ size) ⌝ }
     ensures { λ r. ⌜ r ≡ count-at place size ⌝ }
 {
     least(16 - place.from, size - place.done)
 }
 
-// These are done too.
-pub(crate) fn place_past(place: Place, count: u32) -> Place
+// The place when `count` bits more are done.
+pub(crate) fn place_after(place: Place, count: u32) -> Place
     requires { ⌜ (place .word .0 + 1 < 2 ^ 32) × (place .done + count < 2 ^ 32) ⌝ }
     ensures { λ r. ⌜ r ≡ place-after place count ⌝ }
 {

@@ -8,12 +8,11 @@ ghost use Rattle.fields.specs.Parts.{Accepted, Scattered};
 use crate::Put;
 use crate::bits::bits_of;
 use crate::bits::replace_bits;
-use crate::judging::is_accepted;
 use crate::judging::refusal_of;
-use crate::judging::touched_by;
-use crate::places::count_of;
-use crate::places::first_place_of;
-use crate::places::place_past;
+use crate::places::count_at;
+use crate::places::first_place;
+use crate::places::place_after;
+use crate::places::touched_by;
 use words::BitAddress;
 
 // The cycles of putting bits into a word of which the field covers so many.
@@ -29,16 +28,16 @@ fn scatter(memory: &mut [u16], at: BitAddress, size: u32, value: u32) -> u32
     ensures { λ r. ⌜ Scattered (now (memory .entry)) at size value r (now (memory .exit)) ⌝ }
 {
     let words = touched_by(at, size);
-    let mut place = first_place_of(at);
+    let mut place = first_place(at);
     let mut cycles: u32 = 0;
     let mut passed: u32 = 0;
     while passed < words {
-        let count = count_of(place, size);
+        let count = count_at(place, size);
         let i = place.word.0 as usize;
         let bits = bits_of(value, place.done, count);
         memory[i] = replace_bits(memory[i], place.from, count, bits);
         cycles += cost_of(count);
-        place = place_past(place, count);
+        place = place_after(place, count);
         passed += 1;
     }
     cycles
@@ -48,12 +47,10 @@ fn scatter(memory: &mut [u16], at: BitAddress, size: u32, value: u32) -> u32
 pub fn put_in(memory: &mut [u16], at: BitAddress, size: u32, value: u32) -> Put
     ensures { λ r. ⌜ PutIn (now (memory .entry)) at size value r (now (memory .exit)) ⌝ }
 {
-    if is_accepted(memory.len(), at, size) {
-        let cycles = scatter(memory, at, size, value);
-        return Put { number: 0, cycles };
+    let number = refusal_of(memory.len(), at, size);
+    if number != 0 {
+        return Put { number, cycles: 0 };
     }
-    Put {
-        number: refusal_of(memory.len(), at, size),
-        cycles: 0,
-    }
+    let cycles = scatter(memory, at, size, value);
+    Put { number: 0, cycles }
 }

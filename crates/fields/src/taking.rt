@@ -6,12 +6,11 @@ ghost use Rattle.fields.specs.Parts.{Accepted};
 use crate::Taken;
 use crate::bits::bits_of;
 use crate::bits::pow2;
-use crate::judging::is_accepted;
 use crate::judging::refusal_of;
-use crate::judging::touched_by;
-use crate::places::count_of;
-use crate::places::first_place_of;
-use crate::places::place_past;
+use crate::places::count_at;
+use crate::places::first_place;
+use crate::places::place_after;
+use crate::places::touched_by;
 use words::BitAddress;
 
 // Takes an accepted field out, one cycle for each word.
@@ -20,16 +19,16 @@ pub(crate) fn gather(memory: &[u16], at: BitAddress, size: u32) -> Taken
     ensures { λ r. ⌜ r ≡ done-taking (now (memory .entry)) at size ⌝ }
 {
     let words = touched_by(at, size);
-    let mut place = first_place_of(at);
+    let mut place = first_place(at);
     let mut value: u32 = 0;
     let mut cycles: u32 = 0;
     let mut passed: u32 = 0;
     while passed < words {
-        let count = count_of(place, size);
+        let count = count_at(place, size);
         let word = memory[place.word.0 as usize];
         value += bits_of(word as u32, place.from, count) * pow2(place.done);
         cycles += 1;
-        place = place_past(place, count);
+        place = place_after(place, count);
         passed += 1;
     }
     Taken {
@@ -43,12 +42,13 @@ pub(crate) fn gather(memory: &[u16], at: BitAddress, size: u32) -> Taken
 pub fn take_out(memory: &[u16], at: BitAddress, size: u32) -> Taken
     ensures { λ r. ⌜ r ≡ taken (now (memory .entry)) at size ⌝ }
 {
-    if is_accepted(memory.len(), at, size) {
-        return gather(memory, at, size);
+    let number = refusal_of(memory.len(), at, size);
+    if number != 0 {
+        return Taken {
+            number,
+            value: 0,
+            cycles: 0,
+        };
     }
-    Taken {
-        number: refusal_of(memory.len(), at, size),
-        value: 0,
-        cycles: 0,
-    }
+    gather(memory, at, size)
 }

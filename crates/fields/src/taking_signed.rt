@@ -5,7 +5,6 @@ ghost use Rattle.fields.specs.Field.{signed};
 ghost use Rattle.fields.specs.Answers.{taken-signed};
 use crate::SignedTaken;
 use crate::bits::pow2;
-use crate::judging::is_accepted;
 use crate::judging::refusal_of;
 use crate::taking::gather;
 use words::BitAddress;
@@ -29,17 +28,18 @@ fn signed_of(size: u32, value: u32) -> i32
 pub fn take_out_signed(memory: &[u16], at: BitAddress, size: u32) -> SignedTaken
     ensures { λ r. ⌜ r ≡ taken-signed (now (memory .entry)) at size ⌝ }
 {
-    if is_accepted(memory.len(), at, size) {
-        let field = gather(memory, at, size);
+    let number = refusal_of(memory.len(), at, size);
+    if number != 0 {
         return SignedTaken {
-            number: 0,
-            value: signed_of(size, field.value),
-            cycles: field.cycles,
+            number,
+            value: 0,
+            cycles: 0,
         };
     }
+    let field = gather(memory, at, size);
     SignedTaken {
-        number: refusal_of(memory.len(), at, size),
-        value: 0,
-        cycles: 0,
+        number: 0,
+        value: signed_of(size, field.value),
+        cycles: field.cycles,
     }
 }

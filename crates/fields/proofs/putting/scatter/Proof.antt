@@ -1,6 +1,6 @@
 -- `fields::putting::scatter` meets its contract: after each turn the memory has the bits done so far put in (`put-part`),
 -- and the cycles are the sum over the words passed (`Spent`).
-use native.Mathlib.Nat.{mod-lt, lt-of-lt-of-le}
+use native.Mathlib.Nat.{le-trans, mod-lt, lt-of-lt-of-le}
 use native.Mathlib.Omega.{arith}
 use Prim.Native.Nat.{ℕ, _+_, _-_, _<_}
 use mathlib.Core.Path.{_≡_, refl, sym, ap, subst, _∙_}
@@ -15,8 +15,10 @@ use Rattle.fields.specs.Field.{with-field}
 use Rattle.fields.specs.Count.{wholly-covered, put-cost, put-cycles}
 use Rattle.fields.specs.Parts.{first-place}
 use Rattle.fields.specs.declared.places.Place.{Place}
-use Rattle.fields.proofs.Steps.{put-part, put-length}
-use Rattle.fields.proofs.WordByWord.{Reached, address-of, address-is, reached-start, at-most-three, reached-end, Turn, turn}
+use Rattle.fields.proofs.Steps.{put-part}
+use Rattle.fields.proofs.Readings.{put-length}
+use Rattle.fields.proofs.Counted.{no-fourth-word}
+use Rattle.fields.proofs.WordByWord.{Reached, address-of, address-is, reached-start, reached-end, Turn, turn}
 use Rattle.fields.proofs.Costs.{Spent, spent-start, spent-next, few-cycles, put-little, whole-count}
 use Rattle.fields.proofs.putting.scatter.Statement.{statement}
 use Rattle.fields.proofs.putting.scatter.Tie as tie
@@ -53,12 +55,12 @@ abbrev μ-loop : tie.MeasureT-loop
 touched-by-requires : tie.Need-touched-by-requires Inv-loop μ-loop
 touched-by-requires c κs = (c .before .pre .some, c .before .pre .most)
 
-first-place-of-requires : tie.Need-first-place-of-requires Inv-loop μ-loop
-first-place-of-requires c κs = tt
+first-place-requires : tie.Need-first-place-requires Inv-loop μ-loop
+first-place-requires c κs = tt
 
 loop-holds : tie.Need-loop-holds Inv-loop μ-loop
 loop-holds c =
-    let e = c .first-place-of .ensures in
+    let e = c .first-place .ensures in
     known e (rw e (begun _ _ _ _))
 
 -- The invariant, of the field's own address.
@@ -66,26 +68,26 @@ inv : (c : tie.At-loop Inv-loop μ-loop) →
     let g = c .before .before .before .before .args in
     let l = c .loop in
     Scattering (g .memory .now) (g .at) (g .size) (g .value) (l .memory) (l .place) (l .cycles) (l .passed)
-inv c = own (c .before .first-place-of .ensures) (c .loop .inv)
+inv c = own (c .before .first-place .ensures) (c .loop .inv)
 
-count-of-requires : tie.Need-count-of-requires Inv-loop μ-loop
-count-of-requires c κs =
+count-at-requires : tie.Need-count-at-requires Inv-loop μ-loop
+count-at-requires c κs =
     let i = inv (c .before) .reached in
     (omega (arith, i .bit), omega (arith, i .done-is))
 
 -- The turn: the bits that lie in the next word.
-this : (c : tie.After-count-of Inv-loop μ-loop) →
+this : (c : tie.After-count-at Inv-loop μ-loop) →
     let l = c .before .before in
     let g = l .before .before .before .before .args in
-    Turn (g .at) (g .size) (l .loop .passed) (l .loop .place) (c .count-of .result)
+    Turn (g .at) (g .size) (l .loop .passed) (l .loop .place) (c .count-at .result)
 this c =
     let l = c .before .before in
     let s = l .before .before .before .before in
     let m = rw (l .before .before .touched-by .ensures) at (c .before .loop-test .taken) in
-    turn _ _ _ _ _ (inv l .reached) (s .pre .some) m (c .count-of .ensures)
+    turn _ _ _ _ _ (inv l .reached) (s .pre .some) m (c .count-at .ensures)
 
 -- That word is in memory, as memory stood and as it is now.
-there : (c : tie.After-count-of Inv-loop μ-loop) →
+there : (c : tie.After-count-at Inv-loop μ-loop) →
     let l = c .before .before in
     let w = l .loop .place .word .0 in
     (w < length (l .before .before .before .before .args .memory .now)) × (w < length (l .loop .memory))
@@ -96,10 +98,10 @@ there c =
     (h, rw (inv l .memory-is, put-length) h)
 
 -- The cycles after the turn.
-after : (c : tie.After-count-of Inv-loop μ-loop) →
+after : (c : tie.After-count-at Inv-loop μ-loop) →
     let l = c .before .before in
     let g = l .before .before .before .before .args in
-    Spent (cost (g .at) (g .size)) (g .at) (l .loop .passed + 1) (l .loop .cycles + put-cost (eqb (c .count-of .result) 16))
+    Spent (cost (g .at) (g .size)) (g .at) (l .loop .passed + 1) (l .loop .cycles + put-cost (eqb (c .count-at .result) 16))
 after c =
     let l = c .before .before in
     let g = l .before .before .before .before .args in
@@ -139,10 +141,10 @@ add-cycles : tie.Need-add-cycles Inv-loop μ-loop
 add-cycles c =
     let n = c .before .before .before .before .before in
     let s = n .before .before .before .before .before .before in
-    rw (c .cost-of .ensures) (omega (arith, few-cycles _ _ _ _ (after n) (at-most-three _ _ _ _ (this n .next) (s .pre .most))))
+    rw (c .cost-of .ensures) (omega (arith, few-cycles _ _ _ _ (after n) (le-trans (this n .next .words) (no-fourth-word _ _ (s .pre .most)))))
 
-place-past-requires : tie.Need-place-past-requires Inv-loop μ-loop
-place-past-requires c κs =
+place-after-requires : tie.Need-place-after-requires Inv-loop μ-loop
+place-after-requires c κs =
     let n = c .before .before .before .before .before in
     let s = n .before .before .before .before .before .before in
     (omega (arith, there n .0, s .pre .few), omega (arith, this n .in-field, s .pre .most))
@@ -159,14 +161,14 @@ loop-again c =
     let l = n .before .before in
     let g = l .before .before .before .before .args in
     let p = l .loop .place in
-    rw (c .place-past .ensures)
-    (known (l .before .first-place-of .ensures)
+    rw (c .place-after .ensures)
+    (known (l .before .first-place .ensures)
     (record {
       reached = this n .next;
       spent = rw (c .before .cost-of .ensures) (after n);
       memory-is = rw (c .before .before .replace-bits .ensures, c .before .before .before .before .bits-of .ensures, inv l .memory-is)
           (sym (put-part (g .memory .now) (g .at) (p .done) (p .word .0) (p .from)
-          (sym (this n .place)) (g .value) (n .count-of .result) (this n .in-word) (there n .0)));
+          (sym (this n .place)) (g .value) (n .count-at .result) (this n .in-word) (there n .0)));
     }))
 
 same-length : tie.Need-same-length Inv-loop μ-loop
@@ -188,9 +190,9 @@ scatter-spec =
     Inv-loop
     μ-loop
     touched-by-requires
-    first-place-of-requires
+    first-place-requires
     loop-holds
-    count-of-requires
+    count-at-requires
     cast-i
     bits-of-requires
     mul-replace-bits
@@ -200,7 +202,7 @@ scatter-spec =
     slice-write-memory
     cost-of-requires
     add-cycles
-    place-past-requires
+    place-after-requires
     add-passed
     loop-less
     loop-again

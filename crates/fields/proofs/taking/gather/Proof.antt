@@ -12,8 +12,10 @@ use Rattle.fields.specs.Field.{field-at}
 use Rattle.fields.specs.Count.{take-cost, take-cycles}
 use Rattle.fields.specs.Parts.{first-place}
 use Rattle.fields.specs.declared.places.Place.{Place}
-use Rattle.fields.proofs.Steps.{take-part, field-fits}
-use Rattle.fields.proofs.WordByWord.{Reached, at-most-three, address-of, address-is, reached-start, reached-end, Turn, turn}
+use Rattle.fields.proofs.Steps.{take-part}
+use Rattle.fields.proofs.Readings.{field-fits}
+use Rattle.fields.proofs.Counted.{no-fourth-word}
+use Rattle.fields.proofs.WordByWord.{Reached, address-of, address-is, reached-start, reached-end, Turn, turn}
 use Rattle.fields.proofs.Costs.{Spent, spent-start, spent-next, few-cycles, take-little}
 use Rattle.fields.proofs.taking.gather.Statement.{statement}
 use Rattle.fields.proofs.taking.gather.Tie as tie
@@ -46,12 +48,12 @@ abbrev μ-loop : tie.MeasureT-loop
 touched-by-requires : tie.Need-touched-by-requires Inv-loop μ-loop
 touched-by-requires c κs = (c .before .pre .some, c .before .pre .most)
 
-first-place-of-requires : tie.Need-first-place-of-requires Inv-loop μ-loop
-first-place-of-requires c κs = tt
+first-place-requires : tie.Need-first-place-requires Inv-loop μ-loop
+first-place-requires c κs = tt
 
 loop-holds : tie.Need-loop-holds Inv-loop μ-loop
 loop-holds c =
-    let e = c .first-place-of .ensures in
+    let e = c .first-place .ensures in
     known e (rw e (begun _ _ _))
 
 -- The invariant, of the field's own address.
@@ -59,26 +61,26 @@ inv : (c : tie.At-loop Inv-loop μ-loop) →
     let g = c .before .before .before .before .args in
     let l = c .loop in
     Gathered (g .memory .now) (g .at) (g .size) (l .place) (l .value) (l .cycles) (l .passed)
-inv c = own (c .before .first-place-of .ensures) (c .loop .inv)
+inv c = own (c .before .first-place .ensures) (c .loop .inv)
 
-count-of-requires : tie.Need-count-of-requires Inv-loop μ-loop
-count-of-requires c κs =
+count-at-requires : tie.Need-count-at-requires Inv-loop μ-loop
+count-at-requires c κs =
     let i = inv (c .before) .reached in
     (omega (arith, i .bit), omega (arith, i .done-is))
 
 -- The turn: the bits that lie in the next word.
-this : (c : tie.After-count-of Inv-loop μ-loop) →
+this : (c : tie.After-count-at Inv-loop μ-loop) →
     let l = c .before .before in
     let g = l .before .before .before .before .args in
-    Turn (g .at) (g .size) (l .loop .passed) (l .loop .place) (c .count-of .result)
+    Turn (g .at) (g .size) (l .loop .passed) (l .loop .place) (c .count-at .result)
 this c =
     let l = c .before .before in
     let s = l .before .before .before .before in
     let m = rw (l .before .before .touched-by .ensures) at (c .before .loop-test .taken) in
-    turn _ _ _ _ _ (inv l .reached) (s .pre .some) m (c .count-of .ensures)
+    turn _ _ _ _ _ (inv l .reached) (s .pre .some) m (c .count-at .ensures)
 
 -- That word is in memory.
-there : (c : tie.After-count-of Inv-loop μ-loop) →
+there : (c : tie.After-count-at Inv-loop μ-loop) →
     let l = c .before .before in
     l .loop .place .word .0 < length (l .before .before .before .before .args .memory .now)
 there c = omega (arith, this c .in-touched, c .before .before .before .before .before .before .pre .there)
@@ -111,7 +113,7 @@ after : (c : tie.After-pow2 Inv-loop μ-loop) →
     let l = n .before .before in
     let g = l .before .before .before .before .args in
     let v = l .loop .value + c .before .bits-of .result * c .pow2 .result in
-    (v ≡ field-at (g .memory .now) (g .at) (l .loop .place .done + n .count-of .result)) × (v < 2 ^ 32)
+    (v ≡ field-at (g .memory .now) (g .at) (l .loop .place .done + n .count-at .result)) × (v < 2 ^ 32)
 after c =
     let n = c .before .before .before .before in
     let l = n .before .before in
@@ -119,7 +121,7 @@ after c =
     let m = s .args .memory .now in
     let a = s .args .at in
     let p = l .loop .place in
-    let k = n .count-of .result in
+    let k = n .count-at .result in
     let e : l .loop .value + c .before .bits-of .result * c .pow2 .result ≡ field-at m a (p .done + k) =
     rw (c .before .bits-of .ensures, c .pow2 .ensures, inv l .value-is)
     (sym (take-part m a (p .done) (p .word .0) (p .from) (sym (this n .place)) k (this n .in-word)))
@@ -135,10 +137,10 @@ add-cycles : tie.Need-add-cycles Inv-loop μ-loop
 add-cycles c =
     let i = inv (c .before .before .before .before .before .before) in
     let s = c .before .before .before .before .before .before .before .before .before .before in
-    omega (arith, few-cycles _ _ _ _ (i .spent) (at-most-three _ _ _ _ (i .reached) (s .pre .most)))
+    omega (arith, few-cycles _ _ _ _ (i .spent) (le-trans (i .reached .words) (no-fourth-word _ _ (s .pre .most))))
 
-place-past-requires : tie.Need-place-past-requires Inv-loop μ-loop
-place-past-requires c κs =
+place-after-requires : tie.Need-place-after-requires Inv-loop μ-loop
+place-after-requires c κs =
     let n = c .before .before .before .before in
     let s = n .before .before .before .before .before .before in
     (omega (arith, there n, s .pre .few), omega (arith, this n .in-field, s .pre .most))
@@ -155,8 +157,8 @@ loop-again c =
     let n = c .before .before .before .before .before in
     let l = n .before .before in
     let i = inv l in
-    rw (c .place-past .ensures)
-    (known (l .before .first-place-of .ensures)
+    rw (c .place-after .ensures)
+    (known (l .before .first-place .ensures)
     (record {
       reached = this n .next;
       spent = spent-next (λ w. take-cost) _ _ _ _ (l .loop .place) (i .spent) (i .reached) take-little;
@@ -179,9 +181,9 @@ gather-spec =
     Inv-loop
     μ-loop
     touched-by-requires
-    first-place-of-requires
+    first-place-requires
     loop-holds
-    count-of-requires
+    count-at-requires
     cast-word
     mul-word
     shared-slice-read-word
@@ -191,7 +193,7 @@ gather-spec =
     mul-value
     add-value
     add-cycles
-    place-past-requires
+    place-after-requires
     add-passed
     loop-less
     loop-again

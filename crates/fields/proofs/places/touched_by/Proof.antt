@@ -1,10 +1,10 @@
--- `fields::judging::touched_by` meets its contract (`touched-is`).
+-- `fields::places::touched_by` meets its contract (`touched-is`).
 use borrow.Author.Needs.{needs}
 use mathlib.Core.Path.{sym}
 use native.Mathlib.Omega.{arith}
-use Rattle.fields.proofs.Accepted.{touched-is}
-use Rattle.fields.proofs.judging.touched_by.Statement.{statement}
-use Rattle.fields.proofs.judging.touched_by.Tie as tie
+use Rattle.fields.proofs.Counted.{touched-is}
+use Rattle.fields.proofs.places.touched_by.Statement.{statement}
+use Rattle.fields.proofs.places.touched_by.Tie as tie
 
 add-result : tie.Need-add-result
 add-result c = search needs
