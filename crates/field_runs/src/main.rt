@@ -20,7 +20,7 @@ fn print_word(word: u16) {
     io::print_hex(1, word as u64, 4);
 }
 
-fn print_place(memory: &[u16], i: usize) {
+fn print_at(memory: &[u16], i: usize) {
     if i < memory.len() {
         print_word(memory[i]);
     }
@@ -28,9 +28,9 @@ fn print_place(memory: &[u16], i: usize) {
 
 fn print_words(memory: &[u16]) {
     io::write_all(1, b", memory");
-    print_place(memory, 0);
-    print_place(memory, 1);
-    print_place(memory, 2);
+    print_at(memory, 0);
+    print_at(memory, 1);
+    print_at(memory, 2);
     io::write_all(1, b"\n");
 }
 
@@ -99,11 +99,25 @@ fn run_three_words() {
     take_signed(&memory, 1, 15);
 }
 
+// Bits on both sides of a field, and the widest spread of one.
+fn run_neighbours() {
+    let mut memory = [0xffffu16; 1];
+    put(&mut memory, 3, 5, 0);
+    take_signed(&memory, 1, 4);
+    take(&memory, 5, 4);
+    let mut three = [0u16; 3];
+    put(&mut three, 32, 15, 0xffff_ffff);
+    take_signed(&three, 32, 15);
+}
+
 // No memory, the longest memory, and one word more.
 fn run_lengths() {
     let mut none = [0u16; 0];
     put(&mut none, 1, 0, 1);
     take(&none, 1, 0);
+    take_signed(&none, 1, 0);
+    take(&none, 33, 0xffff_ffff);
+    put(&mut none, 0xffff_ffff, 0xffff_ffff, 0);
     let mut longest = [0u16; 32768];
     put(&mut longest, 1, 524287, 1);
     take_signed(&longest, 2, 524286);
@@ -112,11 +126,13 @@ fn run_lengths() {
     let mut longer = [0u16; 32769];
     put(&mut longer, 1, 0, 1);
     take(&longer, 0, 0);
+    take_signed(&longer, 1, 0);
 }
 
 fn main() {
     run_sizes();
     run_two_words();
     run_three_words();
+    run_neighbours();
     run_lengths();
 }
