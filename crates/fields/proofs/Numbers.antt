@@ -18,7 +18,8 @@ use Rattle.fields.specs.InPlainWords.{Missing}
 use Rattle.fields.specs.declared.Taken.{Taken}
 use Rattle.fields.specs.declared.SignedTaken.{SignedTaken}
 use Rattle.fields.specs.declared.Put.{Put}
-use Rattle.fields.proofs.Answered.{taken-done, signed-done, put-done, taken-refused, signed-refused, put-refused, memory-refused}
+use Rattle.fields.proofs.Answered.{taken-done, signed-done, put-done}
+use Rattle.fields.proofs.Answered.{taken-refused, signed-refused, put-refused, memory-refused}
 use Rattle.fields.proofs.Accepted.{tested}
 
 -- ---- a touched word that isn't in memory

@@ -26,7 +26,9 @@ module _ (m : List ℕ) (b : BitAddress) where
   -- A bit of a word in memory is made what is asked.
   pub made : (v : Bool) → word-at b .0 < length m → memory-bit (set-memory-bit m b v) b ≡ v
   unfolding memory-bit set-memory-bit
-  made v h = rw (getD-set-same m (b .0 / 16) (with-bit (getD m (b .0 / 16) 0) (b .0 % 16) v) 0 h) (bit-made (getD m (b .0 / 16) 0) (b .0 % 16) v)
+  made v h =
+      let w : ℕ = getD m (b .0 / 16) 0 in
+      rw (getD-set-same m (b .0 / 16) (with-bit w (b .0 % 16) v) 0 h) (bit-made w (b .0 % 16) v)
 
   -- No other bit changes.
   pub kept : (v : Bool) (c : BitAddress) → c .0 ≢ b .0 → memory-bit (set-memory-bit m b v) c ≡ memory-bit m c

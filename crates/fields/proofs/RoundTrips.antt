@@ -26,13 +26,15 @@ pub take-put : (m : List ℕ) (a : BitAddress) (n v : ℕ) → last-word a n .0 
 take-put m a n v l = field-from-bits (with-field m a n v) a n v (λ i h. put-bit m a n v i h (omega (arith, h, l)))
 
 -- Two values with the same n low bits leave the same memory.
-pub put-alike : (m : List ℕ) (a : BitAddress) (n v u : ℕ) → ((i : ℕ) → i < n → bit v i ≡ bit u i) → with-field m a n v ≡ with-field m a n u
+pub put-alike : (m : List ℕ) (a : BitAddress) (n v u : ℕ) → ((i : ℕ) → i < n → bit v i ≡ bit u i)
+    → with-field m a n v ≡ with-field m a n u
 unfolding with-field
 put-alike m a zero v u h = refl
 put-alike m a (suc n) v u h = rw (put-alike m a n v u (λ i l. h i (omega (arith, l))), h n (omega arith))
 
 -- A field put in as it stands changes nothing.
-pub put-as-it-is : (m : List ℕ) (a : BitAddress) (n v : ℕ) → ((i : ℕ) → i < n → bit v i ≡ memory-bit m (ahead a i)) → with-field m a n v ≡ m
+pub put-as-it-is : (m : List ℕ) (a : BitAddress) (n v : ℕ) → ((i : ℕ) → i < n → bit v i ≡ memory-bit m (ahead a i))
+    → with-field m a n v ≡ m
 unfolding with-field
 put-as-it-is m a zero v h = refl
 put-as-it-is m a (suc n) v h =

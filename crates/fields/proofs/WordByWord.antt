@@ -49,7 +49,8 @@ some-left a n w d s l e = (omega arith, omega arith)
 done-next : (a n w o d k : ℕ) → d < n → w * 16 + o ≡ a + d → o < 16 → k ≡ min (16 - o) (n - d) → d + k ≡ min n ((w + 1) * 16 - a)
 done-next a n w o d k l p b q = omega arith
 
-next-place : (a n w d : ℕ) → w + 1 ≤ (a + (n - 1)) / 16 → a ≤ (w + 1) * 16 → 1 ≤ n → d ≡ min n ((w + 1) * 16 - a) → (w + 1) * 16 + 0 ≡ a + d
+next-place : (a n w d : ℕ) → w + 1 ≤ (a + (n - 1)) / 16 → a ≤ (w + 1) * 16 → 1 ≤ n → d ≡ min n ((w + 1) * 16 - a)
+    → (w + 1) * 16 + 0 ≡ a + d
 next-place a n w d l m s e = omega arith
 
 -- Word number c of the touched ones, counted from 0, is no later than the last.
@@ -59,7 +60,8 @@ next-touched a n c w e l = omega arith
 
 -- ---- one turn
 
-pub turn : (a : BitAddress) (n c : ℕ) (p : Place) (k : ℕ) → Reached a n c p → 1 ≤ n → c < touched a n → k ≡ count-at p n → Turn a n c p k
+pub turn : (a : BitAddress) (n c : ℕ) (p : Place) (k : ℕ) → Reached a n c p → 1 ≤ n → c < touched a n → k ≡ count-at p n
+    → Turn a n c p k
 turn a n c p k h s l e =
     let w : ℕ = p .word .0 in
     let t : w ≤ last-word a n .0 = next-touched a n c w (h .word-is) l in
@@ -86,6 +88,7 @@ turn a n c p k h s l e =
     }
 
 -- All words are passed: all bits are done.
-pub reached-end : (a : BitAddress) (n c : ℕ) (p : Place) → Reached a n c p → 1 ≤ n → touched a n ≤ c → (p .done ≡ n) × (c ≡ touched a n)
+pub reached-end : (a : BitAddress) (n c : ℕ) (p : Place) → Reached a n c p → 1 ≤ n → touched a n ≤ c
+    → (p .done ≡ n) × (c ≡ touched a n)
 unfolding touched
 reached-end a n c p h s l = (omega (arith, h .word-is, h .done-is), omega (arith, h .words))

@@ -1,6 +1,5 @@
 -- `field_runs::print_signed` meets its needs: a number below zero lies as far below -1 as its magnitude says, which fits.
-use borrow.Author.Needs.{needs}
-use borrow.Author.Needs.{sfits-of}
+use borrow.Author.Needs.{needs, sfits-of}
 use borrow.Author.Tests.{ltb-true, le-ltb}
 use mir.Facts.{toZ-ofZ}
 use mir.Syntax.{w32}
@@ -29,7 +28,9 @@ below c =
     rw e (less-one (c .before .args .value) (rw e at (c .if1 .taken)))
 
 -- It is a number of 32 bits.
-back : (c : tie.Then1) → toZ w32 (ofZ w32 (negsuc 0 -ℤ toZ w32 (ofZ w32 (c .before .args .value)))) ≡ pos (mag (c .before .args .value))
+back : (c : tie.Then1) →
+    let v = c .before .args .value in
+    toZ w32 (ofZ w32 (negsuc 0 -ℤ toZ w32 (ofZ w32 v))) ≡ pos (mag v)
 back c = rw (below c) (toZ-ofZ (sfits-of {w = w32} (c .before .fits .value .sfits)))
 
 sub-below : tie.Need-sub-below

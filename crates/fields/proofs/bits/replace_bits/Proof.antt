@@ -34,9 +34,10 @@ stays c = (div-mul-le-self _ _, mod-le _ _, mod-le _ _)
 -- The new ones fit in a word.
 new : (c : tie.After-pow22) → c .before .before .args .bits * c .pow22 .result < 2 ^ 16
 new c =
-    let a = c .before .before .args in
+    let s = c .before .before in
+    let a = s .args in
     rw (c .pow22 .ensures)
-    (lt-of-lt-of-le (new-fit (a .word) (a .o) (a .n) (a .bits) (c .before .before .pre .1)) (pow-mono {j = 16} (c .before .before .pre .0)))
+    (lt-of-lt-of-le (new-fit (a .word) (a .o) (a .n) (a .bits) (s .pre .1)) (pow-mono {j = 16} (s .pre .0)))
 
 div-result : tie.Need-div-result
 div-result c = omega (arith, powers c)

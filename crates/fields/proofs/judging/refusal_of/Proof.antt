@@ -23,7 +23,9 @@ is-no-size-requires c κs = tt
 
 returns-2 : tie.Need-returns-2
 unfolding refusal
-returns-2 c = rw (sym (c .before .before .before .is-over-limit .ensures) ∙ c .before .before .if1 .left, sym (c .before .is-no-size .ensures) ∙ c .if2 .taken)
+returns-2 c =
+    let m = c .before .before in
+    rw (sym (m .before .is-over-limit .ensures) ∙ m .if1 .left, sym (c .before .is-no-size .ensures) ∙ c .if2 .taken)
 
 -- Memory and size have passed.
 few : (c : tie.Else2) → over-limit (c .before .before .before .before .args .words) ≡ false

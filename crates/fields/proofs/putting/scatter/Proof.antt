@@ -141,7 +141,8 @@ add-cycles : tie.Need-add-cycles Inv-loop μ-loop
 add-cycles c =
     let n = c .before .before .before .before .before in
     let s = n .before .before .before .before .before .before in
-    rw (c .cost-of .ensures) (omega (arith, few-cycles _ _ _ _ (after n) (le-trans (this n .next .words) (no-fourth-word _ _ (s .pre .most)))))
+    let three = le-trans (this n .next .words) (no-fourth-word _ _ (s .pre .most)) in
+    rw (c .cost-of .ensures) (omega (arith, few-cycles _ _ _ _ (after n) three))
 
 place-after-requires : tie.Need-place-after-requires Inv-loop μ-loop
 place-after-requires c κs =

@@ -1,7 +1,6 @@
 -- `fields::taking_signed::signed_of` meets its contract: below half the field is its own reading, and from there on it lies as far
 -- below -1 as it lies below all bits set.
-use borrow.Author.Needs.{needs}
-use borrow.Author.Needs.{sfits-of}
+use borrow.Author.Needs.{needs, sfits-of}
 use mir.Facts.{toZ-pos, toZ-ofZ}
 use mir.Syntax.{w32}
 use mir.Val.{toZ}
@@ -38,7 +37,8 @@ returns c = toZ-pos w32 (low c) ∙ sym (reads-low _ _ (rw (c .before .pow2 .ens
 high : (c : tie.Else1) →
     let x = c .before .before .args .value in
     let h = c .before .pow2 .result in
-    (1 ≤ h) × (((h ≤ 2 ^ 31) × (x ≤ h - 1 + h))) × (h - 1 + h - x < 2 ^ 31) × (h - 1 + h - x ≡ 2 ^ (c .before .before .args .size) - suc x)
+    (1 ≤ h) × (((h ≤ 2 ^ 31) × (x ≤ h - 1 + h))) × (h - 1 + h - x < 2 ^ 31)
+    × (h - 1 + h - x ≡ 2 ^ (c .before .before .args .size) - suc x)
 high c =
     let n = c .before .before .args .size in
     omega (arith, twice n (omega arith), half n (omega arith), c .before .pow2 .ensures, pow-pos (n - 1), c .if1 .left)
