@@ -4,6 +4,7 @@ pub mod WordBits
 pub mod OneBit
 pub mod Readings
 pub mod Signs
+pub mod OneNumber
 -- ---- a field's words, and what they cost
 pub mod Counted
 pub mod Sums
@@ -18,6 +19,5 @@ pub mod RoundTrips
 pub mod AfterPut
 -- ---- the definitions word by word, as the code's loops go
 pub mod Steps
-pub mod OneNumber
 pub mod WordByWord
 pub mod Costs

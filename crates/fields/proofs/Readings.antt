@@ -1,6 +1,6 @@
 -- What the definitions of a field say, bit by bit: bit i of a field is memory bit address + i; putting in makes memory bit
 -- address + i the value's bit i, and changes no other bit. Each law goes by induction on the field's bits.
-use Prim.Native.Nat.{ℕ, zero, suc, _+_, _/_, _%_, _^_, _≤_, _<_}
+use Prim.Native.Nat.{ℕ, zero, suc, _+_, _*_, _/_, _%_, _^_, _≤_, _<_}
 use native.Mathlib.Nat.{add-comm, mod-one}
 use native.Mathlib.Numerals.{add-one}
 use native.Mathlib.Omega.{arith}
@@ -21,6 +21,23 @@ use Rattle.fields.proofs.OneBit.{top-is, rest-is, bit-made, bit-kept, b
 use Rattle.fields.proofs.WordBits.{one-bit-more}
 
 -- ---- one bit of memory
+
+module _ (m : List ℕ) (b : BitAddress) (w o : ℕ) (e : b .0 ≡ w * 16 + o) (l : o < 16) where
+  -- Memory bit 16 w + o is bit o of word w.
+  pub bit-in : memory-bit m b ≡ bit (getD m w 0) o
+  unfolding memory-bit
+  bit-in =
+      let q : b .0 / 16 ≡ w = omega arith in
+      let r : b .0 % 16 ≡ o = omega arith in
+      rw (q, r)
+
+  -- Making it v makes that bit of that word v.
+  pub set-bit-in : (v : Bool) → set-memory-bit m b v ≡ set m w (with-bit (getD m w 0) o v)
+  unfolding set-memory-bit
+  set-bit-in v =
+      let q : b .0 / 16 ≡ w = omega arith in
+      let r : b .0 % 16 ≡ o = omega arith in
+      rw (q, r)
 
 module _ (m : List ℕ) (b : BitAddress) where
   -- A bit of a word in memory is made what is asked.

@@ -5,36 +5,17 @@ use native.Mathlib.Nat.{add-zero, add-suc, add-mul, mod-one}
 use native.Mathlib.Numerals.{add-one}
 use native.Mathlib.Omega.{arith}
 use mathlib.Core.Path.{_≡_, ap, _∙_}
-use mathlib.Core.Bool.{Bool, cond}
+use mathlib.Core.Bool.{cond}
 use mathlib.Core.List.{List}
 use lib.ListN.{length, getD, set}
 use lib.Seq.{getD-set-same, set-set, set-getD}
 use Rattle.words.specs.Bytes.{bit}
 use Rattle.words.specs.declared.BitAddress.{BitAddress}
 use Rattle.words.proofs.Bits.{bit-of-quotient}
-use Rattle.fields.specs.Field.{ahead, memory-bit, with-bit, set-memory-bit, field-at, with-field}
+use Rattle.fields.specs.Field.{ahead, memory-bit, field-at, with-field}
 use Rattle.fields.specs.Parts.{with-bits}
-use Rattle.fields.proofs.Readings.{put-length}
+use Rattle.fields.proofs.Readings.{bit-in, set-bit-in, put-length}
 use Rattle.fields.proofs.WordBits.{weight-up, one-bit-more, no-bits, next-bit}
-
--- ---- a bit address by word and bit of the word
-
-module _ (m : List ℕ) (b : BitAddress) (w o : ℕ) (e : b .0 ≡ w * 16 + o) (l : o < 16) where
-  pub bit-in : memory-bit m b ≡ bit (getD m w 0) o
-  unfolding memory-bit
-  bit-in =
-      let q : b .0 / 16 ≡ w = omega arith in
-      let r : b .0 % 16 ≡ o = omega arith in
-      rw (q, r)
-
-  pub set-bit-in : (v : Bool) → set-memory-bit m b v ≡ set m w (with-bit (getD m w 0) o v)
-  unfolding set-memory-bit
-  set-bit-in v =
-      let q : b .0 / 16 ≡ w = omega arith in
-      let r : b .0 % 16 ≡ o = omega arith in
-      rw (q, r)
-
--- ---- the next n bits
 
 module _ (m : List ℕ) (a : BitAddress) (d w o : ℕ) (e : a .0 + d ≡ w * 16 + o) where
   pub take-part : (n : ℕ) → o + n ≤ 16 → field-at m a (d + n) ≡ field-at m a d + getD m w 0 / 2 ^ o % 2 ^ n * 2 ^ d
