@@ -1,0 +1,1 @@
+-- The laws of blocks, in reading order. Proofs of single functions are in the folders beside them.

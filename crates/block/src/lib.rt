@@ -1,0 +1,33 @@
+// Blocks: a count of two-lane reads of HSTDATA into a stretch of the caller's list, or of writes from one.
+// Document 01, "Blocks and the two doors".
+//
+// A block is its single accesses, one after another. Those that step from word to word inside memory are done by
+// copying; the others, where the pointer stays or leaves memory, go one by one.
+mod judging;
+mod reading;
+mod stretches;
+mod writing;
+
+use port::Registers;
+pub use reading::block_read;
+pub use writing::block_write;
+
+// What a block read leaves, besides the list. `hollows` counts the hollow words handed out.
+pub struct BlockRead {
+    pub number: u8,
+    pub hollows: u16,
+    pub registers: Registers,
+}
+
+// What a block write leaves, besides the memory. `empties` counts the stores that fell empty.
+pub struct BlockWrite {
+    pub number: u8,
+    pub empties: u16,
+    pub registers: Registers,
+}
+
+// What some accesses leave: the registers, and how many of their answers bear the mark that is counted.
+pub(crate) struct Run {
+    pub(crate) registers: Registers,
+    pub(crate) marked: u16,
+}

@@ -1,0 +1,137 @@
+// A block read.
+ghost use mathlib.Core.Path.{_≡_};
+ghost use mathlib.Core.Bool.{true};
+ghost use Prim.Native.Nat.{_+_, _<_, _≤_};
+ghost use lib.ListN.{length};
+ghost use Rattle.words.specs.Addresses.{word-at};
+ghost use Rattle.control.specs.Control.{incr};
+ghost use Rattle.port.specs.Cycle.{standing};
+ghost use Rattle.port.specs.Deeds.{ahead};
+ghost use Rattle.block.specs.Block.{machine, ReadBlock};
+ghost use Rattle.block.specs.Parts.{straight-reads, ReadInto};
+use control::steps_reading;
+use crate::BlockRead;
+use crate::Run;
+use crate::judging::block_number_of;
+use crate::stretches::copy_words;
+use crate::stretches::inside_from;
+use crate::stretches::one_if;
+use crate::stretches::step_by;
+use port::Registers;
+use port::settle_fetch;
+use port::step_if;
+use words::fetch_word;
+use words::word_of;
+
+// The registers after a two-lane read of HSTDATA: stepped where INCR is set, then the fetch.
+pub(crate) fn fetch_next(r: Registers, memory: &[u16]) -> Registers
+    ensures { λ q. ⌜ q ≡ standing (now (memory .entry)) (r .control) (ahead r) ⌝ }
+{
+    let q = step_if(steps_reading(r.control), r);
+    let a = q.pointer;
+    let c = settle_fetch(q, fetch_word(memory, word_of(a)));
+    let fetched = c.registers;
+    fetched
+}
+
+// Reads one by one: each hands out the word already held, and then fetches.
+pub(crate) fn read_singly(r: Registers, memory: &[u16], part: &mut [u16]) -> Run
+    requires { ⌜ (length (now memory) ≤ 32768) × (length (now part) ≤ 4096) ⌝ }
+    ensures { λ o. ⌜ ReadInto (machine r (now (memory .entry))) (length (now (part .entry))) o (now (part .exit)) ⌝ }
+{
+    let mut q = r;
+    let mut hollows: u16 = 0;
+    let mut i: usize = 0;
+    while i < part.len() {
+        part[i] = q.latch;
+        hollows += one_if(q.hollow);
+        q = fetch_next(q, memory);
+        i += 1;
+    }
+    Run {
+        registers: q,
+        marked: hollows,
+    }
+}
+
+// How many of `count` reads step from word to word and fetch inside memory.
+pub(crate) fn straight_reads(r: Registers, words: usize, count: usize) -> usize
+    ensures { λ n. ⌜ n ≡ straight-reads r words count ⌝ }
+{
+    if steps_reading(r.control) {
+        let a = r.pointer;
+        let here = word_of(a).0 as usize;
+        return inside_from(here + 1, words, count);
+    }
+    0
+}
+
+// Such reads, at once: the words are copied, and the first is the one already held.
+pub(crate) fn read_straight(r: Registers, memory: &[u16], part: &mut [u16]) -> Run
+    requires { ⌜ (length (now memory) ≤ 32768) × (length (now part) ≤ 4096) × (0 < length (now part)) × (incr (r .control) ≡ true) × (word-at (r .pointer) .0 + length (now part) < length (now memory)) ⌝ }
+    ensures { λ o. ⌜ ReadInto (machine r (now (memory .entry))) (length (now (part .entry))) o (now (part .exit)) ⌝ }
+{
+    let a = r.pointer;
+    let here = word_of(a).0 as usize;
+    let count = part.len();
+    let end = here + count;
+    copy_words(&memory[here..end], part);
+    part[0] = r.latch;
+    Run {
+        registers: Registers {
+            pointer: step_by(a, count),
+            latch: memory[end],
+            control: r.control,
+            hollow: false,
+        },
+        marked: one_if(r.hollow),
+    }
+}
+
+// A read for each place of the part: first those that go straight through memory, then the others one by one.
+pub(crate) fn read_words(r: Registers, memory: &[u16], part: &mut [u16]) -> Run
+    requires { ⌜ (length (now memory) ≤ 32768) × (length (now part) ≤ 4096) ⌝ }
+    ensures { λ o. ⌜ ReadInto (machine r (now (memory .entry))) (length (now (part .entry))) o (now (part .exit)) ⌝ }
+{
+    let n = straight_reads(r, memory.len(), part.len());
+    if n == 0 {
+        return read_singly(r, memory, part);
+    }
+    let start = 0;
+    let first = read_straight(r, memory, &mut part[start..n]);
+    let q = first.registers;
+    let rest = read_singly(q, memory, &mut part[n..]);
+    let last = rest.registers;
+    Run {
+        registers: last,
+        marked: first.marked + rest.marked,
+    }
+}
+
+// A block read of `count` words into the list, from the given place on.
+pub fn block_read(
+    r: Registers,
+    memory: &[u16],
+    list: &mut [u16],
+    place: usize,
+    count: usize,
+) -> BlockRead
+    ensures { λ o. ⌜ ReadBlock r (now (memory .entry)) (now (list .entry)) place count o (now (list .exit)) ⌝ }
+{
+    let number = block_number_of(memory.len(), list.len(), place, count);
+    if number != 0 {
+        return BlockRead {
+            number,
+            hollows: 0,
+            registers: r,
+        };
+    }
+    let end = place + count;
+    let run = read_words(r, memory, &mut list[place..end]);
+    let q = run.registers;
+    BlockRead {
+        number: 0,
+        hollows: run.marked,
+        registers: q,
+    }
+}

@@ -1,0 +1,49 @@
+// Accesses that step from word to word inside memory, taken together: how many there are, their words, their steps.
+ghost use mathlib.Core.Path.{_≡_};
+ghost use mathlib.Core.Bool.{cond};
+ghost use Prim.Native.Nat.{_-_, _≤_, min};
+ghost use lib.ListN.{length};
+ghost use Rattle.block.specs.Parts.{stepped-by};
+use std::num::wrapping_add_u32;
+use words::BitAddress;
+
+// How many of `count` words from word `first` on are in a memory of so many words.
+pub(crate) fn inside_from(first: usize, words: usize, count: usize) -> usize
+    ensures { λ r. ⌜ r ≡ min count (words - first) ⌝ }
+{
+    if words < first {
+        return 0;
+    }
+    let room = words - first;
+    if room < count {
+        return room;
+    }
+    count
+}
+
+// Copies words. A loop of its own, so that the compiler moves several words at a time.
+pub(crate) fn copy_words(from: &[u16], to: &mut [u16])
+    requires { ⌜ length (now to) ≡ length (now from) ⌝ }
+    ensures { λ _. ⌜ now (to .exit) ≡ now (from .entry) ⌝ }
+{
+    let mut i: usize = 0;
+    while i < from.len() {
+        to[i] = from[i];
+        i += 1;
+    }
+}
+
+// The pointer after `count` steps.
+pub(crate) fn step_by(a: BitAddress, count: usize) -> BitAddress
+    requires { ⌜ count ≤ 4096 ⌝ }
+    ensures { λ r. ⌜ r ≡ stepped-by count a ⌝ }
+{
+    BitAddress(wrapping_add_u32(a.0, 16 * (count as u32)))
+}
+
+// Counts a mark.
+pub(crate) fn one_if(mark: bool) -> u16
+    ensures { λ r. ⌜ r ≡ cond mark 1 0 ⌝ }
+{
+    if mark { 1 } else { 0 }
+}
