@@ -43,7 +43,7 @@ pub(crate) fn step_by(a: BitAddress, count: usize) -> BitAddress
 
 // Counts a mark.
 pub(crate) fn one_if(mark: bool) -> u16
-    ensures { λ r. ⌜ r ≡ cond mark 1 0 ⌝ }
+    ensures { λ r. ⌜ (r ≡ cond mark 1 0) × (r ≤ 1) ⌝ }
 {
     if mark { 1 } else { 0 }
 }

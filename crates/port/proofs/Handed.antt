@@ -63,7 +63,8 @@ module _ (s : Machine) (k : Memory (s .memory)) where
       (either-way (lbl (s .registers .control)))
 
   -- ---- reading
-  shows-word : (a : BitAddress) → shows (s .memory) a < 65536
+  -- What a fetch brings is a word.
+  pub shows-word : (a : BitAddress) → shows (s .memory) a < 65536
   unfolding fetch-at
   shows-word a = go (in-memory (s .memory) (word-at a))
     where
@@ -78,21 +79,24 @@ module _ (s : Machine) (k : Memory (s .memory)) where
     unfolding access refusal are-lanes done begin-access register-word read-due carried stepped after-fetch fetch-at hand standing
     one-read a = rw (not-over, both-close (s .registers .control), i, shown-whole _ (shows-word a))
 
-    -- A read hands out the word that the registers stand at, and leaves them standing one word on.
+    -- A read hands out the word that the registers stand at.
     pub read-answer : (a : BitAddress) → answer-of (stands s a) (Read 2 3) ≡ hand (s .memory) a
     unfolding answer-of
     read-answer a = ap (λ (o : Outcome). o .answer) (one-read a)
 
-    read-after : (a : BitAddress) → after (stands s a) (Read 2 3) ≡ stands s (step a)
+    -- And leaves them standing one word on.
+    pub read-after : (a : BitAddress) → after (stands s a) (Read 2 3) ≡ stands s (step a)
     unfolding after access-memory refusal are-lanes begin-access read-due memory-after standing
     read-after a = rw (one-read a, not-over, both-close (s .registers .control))
 
-    reads-answer : (n : ℕ) (a : BitAddress) → answers (stands s a) (reading n) ≡ handed (s .memory) a n
+    -- n reads hand out n words, one after the other.
+    pub reads-answer : (n : ℕ) (a : BitAddress) → answers (stands s a) (reading n) ≡ handed (s .memory) a n
     unfolding answers reading handed
     reads-answer zero a = refl
     reads-answer (suc n) a = rw (read-answer a, read-after a, reads-answer n (step a))
 
-    reads-end : (n : ℕ) (a : BitAddress) → ends (stands s a) (reading n) ≡ stands s (on-by n a)
+    -- And leave the registers standing n words on.
+    pub reads-end : (n : ℕ) (a : BitAddress) → ends (stands s a) (reading n) ≡ stands s (on-by n a)
     unfolding ends reading on-by
     reads-end zero a = refl
     reads-end (suc n) a = ap (λ (t : Machine). ends t (reading n)) (read-after a) ∙ reads-end n (step a)

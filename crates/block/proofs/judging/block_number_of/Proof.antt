@@ -1,33 +1,48 @@
-use borrow.Author.Needs.{needs}
+-- `block::judging::block_number_of` meets its contract: each test in its order; where the count fits the list, the last test is
+-- that place plus count does.
+use mathlib.Core.Path.{_≡_, sym, _∙_}
+use mathlib.Core.Bool.{true, false}
+use native.Mathlib.Omega.{arith}
+use Prim.Native.Nat.{_+_}
+use lib.Dec.{ltb}
+use borrow.Author.Tests.{lt-ltb, le-ltb}
+use Rattle.block.specs.Block.{block-refusal}
 use Rattle.block.proofs.judging.block_number_of.Statement.{statement}
 use Rattle.block.proofs.judging.block_number_of.Tie as tie
-use Rattle.block.proofs.judging.block_number_of.Reads as reads
-use Rattle.block.proofs.judging.block_number_of.Lts as lts
-use Rattle.words.proofs.is_over_limit.Reads as is-over-limit-reads
 
--- src/judging.rt:10:8
 is-over-limit-requires : tie.Need-is-over-limit-requires
-is-over-limit-requires c κs = search needs
+is-over-limit-requires c κs = tt
 
--- src/judging.rt:11:9
 returns : tie.Need-returns
-returns c = ?
+unfolding block-refusal
+returns c =
+    rw (sym (c .before .is-over-limit .ensures) ∙ c .if1 .taken)
 
--- src/judging.rt:14:9
 returns-2 : tie.Need-returns-2
-returns-2 c = ?
+unfolding block-refusal
+returns-2 c =
+    rw (sym (c .before .before .is-over-limit .ensures) ∙ c .before .if1 .left, lt-ltb _ _ (c .if2 .taken))
 
--- src/judging.rt:17:9
 returns-3 : tie.Need-returns-3
-returns-3 c = ?
+unfolding block-refusal
+returns-3 c =
+    let a = c .before .before .before .before .args in
+    let past : ltb (a .room) (a .place + a .count) ≡ true = lt-ltb (a .room) (a .place + a .count) (omega arith) in
+    rw (sym (c .before .before .before .is-over-limit .ensures) ∙ c .before .before .if1 .left, le-ltb _ _ (c .before .if2 .left), past)
 
--- src/judging.rt:20:9
 returns-4 : tie.Need-returns-4
-returns-4 c = ?
+unfolding block-refusal
+returns-4 c =
+    let a = c .before .before .before .before .before .args in
+    let past : ltb (a .room) (a .place + a .count) ≡ true = lt-ltb (a .room) (a .place + a .count) (omega arith) in
+    rw (sym (c .before .before .before .before .is-over-limit .ensures) ∙ c .before .before .before .if1 .left, le-ltb _ _ (c .before .before .if2 .left), past)
 
--- src/judging.rt:7:1
 returns-5 : tie.Need-returns-5
-returns-5 c = ?
+unfolding block-refusal
+returns-5 c =
+    let a = c .before .before .before .before .before .args in
+    let fits : ltb (a .room) (a .place + a .count) ≡ false = le-ltb (a .room) (a .place + a .count) (omega arith) in
+    rw (sym (c .before .before .before .before .is-over-limit .ensures) ∙ c .before .before .before .if1 .left, le-ltb _ _ (c .before .before .if2 .left), fits)
 
 pub block-number-of-spec : {M : Type 1} → statement M
 block-number-of-spec =

@@ -1,37 +1,28 @@
-use borrow.Author.Needs.{needs}
+-- `block::reading::fetch_next` meets its contract: a fetch leaves the registers standing where it fetched.
+use Rattle.words.specs.Memory.{fetch-at}
+use Rattle.port.specs.Cycle.{stepped, after-fetch, standing}
 use Rattle.block.proofs.reading.fetch_next.Statement.{statement}
 use Rattle.block.proofs.reading.fetch_next.Tie as tie
-use Rattle.block.proofs.reading.fetch_next.Reads as reads
-use Rattle.block.proofs.reading.fetch_next.Lts as lts
-use Rattle.control.proofs.steps_reading.Reads as steps-reading-reads
-use Rattle.port.proofs.settle_fetch.Reads as settle-fetch-reads
-use Rattle.port.proofs.step_if.Reads as step-if-reads
-use Rattle.words.proofs.fetch_word.Reads as fetch-word-reads
-use Rattle.words.proofs.word_of.Reads as word-of-reads
 
--- src/reading.rt:30:21
 steps-reading-requires : tie.Need-steps-reading-requires
-steps-reading-requires c κs = search needs
+steps-reading-requires c κs = tt
 
--- src/reading.rt:30:9
 step-if-requires : tie.Need-step-if-requires
-step-if-requires c κs = search needs
+step-if-requires c κs = tt
 
--- src/reading.rt:32:48
 word-of-requires : tie.Need-word-of-requires
-word-of-requires c κs = search needs
+word-of-requires c κs = tt
 
--- src/reading.rt:32:29
 fetch-word-requires : tie.Need-fetch-word-requires
-fetch-word-requires c κs = search needs
+fetch-word-requires c κs = tt
 
--- src/reading.rt:32:9
 settle-fetch-requires : tie.Need-settle-fetch-requires
-settle-fetch-requires c κs = search needs
+settle-fetch-requires c κs = tt
 
--- src/reading.rt:27:1
 returns : tie.Need-returns
-returns c = ?
+unfolding stepped after-fetch fetch-at standing
+returns c =
+    rw (c .before .settle-fetch .ensures, c .before .before .fetch-word .ensures, c .before .before .before .word-of .ensures, c .before .before .before .before .before .step-if .ensures, c .before .before .before .before .before .before .steps-reading .ensures)
 
 pub fetch-next-spec : {M : Type 1} → statement M
 fetch-next-spec =

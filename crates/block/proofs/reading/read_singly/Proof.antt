@@ -1,59 +1,115 @@
+-- `block::reading::read_singly` meets its contract: after i turns registers, count and the first i places are those of i reads.
+use Prim.Native.Nat.{ℕ, _+_, _-_, _≤_, _<_}
+use native.Mathlib.Numerals.{add-one}
+use native.Mathlib.Omega.{arith}
+use mathlib.Core.Path.{_≡_, refl, _∙_}
+use mathlib.Core.Bool.{cond}
+use mathlib.Core.List.{List, [], _∷_, _++_}
+use lib.ListN.{length, take, set, getD, length-set}
+use lib.Seq.{take-length, take-suc-set}
+use borrow.Author.Needs.{needs}
+use Rattle.port.specs.Cycle.{standing}
+use Rattle.port.specs.Deeds.{ahead}
+use Rattle.port.specs.Runs.{answers, ends}
+use Rattle.port.specs.Table.{Memory, reading}
+use Rattle.port.specs.declared.Registers.{Registers}
+use Rattle.port.proofs.Handed.{shows-word}
+use Rattle.block.specs.Block.{machine, tally}
+use Rattle.block.specs.Parts.{ReadInto}
+use Rattle.block.proofs.Joining.{join-reads, few-hollows}
+use Rattle.block.proofs.OneAccess.{one-read}
 use Rattle.block.proofs.reading.read_singly.Statement.{statement}
 use Rattle.block.proofs.reading.read_singly.Tie as tie
-use Rattle.block.proofs.reading.read_singly.Reads as reads
-use Rattle.block.proofs.reading.read_singly.Lts as lts
-use Rattle.block.proofs.reading.fetch_next.Reads as fetch-next-reads
-use Rattle.block.proofs.stretches.one_if.Reads as one-if-reads
+
+record Reading (r : Registers) (m part₀ part : List ℕ) (q : Registers) (hollows i : ℕ) : Type 0 where
+  most : i ≤ length part₀
+  room : length part ≡ length part₀
+  fits : q .latch < 65536
+  read : ReadInto (machine r m) i (record { registers = q; marked = hollows }) (take i part)
+
+begun : (r : Registers) (m part : List ℕ) → r .latch < 65536 → Reading r m part part r 0 0
+unfolding reading answers ends tally
+begun r m part h =
+    record { most = omega arith; room = refl; fits = h; read = record { registers = refl; marked = refl; words = refl } }
+
+module _ {r : Registers} {m part₀ part : List ℕ} {q : Registers} {h i : ℕ} (k : Reading r m part₀ part q h i) where
+  -- one read more
+  turned : Memory m → i < length part₀ →
+      Reading r m part₀ (set part i (q .latch)) (standing m (q .control) (ahead q)) (h + cond (q .hollow) 1 0) (i + 1)
+  unfolding standing
+  turned words more =
+      let there : i < length part = omega (arith, k .room) in
+      let places : take (i + 1) (set part i (q .latch)) ≡ take i part ++ (q .latch ∷ []) =
+      rw add-one (take-suc-set part i (q .latch) there) in
+      record {
+        most = omega arith;
+        room = length-set part i (q .latch) ∙ k .room;
+        fits = shows-word (machine q m) words (ahead q);
+        read = rw places (join-reads r m i 1 _ _ _ _ (k .read) (one-read q m (words .size) (k .fits)));
+      }
+
+  -- so few that they can be counted
+  countable : length part₀ ≤ 4096 → h ≤ 4096
+  countable few = omega (arith, k .most, k .read .marked, few-hollows (machine r m) i)
+
+  -- all of them
+  ended : length part₀ ≤ i → ReadInto (machine r m) (length part₀) (record { registers = q; marked = h }) part
+  ended all =
+      let e : i ≡ length part = omega (arith, k .most, k .room) in
+      let places : take i part ≡ part = rw e (take-length part) in
+      rw (k .room) at (rw (places, e) at (k .read))
 
 abbrev Inv-loop : tie.InvT-loop
-Inv-loop memory part₀ q₀ hollows₀ i₀ part q hollows i = ?
+Inv-loop memory part₀ q₀ hollows₀ i₀ part q hollows i =
+    Reading q₀ memory part₀ part q hollows i
 
 abbrev μ-loop : tie.MeasureT-loop
-μ-loop memory part₀ q₀ hollows₀ i₀ part q hollows i = ?
+μ-loop memory part₀ q₀ hollows₀ i₀ part q hollows i =
+    length part₀ - i
 
--- src/reading.rt:45:5
 loop-holds : tie.Need-loop-holds Inv-loop μ-loop
-loop-holds c = ?
+loop-holds c =
+    begun _ _ _ (omega arith)
 
--- src/reading.rt:46:9
 mul-part : tie.Need-mul-part Inv-loop μ-loop
-mul-part c = ?
+mul-part c =
+    search needs
 
--- src/reading.rt:46:9
 slice-write-part : tie.Need-slice-write-part Inv-loop μ-loop
-slice-write-part c = ?
+slice-write-part c =
+    search needs
 
--- src/reading.rt:47:20
 one-if-requires : tie.Need-one-if-requires Inv-loop μ-loop
-one-if-requires c κs = ?
+one-if-requires c κs = tt
 
--- src/reading.rt:47:9
 add-hollows : tie.Need-add-hollows Inv-loop μ-loop
-add-hollows c = ?
+add-hollows c =
+    let few : c .before .before .loop .hollows ≤ 4096 = countable (c .before .before .loop .inv) (c .before .before .before .before .before .pre .1) in
+    omega (arith, few, c .one-if .ensures .1)
 
--- src/reading.rt:48:9
 fetch-next-requires : tie.Need-fetch-next-requires Inv-loop μ-loop
-fetch-next-requires c κs = ?
+fetch-next-requires c κs = tt
 
--- src/reading.rt:49:9
 add-i : tie.Need-add-i Inv-loop μ-loop
-add-i c = ?
+add-i c =
+    omega arith
 
--- src/reading.rt:45:5
 loop-less : tie.Need-loop-less Inv-loop μ-loop
-loop-less c = ?
+loop-less c =
+    omega arith
 
--- src/reading.rt:45:5
 loop-again : tie.Need-loop-again Inv-loop μ-loop
-loop-again c = ?
+loop-again c =
+    let words : Memory (c .before .before .before .before .before .before .args .memory .now) = record { size = c .before .before .before .before .before .before .pre .0; words = λ i. omega (arith, c .before .before .before .before .before .shared-slice-known .given i) } in
+    rw (c .fetch-next .ensures, c .before .one-if .ensures .0) (turned (c .before .before .before .loop .inv) words (omega arith))
 
--- src/reading.rt:38:1
 same-length : tie.Need-same-length Inv-loop μ-loop
-same-length c = ?
+same-length c =
+    c .before .loop .inv .room
 
--- src/reading.rt:38:1
 returns : tie.Need-returns Inv-loop μ-loop
-returns c = ?
+returns c =
+    ended (c .before .loop .inv) (omega arith)
 
 pub read-singly-spec : {M : Type 1} → statement M
 read-singly-spec =

@@ -1,39 +1,34 @@
+-- `block::reading::straight_reads` meets its contract, with the step that the control word says and without.
 use borrow.Author.Needs.{needs}
+use mathlib.Core.Path.{sym, _∙_}
+use Rattle.block.specs.Parts.{straight-reads}
 use Rattle.block.proofs.reading.straight_reads.Statement.{statement}
 use Rattle.block.proofs.reading.straight_reads.Tie as tie
-use Rattle.block.proofs.reading.straight_reads.Reads as reads
-use Rattle.block.proofs.reading.straight_reads.Lts as lts
-use Rattle.block.proofs.stretches.inside_from.Reads as inside-from-reads
-use Rattle.control.proofs.steps_reading.Reads as steps-reading-reads
-use Rattle.words.proofs.word_of.Reads as word-of-reads
 
--- src/reading.rt:61:8
 steps-reading-requires : tie.Need-steps-reading-requires
-steps-reading-requires c κs = search needs
+steps-reading-requires c κs = tt
 
--- src/reading.rt:63:20
 word-of-requires : tie.Need-word-of-requires
-word-of-requires c κs = search needs
+word-of-requires c κs = tt
 
--- src/reading.rt:63:20
 cast-here : tie.Need-cast-here
 cast-here c = search needs
 
--- src/reading.rt:64:28
 add-inside-from : tie.Need-add-inside-from
 add-inside-from c = search needs
 
--- src/reading.rt:64:9
 inside-from-requires : tie.Need-inside-from-requires
-inside-from-requires c κs = search needs
+inside-from-requires c κs = tt
 
--- src/reading.rt:64:9
 returns : tie.Need-returns
-returns c = ?
+unfolding straight-reads
+returns c =
+    rw (c .inside-from .ensures, sym (c .before .before .before .before .before .steps-reading .ensures) ∙ c .before .before .before .before .if1 .taken, c .before .before .word-of .ensures)
 
--- src/reading.rt:58:1
 returns-2 : tie.Need-returns-2
-returns-2 c = ?
+unfolding straight-reads
+returns-2 c =
+    rw (sym (c .before .steps-reading .ensures) ∙ c .if1 .left)
 
 pub straight-reads-spec : {M : Type 1} → statement M
 straight-reads-spec =

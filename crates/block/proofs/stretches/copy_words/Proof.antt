@@ -1,53 +1,85 @@
+-- `block::stretches::copy_words` meets its contract: after i turns the first i words are those to be copied.
+use Prim.Native.Nat.{ℕ, _-_, _≤_, _+_, _<_}
+use native.Mathlib.Numerals.{add-one}
+use native.Mathlib.Omega.{arith}
+use mathlib.Core.Path.{_≡_, refl, sym, ap, _∙_}
+use mathlib.Core.List.{List, [], _∷_, _++_}
+use lib.ListN.{length, take, set, getD, length-set}
+use lib.Seq.{take-length, take-suc, take-suc-set}
+use borrow.Author.Needs.{needs}
 use Rattle.block.proofs.stretches.copy_words.Statement.{statement}
 use Rattle.block.proofs.stretches.copy_words.Tie as tie
-use Rattle.block.proofs.stretches.copy_words.Reads as reads
-use Rattle.block.proofs.stretches.copy_words.Lts as lts
+
+record Copied (from to₀ to : List ℕ) (i : ℕ) : Type 0 where
+  most : i ≤ length from
+  words : take i to ≡ take i from
+  room : length to ≡ length to₀
+
+-- one word more
+next : (from to : List ℕ) (i : ℕ) → i < length from → i < length to → take i to ≡ take i from →
+    take (i + 1) (set to i (getD from i 0)) ≡ take (i + 1) from
+next from to i h k e =
+    rw add-one (take-suc-set to i (getD from i 0) k ∙ ap (λ (l : List ℕ). l ++ (getD from i 0 ∷ [])) e ∙ sym (take-suc from i 0 h))
+
+-- all of them
+all : (from to : List ℕ) (i : ℕ) → i ≡ length from → length to ≡ length from → take i to ≡ take i from → to ≡ from
+all from to i e l w =
+    sym (take-length to) ∙ ap (λ (n : ℕ). take n to) (l ∙ sym e) ∙ w ∙ ap (λ (n : ℕ). take n from) e ∙ take-length from
 
 abbrev Inv-loop : tie.InvT-loop
-Inv-loop from to₀ i₀ to i = ?
+Inv-loop from to₀ i₀ to i =
+    Copied from to₀ to i
 
 abbrev μ-loop : tie.MeasureT-loop
-μ-loop from to₀ i₀ to i = ?
+μ-loop from to₀ i₀ to i =
+    length from - i
 
--- src/stretches.rt:30:5
 loop-holds : tie.Need-loop-holds Inv-loop μ-loop
-loop-holds c = ?
+loop-holds c =
+    record { most = omega arith; words = refl; room = refl }
 
--- src/stretches.rt:31:17
 mul-to : tie.Need-mul-to Inv-loop μ-loop
-mul-to c = ?
+mul-to c =
+    search needs
 
--- src/stretches.rt:31:17
 shared-slice-read-to : tie.Need-shared-slice-read-to Inv-loop μ-loop
-shared-slice-read-to c = ?
+shared-slice-read-to c =
+    search needs
 
--- src/stretches.rt:31:9
 mul-to-2 : tie.Need-mul-to-2 Inv-loop μ-loop
-mul-to-2 c = ?
+mul-to-2 c =
+    search needs
 
--- src/stretches.rt:31:9
 slice-write-to : tie.Need-slice-write-to Inv-loop μ-loop
-slice-write-to c = ?
+slice-write-to c =
+    omega arith
 
--- src/stretches.rt:32:9
 add-i : tie.Need-add-i Inv-loop μ-loop
-add-i c = ?
+add-i c =
+    search needs
 
--- src/stretches.rt:30:5
 loop-less : tie.Need-loop-less Inv-loop μ-loop
-loop-less c = ?
+loop-less c =
+    omega arith
 
--- src/stretches.rt:30:5
 loop-again : tie.Need-loop-again Inv-loop μ-loop
-loop-again c = ?
+loop-again c =
+    let k = c .before .before .loop .inv in
+    record {
+      most = omega arith;
+      words = next _ _ _ (c .before .loop-test .taken) (omega arith) (k .words);
+      room = simp length-set (k .room);
+    }
 
--- src/stretches.rt:25:1
 same-length : tie.Need-same-length Inv-loop μ-loop
-same-length c = ?
+same-length c =
+    search needs
 
--- src/stretches.rt:25:1
 returns : tie.Need-returns Inv-loop μ-loop
-returns c = ?
+returns c =
+    let l = c .before .loop in
+    let a = c .before .before .args in
+    all (a .from .now) (l .to) (l .i) (omega arith) (omega arith) (l .inv .words)
 
 pub copy-words-spec : {M : Type 1} → statement M
 copy-words-spec =

@@ -1,35 +1,31 @@
+-- `block::writing::straight_writes` meets its contract, with the step that the control word says and without.
 use borrow.Author.Needs.{needs}
+use mathlib.Core.Path.{sym, _∙_}
+use Rattle.block.specs.Parts.{straight-writes}
 use Rattle.block.proofs.writing.straight_writes.Statement.{statement}
 use Rattle.block.proofs.writing.straight_writes.Tie as tie
-use Rattle.block.proofs.writing.straight_writes.Reads as reads
-use Rattle.block.proofs.writing.straight_writes.Lts as lts
-use Rattle.block.proofs.stretches.inside_from.Reads as inside-from-reads
-use Rattle.control.proofs.steps_writing.Reads as steps-writing-reads
-use Rattle.words.proofs.word_of.Reads as word-of-reads
 
--- src/writing.rt:65:8
 steps-writing-requires : tie.Need-steps-writing-requires
-steps-writing-requires c κs = search needs
+steps-writing-requires c κs = tt
 
--- src/writing.rt:67:20
 word-of-requires : tie.Need-word-of-requires
-word-of-requires c κs = search needs
+word-of-requires c κs = tt
 
--- src/writing.rt:67:20
 cast-here : tie.Need-cast-here
 cast-here c = search needs
 
--- src/writing.rt:68:9
 inside-from-requires : tie.Need-inside-from-requires
-inside-from-requires c κs = search needs
+inside-from-requires c κs = tt
 
--- src/writing.rt:68:9
 returns : tie.Need-returns
-returns c = ?
+unfolding straight-writes
+returns c =
+    rw (c .inside-from .ensures, sym (c .before .before .before .before .before .steps-writing .ensures) ∙ c .before .before .before .before .if1 .taken, c .before .before .word-of .ensures)
 
--- src/writing.rt:62:1
 returns-2 : tie.Need-returns-2
-returns-2 c = ?
+unfolding straight-writes
+returns-2 c =
+    rw (sym (c .before .steps-writing .ensures) ∙ c .if1 .left)
 
 pub straight-writes-spec : {M : Type 1} → statement M
 straight-writes-spec =

@@ -1,69 +1,128 @@
+-- `block::writing::write_singly` meets its contract: after i turns registers, count and memory are those of the first i words'
+-- writes.
+use Prim.Native.Nat.{ℕ, _+_, _-_, _≤_, _<_}
+use native.Mathlib.Numerals.{add-one}
+use native.Mathlib.Omega.{arith}
+use mathlib.Core.Path.{_≡_, refl, _∙_}
+use mathlib.Core.Bool.{Bool, false, cond, not}
+use mathlib.Core.List.{List, [], _∷_, _++_}
+use lib.ListN.{length, take, getD}
+use lib.Seq.{length-take-le, take-all, take-suc}
+use borrow.Author.Needs.{needs}
+use Rattle.words.specs.Addresses.{word-at}
+use Rattle.words.specs.Memory.{in-memory, store-at}
+use Rattle.words.proofs.MemoryWords.{stored-length}
+use Rattle.control.specs.Control.{incw}
+use Rattle.port.specs.Registers.{with-latch}
+use Rattle.port.specs.Cycle.{stepped}
+use Rattle.port.specs.Runs.{answers, ends}
+use Rattle.port.specs.declared.Registers.{Registers}
+use Rattle.block.specs.Block.{machine, tally}
+use Rattle.block.specs.Parts.{WrittenFrom}
+use Rattle.block.proofs.Joining.{join-writes, few-empties}
+use Rattle.block.proofs.OneAccess.{one-write}
 use Rattle.block.proofs.writing.write_singly.Statement.{statement}
 use Rattle.block.proofs.writing.write_singly.Tie as tie
-use Rattle.block.proofs.writing.write_singly.Reads as reads
-use Rattle.block.proofs.writing.write_singly.Lts as lts
-use Rattle.block.proofs.stretches.one_if.Reads as one-if-reads
-use Rattle.block.proofs.writing.hold_word.Reads as hold-word-reads
-use Rattle.words.proofs.store_word.Reads as store-word-reads
-use Rattle.words.proofs.word_of.Reads as word-of-reads
+
+record Writing (r : Registers) (m₀ part m : List ℕ) (q : Registers) (empties i : ℕ) : Type 0 where
+  most : i ≤ length part
+  size : length m ≡ length m₀
+  written : WrittenFrom (machine r m₀) (take i part) (record { registers = q; marked = empties }) m
+
+begun : (r : Registers) (m part : List ℕ) → Writing r m part m r 0 0
+unfolding answers ends tally
+begun r m part = record { most = omega arith; size = refl; written = record { registers = refl; marked = refl; memory = refl } }
+
+-- the word that is written in turn i
+abbrev word : List ℕ → ℕ → ℕ
+word part i = getD part i 0
+
+module _ {r : Registers} {m₀ part m : List ℕ} {q : Registers} {e i : ℕ} (k : Writing r m₀ part m q e i) where
+  abbrev inside : Bool
+  inside = in-memory m (word-at (q .pointer))
+
+  -- one write more
+  turned : length m₀ ≤ 32768 → i < length part → word part i < 65536 →
+      Writing r m₀ part (store-at m (word-at (q .pointer)) (word part i)) (stepped (incw (q .control)) (with-latch q (word part i) false))
+      (e + cond (not inside) 1 0) (i + 1)
+  turned few more fits =
+      let small : length m ≤ 32768 = omega (arith, k .size) in
+      let words : take (i + 1) part ≡ take i part ++ (word part i ∷ []) = rw add-one (take-suc part i 0 more) in
+      record {
+        most = omega arith;
+        size = stored-length m (word-at (q .pointer)) (word part i) ∙ k .size;
+        written = rw words (join-writes (machine r m₀) m _ _ _ _ _ (k .written) (one-write q m small (word part i) fits));
+      }
+
+  -- so few that they can be counted
+  countable : length part ≤ 4096 → e ≤ 4096
+  countable few = omega (arith, k .most, k .written .marked, length-take-le i part (k .most), few-empties (machine r m₀) (take i part))
+
+  -- all of them
+  ended : length part ≤ i → WrittenFrom (machine r m₀) part (record { registers = q; marked = e }) m
+  ended all =
+      let words : take i part ≡ part = take-all i part all in
+      rw words at (k .written)
 
 abbrev Inv-loop : tie.InvT-loop
-Inv-loop memory₀ part q₀ empties₀ i₀ memory q empties i = ?
+Inv-loop memory₀ part q₀ empties₀ i₀ memory q empties i =
+    Writing q₀ memory₀ part memory q empties i
 
 abbrev μ-loop : tie.MeasureT-loop
-μ-loop memory₀ part q₀ empties₀ i₀ memory q empties i = ?
+μ-loop memory₀ part q₀ empties₀ i₀ memory q empties i =
+    length part - i
 
--- src/writing.rt:47:5
 loop-holds : tie.Need-loop-holds Inv-loop μ-loop
-loop-holds c = ?
+loop-holds c =
+    begun _ _ _
 
--- src/writing.rt:48:20
 mul-word : tie.Need-mul-word Inv-loop μ-loop
-mul-word c = ?
+mul-word c =
+    search needs
 
--- src/writing.rt:48:20
 shared-slice-read-word : tie.Need-shared-slice-read-word Inv-loop μ-loop
-shared-slice-read-word c = ?
+shared-slice-read-word c =
+    search needs
 
--- src/writing.rt:50:41
 word-of-requires : tie.Need-word-of-requires Inv-loop μ-loop
-word-of-requires c κs = ?
+word-of-requires c κs = tt
 
--- src/writing.rt:50:13
 store-word-requires : tie.Need-store-word-requires Inv-loop μ-loop
-store-word-requires c κs = ?
+store-word-requires c κs = tt
 
--- src/writing.rt:51:20
 one-if-requires : tie.Need-one-if-requires Inv-loop μ-loop
-one-if-requires c κs = ?
+one-if-requires c κs = tt
 
--- src/writing.rt:51:9
 add-empties : tie.Need-add-empties Inv-loop μ-loop
-add-empties c = ?
+add-empties c =
+    let few = countable (c .before .before .before .before .before .before .before .before .before .loop .inv) (c .before .before .before .before .before .before .before .before .before .before .before .before .pre .1) in
+    omega (arith, few, c .one-if .ensures .1)
 
--- src/writing.rt:52:9
 hold-word-requires : tie.Need-hold-word-requires Inv-loop μ-loop
-hold-word-requires c κs = ?
+hold-word-requires c κs = tt
 
--- src/writing.rt:53:9
 add-i : tie.Need-add-i Inv-loop μ-loop
-add-i c = ?
+add-i c =
+    omega arith
 
--- src/writing.rt:47:5
 loop-less : tie.Need-loop-less Inv-loop μ-loop
-loop-less c = ?
+loop-less c =
+    omega arith
 
--- src/writing.rt:47:5
 loop-again : tie.Need-loop-again Inv-loop μ-loop
-loop-again c = ?
+loop-again c =
+    let stored = c .before .before .before .before .store-word .ensures in
+    let fits = c .before .before .before .before .before .before .before .before .before .before .before .shared-slice-known .given (c .before .before .before .before .before .before .before .before .before .before .loop .i) in
+    rw (c .hold-word .ensures, c .before .one-if .ensures .0, stored .fell, stored .memory, c .before .before .before .before .before .word-of .ensures)
+    (turned (c .before .before .before .before .before .before .before .before .before .before .loop .inv) (c .before .before .before .before .before .before .before .before .before .before .before .before .before .pre .0) (c .before .before .before .before .before .before .before .before .before .loop-test .taken) (omega (arith, fits)))
 
--- src/writing.rt:40:1
 same-length : tie.Need-same-length Inv-loop μ-loop
-same-length c = ?
+same-length c =
+    c .before .loop .inv .size
 
--- src/writing.rt:40:1
 returns : tie.Need-returns Inv-loop μ-loop
-returns c = ?
+returns c =
+    ended (c .before .loop .inv) (omega arith)
 
 pub write-singly-spec : {M : Type 1} → statement M
 write-singly-spec =

@@ -1,0 +1,130 @@
+-- Accesses that step from word to word inside memory, all at once: what reads hand out and leave, and what writes store and
+-- leave. Reads by what crate port says of registers that stand at an address (`Handed`); writes one after the other.
+use Prim.Native.Nat.{ℕ, zero, suc, _+_, _*_, _%_, _^_, _≤_, _<_}
+use native.Mathlib.Nat.{add-zero, suc-add, zero-add}
+use native.Mathlib.Omega.{arith}
+use mathlib.Core.Path.{_≡_, refl, sym, ap, _∙_, subst}
+use mathlib.Core.Bool.{Bool, true, false, cond, not}
+use mathlib.Core.List.{List, [], _∷_, _++_, map}
+use lib.ListN.{length, getD, set, take, drop, replicate, length-set}
+use lib.Seq.{sets}
+use borrow.Author.Tests.{lt-ltb}
+use Rattle.words.specs.Addresses.{word-at, step}
+use Rattle.words.specs.Memory.{in-memory, fetch-at, store-at}
+use Rattle.words.specs.declared.BitAddress.{BitAddress}
+use Rattle.words.proofs.Addresses.{step-next, step-fits}
+use Rattle.control.specs.Control.{incr, incw}
+use Rattle.port.specs.Registers.{with-latch}
+use Rattle.port.specs.Cycle.{standing, stepped}
+use Rattle.port.specs.Deeds.{ahead}
+use Rattle.port.specs.Runs.{Machine, answers, ends}
+use Rattle.port.specs.Table.{Memory, stands, reading, handed, on-by, table, Lies, Given, given, held, filler}
+use Rattle.port.specs.declared.Registers.{Registers}
+use Rattle.port.specs.declared.Answer.{Answer}
+use Rattle.port.proofs.Handed.{on-by-gains, reads-answer, reads-end}
+use Rattle.port.proofs.TableWords.{table-handed}
+use Rattle.block.specs.Block.{machine, tally, words-in, hollows-in}
+use Rattle.block.specs.Parts.{stepped-by, ReadInto, WrittenFrom}
+use Rattle.block.specs.declared.Run.{Run}
+use Rattle.block.proofs.Joining.{join-reads, join-writes}
+use Rattle.block.proofs.OneAccess.{one-read, one-write}
+
+-- ---- what answers hand out, by what is given
+words-given : (xs : List Answer) → words-in xs ≡ map (λ (g : Given). g .word) (map given xs)
+words-given [] = refl
+words-given (x ∷ xs) = ap (λ (l : List ℕ). x .word ∷ l) (words-given xs)
+
+hollows-of : List Given → ℕ
+hollows-of [] = 0
+hollows-of (g ∷ gs) = cond (g .hollow) 1 0 + hollows-of gs
+
+hollows-given : (xs : List Answer) → hollows-in xs ≡ hollows-of (map given xs)
+unfolding tally hollows-of
+hollows-given [] = refl
+hollows-given (x ∷ xs) = ap (λ (n : ℕ). cond (x .hollow) 1 0 + n) (hollows-given xs)
+
+words-held : (ws : List ℕ) → map (λ (g : Given). g .word) (map held ws) ≡ ws
+words-held [] = refl
+words-held (w ∷ ws) = ap (λ (l : List ℕ). w ∷ l) (words-held ws)
+
+none-hollow : (ws : List ℕ) → hollows-of (map held ws) ≡ 0
+unfolding hollows-of
+none-hollow [] = refl
+none-hollow (w ∷ ws) = ap (λ (n : ℕ). 0 + n) (none-hollow ws)
+
+-- Answers that give words as held hand out just these, and none is hollow.
+pub all-held : (xs : List Answer) (ws : List ℕ) → map given xs ≡ map held ws → (words-in xs ≡ ws) × (hollows-in xs ≡ 0)
+all-held xs ws e =
+    (words-given xs ∙ ap (map (λ (g : Given). g .word)) e ∙ words-held ws, hollows-given xs ∙ ap hollows-of e ∙ none-hollow ws)
+
+-- ---- reads
+module _ (r : Registers) (m : List ℕ) (k : Memory m) (i : incr (r .control) ≡ true) where
+  abbrev s : Machine
+  s = machine r m
+
+  -- the registers n words on
+  abbrev moved : ℕ → Registers
+  moved n = record { pointer = stepped-by n (r .pointer); latch = getD m (word-at (r .pointer) .0 + n) 0; control = r .control; hollow = false }
+
+  -- Registers that stand inside memory.
+  stands-inside : (a : BitAddress) → word-at a .0 < length m →
+      standing m (r .control) a ≡ record { pointer = a; latch = getD m (word-at a .0) 0; control = r .control; hollow = false }
+  unfolding standing fetch-at
+  stands-inside a h = rw (lt-ltb (word-at a .0) (length m) h)
+
+  -- reads of registers that stand at a
+  later : (n : ℕ) (a : BitAddress) → Lies m a n →
+      ReadInto (machine (standing m (r .control) a) m) n (record { registers = standing m (r .control) (on-by n a); marked = 0 }) (table m a n)
+  later n a h =
+      let g = all-held (answers (stands s a) (reading n)) (table m a n) (ap (map given) (reads-answer s k i n a) ∙ table-handed m (k .size) n a h) in
+      record {
+        registers = sym (ap (λ (t : Machine). t .registers) (reads-end s k i n a));
+        marked = sym (g .1);
+        words = sym (g .0);
+      }
+
+  -- The first word is the one already held; the others are copied from memory, and so is the word that is held in the end.
+  pub straight-read : (n : ℕ) → r .latch < 65536 → word-at (r .pointer) .0 + suc n < length m →
+      ReadInto s (suc n) (record { registers = moved (suc n); marked = cond (r .hollow) 1 0 }) (r .latch ∷ table m (step (r .pointer)) n)
+  straight-read n f h =
+      let a = r .pointer in
+      let first : ReadInto s 1 (record { registers = standing m (r .control) (step a); marked = cond (r .hollow) 1 0 }) (r .latch ∷ []) =
+      rw i at (one-read r m (k .size) f) in
+      let both = join-reads r m 1 n _ _ _ _ first (later n (step a) (omega (arith, k .size))) in
+      let count : 1 + n ≡ suc n = omega arith in
+      let gained : on-by n (step a) .0 ≡ (a .0 + 16 * suc n) % 2 ^ 32 = on-by-gains n (step a) (step-fits a) ∙ omega arith in
+      let there : on-by n (step a) ≡ stepped-by (suc n) a = ap (λ (x : ℕ). record { 0 = x }) gained in
+      let word : word-at (stepped-by (suc n) a) .0 ≡ word-at a .0 + suc n = omega (arith, k .size) in
+      let stands-at = ap (standing m (r .control)) there ∙ stands-inside (stepped-by (suc n) a) (omega (arith, word)) in
+      let at-end = stands-at ∙ ap (λ (x : ℕ). with-latch (moved (suc n)) (getD m x 0) false) word in
+      record {
+        registers = sym at-end ∙ both .registers ∙ ap (λ (x : ℕ). ends s (reading x) .registers) count;
+        marked = sym (add-zero _) ∙ both .marked ∙ ap (λ (x : ℕ). hollows-in (answers s (reading x))) count;
+        words = both .words ∙ ap (λ (x : ℕ). words-in (answers s (reading x))) count;
+      }
+
+-- ---- writes
+-- the registers after n writes, the last of them of the word w
+abbrev wrote : Registers → ℕ → ℕ → Registers
+wrote r n w = record { pointer = stepped-by n (r .pointer); latch = w; control = r .control; hollow = false }
+
+one-straight : (r : Registers) (m : List ℕ) (w : ℕ) → length m ≤ 32768 → incw (r .control) ≡ true → w < 65536 → word-at (r .pointer) .0 < length m →
+    WrittenFrom (machine r m) (w ∷ []) (record { registers = wrote r 1 w; marked = 0 }) (set m (word-at (r .pointer) .0) w)
+unfolding stepped store-at
+one-straight r m w few i f h = rw (i, lt-ltb (word-at (r .pointer) .0) (length m) h) at (one-write r m few w f)
+
+-- The words lie in memory from the pointer's word on, and the last is held.
+pub straight-write : (ws : List ℕ) (w : ℕ) (r : Registers) (m : List ℕ) → length m ≤ 32768 → incw (r .control) ≡ true →
+    ((j : ℕ) → getD (w ∷ ws) j 0 < 65536) → word-at (r .pointer) .0 + suc (length ws) ≤ length m →
+    WrittenFrom (machine r m) (w ∷ ws) (record { registers = wrote r (suc (length ws)) (getD (w ∷ ws) (length ws) 0); marked = 0 })
+    (sets m (word-at (r .pointer) .0) (w ∷ ws))
+straight-write [] w r m few i f h = one-straight r m w few i (f 0) (omega arith)
+straight-write (v ∷ vs) w r m few i f h =
+    let x = word-at (r .pointer) .0 in
+    let n = suc (length vs) in
+    let next : word-at (stepped-by 1 (r .pointer)) .0 ≡ suc x = omega (arith, few, h) in
+    let size : length (set m x w) ≡ length m = length-set m x w in
+    let first = one-straight r m w few i (f 0) (omega (arith, h)) in
+    let rest = straight-write vs v (wrote r 1 w) (set m x w) (rw size few) i (λ j. f (suc j)) (rw (size, next) (omega (arith, h))) in
+    let gained : ((r .pointer .0 + 16 * 1) % 2 ^ 32 + 16 * n) % 2 ^ 32 ≡ (r .pointer .0 + 16 * suc n) % 2 ^ 32 = omega arith in
+    rw (gained, next, add-zero) at (join-writes (machine r m) (set m x w) _ _ _ (w ∷ []) (v ∷ vs) first rest)
