@@ -2,3 +2,4 @@
 pub mod Joining
 pub mod OneAccess
 pub mod Straight
+pub mod Lent

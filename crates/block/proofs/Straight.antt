@@ -1,13 +1,13 @@
 -- Accesses that step from word to word inside memory, all at once: what reads hand out and leave, and what writes store and
 -- leave. Reads by what crate port says of registers that stand at an address (`Handed`); writes one after the other.
-use Prim.Native.Nat.{ℕ, zero, suc, _+_, _*_, _%_, _^_, _≤_, _<_}
-use native.Mathlib.Nat.{add-zero, suc-add, zero-add}
+use Prim.Native.Nat.{ℕ, zero, suc, _+_, _-_, _*_, _%_, _^_, _≤_, _<_}
+use native.Mathlib.Nat.{add-zero}
 use native.Mathlib.Omega.{arith}
 use mathlib.Core.Path.{_≡_, refl, sym, ap, _∙_, subst}
 use mathlib.Core.Bool.{Bool, true, false, cond, not}
-use mathlib.Core.List.{List, [], _∷_, _++_, map}
+use mathlib.Core.List.{List, [], _∷_, _++_, map, append-assoc}
 use lib.ListN.{length, getD, set, take, drop, replicate, length-set}
-use lib.Seq.{sets}
+use lib.Seq.{drop-cons, sets, sets-eq}
 use borrow.Author.Tests.{lt-ltb}
 use Rattle.words.specs.Addresses.{word-at, step}
 use Rattle.words.specs.Memory.{in-memory, fetch-at, store-at}
@@ -103,6 +103,15 @@ module _ (r : Registers) (m : List ℕ) (k : Memory m) (i : incr (r .control) �
         words = both .words ∙ ap (λ (x : ℕ). words-in (answers s (reading x))) count;
       }
 
+  -- The same by a copy from the pointer's word on, with the word already held laid over the first.
+  pub copied-read : (n : ℕ) → 0 < n → r .latch < 65536 → word-at (r .pointer) .0 + n < length m →
+      ReadInto s n (record { registers = moved n; marked = cond (r .hollow) 1 0 }) (set (take n (drop (word-at (r .pointer) .0) m)) 0 (r .latch))
+  copied-read zero p f h = absurd (omega (arith, p))
+  copied-read (suc n) p f h =
+      let x = word-at (r .pointer) .0 in
+      let next : word-at (step (r .pointer)) .0 ≡ suc x = omega (arith, k .size, h) in
+      rw (drop-cons m x 0 (omega (arith, h))) (rw next at (straight-read n f h))
+
 -- ---- writes
 -- the registers after n writes, the last of them of the word w
 abbrev wrote : Registers → ℕ → ℕ → Registers
@@ -128,3 +137,15 @@ straight-write (v ∷ vs) w r m few i f h =
     let rest = straight-write vs v (wrote r 1 w) (set m x w) (rw size few) i (λ j. f (suc j)) (rw (size, next) (omega (arith, h))) in
     let gained : ((r .pointer .0 + 16 * 1) % 2 ^ 32 + 16 * n) % 2 ^ 32 ≡ (r .pointer .0 + 16 * suc n) % 2 ^ 32 = omega arith in
     rw (gained, next, add-zero) at (join-writes (machine r m) (set m x w) _ _ _ (w ∷ []) (v ∷ vs) first rest)
+
+-- The same by a copy to the pointer's word and on.
+pub copied-write : (ws : List ℕ) (r : Registers) (m : List ℕ) → 0 < length ws → length m ≤ 32768 → incw (r .control) ≡ true →
+    ((j : ℕ) → getD ws j 0 < 65536) → word-at (r .pointer) .0 + length ws ≤ length m →
+    WrittenFrom (machine r m) ws (record { registers = wrote r (length ws) (getD ws (length ws - 1) 0); marked = 0 })
+    (take (word-at (r .pointer) .0) m ++ (ws ++ drop (word-at (r .pointer) .0 + length ws) m))
+copied-write [] r m p few i f h = absurd (omega (arith, p))
+copied-write (w ∷ ws) r m p few i f h =
+    let x = word-at (r .pointer) .0 in
+    let last : suc (length ws) - 1 ≡ length ws = omega arith in
+    let laid = sets-eq (w ∷ ws) m x h ∙ append-assoc (take x m) (w ∷ ws) (drop (x + suc (length ws)) m) in
+    rw last (subst (WrittenFrom (machine r m) (w ∷ ws) _) laid (straight-write ws w r m few i f h))

@@ -1,72 +1,83 @@
+-- `block::reading::read_straight` meets its contract: the copied words, with the word already held in front, are what the reads
+-- hand out (`copied-read`).
 use borrow.Author.Needs.{needs}
+use Prim.Native.Nat.{ℕ, _+_, _<_}
+use native.Mathlib.Omega.{arith}
+use mathlib.Core.Path.{_≡_, sym, ap, _∙_}
+use lib.ListN.{length}
+use Rattle.words.specs.Addresses.{word-at}
+use Rattle.words.specs.declared.WordNumber.{WordNumber}
+use Rattle.port.specs.Table.{Memory}
+use Rattle.block.proofs.Lent.{part-length, part-is}
+use Rattle.block.proofs.Straight.{copied-read}
 use Rattle.block.proofs.reading.read_straight.Statement.{statement}
 use Rattle.block.proofs.reading.read_straight.Tie as tie
-use Rattle.block.proofs.reading.read_straight.Reads as reads
-use Rattle.block.proofs.reading.read_straight.Lts as lts
-use Rattle.block.proofs.stretches.copy_words.Reads as copy-words-reads
-use Rattle.block.proofs.stretches.one_if.Reads as one-if-reads
-use Rattle.block.proofs.stretches.step_by.Reads as step-by-reads
-use Rattle.words.proofs.word_of.Reads as word-of-reads
 
--- src/reading.rt:75:16
 word-of-requires : tie.Need-word-of-requires
-word-of-requires c κs = search needs
+word-of-requires c κs = tt
 
--- src/reading.rt:75:16
+-- the word where the copy begins, and that the word after it is in memory
+here : (c : tie.After-word-of) → c .word-of .result .0 ≡ word-at (c .before .before .before .before .args .r .pointer) .0
+here c = ap (λ (n : WordNumber). n .0) (c .word-of .ensures)
+
+past : (c : tie.After-word-of) →
+    let a = c .before .before .before .before .args in
+    c .word-of .result .0 + length (a .part .now) < length (a .memory .now)
+past c = rw (here c) (c .before .before .before .before .pre .4)
+
 cast-here : tie.Need-cast-here
 cast-here c = search needs
 
--- src/reading.rt:77:15
 add-end : tie.Need-add-end
 add-end c = search needs
 
--- src/reading.rt:78:16
 mul-copy-words : tie.Need-mul-copy-words
 mul-copy-words c = search needs
 
--- src/reading.rt:78:16
 sub-copy-words : tie.Need-sub-copy-words
 sub-copy-words c = search needs
 
--- src/reading.rt:78:16
 part-copy-words-start : tie.Need-part-copy-words-start
 part-copy-words-start c = search needs
 
--- src/reading.rt:78:16
 part-copy-words-end : tie.Need-part-copy-words-end
-part-copy-words-end c = ?
+part-copy-words-end c =
+    let h = past (c .before) in
+    omega (arith, h)
 
--- src/reading.rt:78:5
 copy-words-requires : tie.Need-copy-words-requires
-copy-words-requires c κs = search needs
+copy-words-requires c κs =
+    let w = c .before .before .before in
+    let a = w .before .before .before .before .args in
+    let h = past w in
+    sym (part-length (w .word-of .result .0) (length (a .part .now)) (a .memory .now) (omega (arith, h)))
 
--- src/reading.rt:79:5
 slice-write-part : tie.Need-slice-write-part
 slice-write-part c = search needs
 
--- src/reading.rt:82:22
 step-by-requires : tie.Need-step-by-requires
 step-by-requires c κs = search needs
 
--- src/reading.rt:83:20
 mul-t10 : tie.Need-mul-t10
 mul-t10 c = search needs
 
--- src/reading.rt:83:20
 shared-slice-read-t20 : tie.Need-shared-slice-read-t20
-shared-slice-read-t20 c = ?
+shared-slice-read-t20 c =
+    past (c .before .before .before .before .before .before .before .before)
 
--- src/reading.rt:87:17
 one-if-requires : tie.Need-one-if-requires
-one-if-requires c κs = search needs
+one-if-requires c κs = tt
 
--- src/reading.rt:70:1
 same-length : tie.Need-same-length
 same-length c = search needs
 
--- src/reading.rt:70:1
 returns : tie.Need-returns
-returns c = ?
+returns c =
+    let a = c .before .before .before .before .before .before .before .before .before .before .before .before .before .args in
+    let words : Memory (a .memory .now) = record { size = c .before .before .before .before .before .before .before .before .before .before .before .before .before .pre .0; words = λ i. omega (arith, c .before .shared-slice-known2 .given i) } in
+    let copied = c .before .before .before .before .before .copy-words .ensures ∙ part-is (c .before .before .before .before .before .before .before .before .before .word-of .result .0) (length (a .part .now)) (a .memory .now) in
+    rw (c .before .before .step-by .ensures, c .one-if .ensures .0, copied, here (c .before .before .before .before .before .before .before .before .before))
+    (copied-read (a .r) (a .memory .now) words (c .before .before .before .before .before .before .before .before .before .before .before .before .before .pre .3) (length (a .part .now)) (c .before .before .before .before .before .before .before .before .before .before .before .before .before .pre .2) (omega arith) (c .before .before .before .before .before .before .before .before .before .before .before .before .before .pre .4))
 
 pub read-straight-spec : {M : Type 1} → statement M
 read-straight-spec =

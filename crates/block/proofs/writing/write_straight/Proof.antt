@@ -1,67 +1,75 @@
+-- `block::writing::write_straight` meets its contract: the copied words are what the writes store (`copied-write`).
 use borrow.Author.Needs.{needs}
+use Prim.Native.Nat.{ℕ, _+_, _≤_}
+use native.Mathlib.Omega.{arith}
+use mathlib.Core.Path.{_≡_, ap, _∙_}
+use lib.ListN.{length}
+use Rattle.words.specs.Addresses.{word-at}
+use Rattle.words.specs.declared.WordNumber.{WordNumber}
+use Rattle.block.proofs.Lent.{part-length, put-back}
+use Rattle.block.proofs.Straight.{copied-write}
 use Rattle.block.proofs.writing.write_straight.Statement.{statement}
 use Rattle.block.proofs.writing.write_straight.Tie as tie
-use Rattle.block.proofs.writing.write_straight.Reads as reads
-use Rattle.block.proofs.writing.write_straight.Lts as lts
-use Rattle.block.proofs.stretches.copy_words.Reads as copy-words-reads
-use Rattle.block.proofs.stretches.step_by.Reads as step-by-reads
-use Rattle.words.proofs.word_of.Reads as word-of-reads
 
--- src/writing.rt:79:16
 word-of-requires : tie.Need-word-of-requires
-word-of-requires c κs = search needs
+word-of-requires c κs = tt
 
--- src/writing.rt:79:16
+-- the word where the copy begins, and that its last word is in memory
+here : (c : tie.After-word-of) → c .word-of .result .0 ≡ word-at (c .before .before .before .before .args .r .pointer) .0
+here c = ap (λ (n : WordNumber). n .0) (c .word-of .ensures)
+
+room : (c : tie.After-word-of) →
+    let a = c .before .before .before .before .args in
+    c .word-of .result .0 + length (a .part .now) ≤ length (a .memory .now)
+room c = rw (here c) (c .before .before .before .before .pre .4)
+
 cast-here : tie.Need-cast-here
 cast-here c = search needs
 
--- src/writing.rt:81:15
 add-end : tie.Need-add-end
 add-end c = search needs
 
--- src/writing.rt:82:22
 mul-copy-words : tie.Need-mul-copy-words
 mul-copy-words c = search needs
 
--- src/writing.rt:82:22
 sub-copy-words : tie.Need-sub-copy-words
 sub-copy-words c = search needs
 
--- src/writing.rt:82:22
 part-copy-words-start : tie.Need-part-copy-words-start
 part-copy-words-start c = search needs
 
--- src/writing.rt:82:22
 part-copy-words-end : tie.Need-part-copy-words-end
-part-copy-words-end c = ?
+part-copy-words-end c =
+    room (c .before)
 
--- src/writing.rt:82:5
 copy-words-requires : tie.Need-copy-words-requires
-copy-words-requires c κs = search needs
+copy-words-requires c κs =
+    let w = c .before .before in
+    let a = w .before .before .before .before .args in
+    part-length (w .word-of .result .0) (length (a .part .now)) (a .memory .now) (room w)
 
--- src/writing.rt:83:16
 sub-last : tie.Need-sub-last
 sub-last c = search needs
 
--- src/writing.rt:86:22
 step-by-requires : tie.Need-step-by-requires
 step-by-requires c κs = search needs
 
--- src/writing.rt:87:20
 mul-t11 : tie.Need-mul-t11
 mul-t11 c = search needs
 
--- src/writing.rt:87:20
 shared-slice-read-t18 : tie.Need-shared-slice-read-t18
 shared-slice-read-t18 c = search needs
 
--- src/writing.rt:74:1
 same-length : tie.Need-same-length
 same-length c = search needs
 
--- src/writing.rt:74:1
 returns : tie.Need-returns
-returns c = ?
+returns c =
+    let a = c .before .before .before .before .before .before .before .before .before .before .before .args in
+    let w = c .before .before .before .before .before .before .before in
+    let back = put-back (w .word-of .result .0) (length (a .part .now)) (a .memory .now) (c .before .before .before .before .copy-words .last .1 .0) in
+    rw (c .before .step-by .ensures, back, c .before .before .before .before .copy-words .ensures, here w)
+    (copied-write (a .part .now) (a .r) (a .memory .now) (c .before .before .before .before .before .before .before .before .before .before .before .pre .2) (c .before .before .before .before .before .before .before .before .before .before .before .pre .0) (c .before .before .before .before .before .before .before .before .before .before .before .pre .3) (λ j. omega (arith, c .shared-slice-known2 .given j)) (c .before .before .before .before .before .before .before .before .before .before .before .pre .4))
 
 pub write-straight-spec : {M : Type 1} → statement M
 write-straight-spec =
