@@ -1,11 +1,12 @@
 -- Accesses that step from word to word inside memory, all at once: what reads hand out and leave, and what writes store and
 -- leave. Reads by what crate port says of registers that stand at an address (`Handed`); writes one after the other.
-use Prim.Native.Nat.{ℕ, zero, suc, _+_, _-_, _*_, _%_, _^_, _≤_, _<_}
+use Prim.Native.Nat.{ℕ, zero, suc, _+_, _-_, _*_, _%_, _^_, _≤_, _<_, min}
 use native.Mathlib.Nat.{add-zero}
 use native.Mathlib.Omega.{arith}
 use mathlib.Core.Path.{_≡_, refl, sym, ap, _∙_, subst}
 use mathlib.Core.Bool.{Bool, true, false, cond, not}
 use mathlib.Core.List.{List, [], _∷_, _++_, map, append-assoc}
+use mathlib.Core.Logic.{_≢_}
 use lib.ListN.{length, getD, set, take, drop, replicate, length-set}
 use lib.Seq.{drop-cons, sets, sets-eq}
 use borrow.Author.Tests.{lt-ltb}
@@ -28,6 +29,21 @@ use Rattle.block.specs.Parts.{stepped-by, ReadInto, WrittenFrom}
 use Rattle.block.specs.declared.Run.{Run}
 use Rattle.block.proofs.Joining.{join-reads, join-writes}
 use Rattle.block.proofs.OneAccess.{one-read, one-write}
+
+-- ---- how many there are
+-- n accesses of a block go straight: they step, and from word `first` on there are n words in memory.
+pub record Straight (steps : Bool) (first words count n : ℕ) : Type 0 where
+  pub some : 0 < n
+  pub most : n ≤ count
+  pub stepping : steps ≡ true
+  pub inside : first + n ≤ words
+
+-- That many go straight, if any.
+pub goes-straight : (steps : Bool) (first words count n : ℕ) → n ≡ cond steps (min count (words - first)) 0 → n ≢ 0 →
+    Straight steps first words count n
+goes-straight true first words count n e h =
+    record { some = omega arith; most = omega arith; stepping = refl; inside = omega arith }
+goes-straight false first words count n e h = absurd (h e)
 
 -- ---- what answers hand out, by what is given
 words-given : (xs : List Answer) → words-in xs ≡ map (λ (g : Given). g .word) (map given xs)

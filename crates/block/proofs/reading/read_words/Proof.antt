@@ -1,79 +1,128 @@
+-- `block::reading::read_words` meets its contract: the reads that go straight and then the others are all of them (`join-reads`),
+-- and so are the two parts that were lent.
 use borrow.Author.Needs.{needs}
+use Prim.Native.Nat.{ℕ, _+_, _-_, _≤_}
+use native.Mathlib.Omega.{arith}
+use mathlib.Core.Path.{_≡_}
+use mathlib.Core.List.{List, _++_}
+use lib.ListN.{length}
+use Rattle.words.specs.Addresses.{word-at}
+use Rattle.control.specs.Control.{incr}
+use Rattle.block.specs.Block.{machine}
+use Rattle.block.specs.Parts.{straight-reads, ReadInto}
+use Rattle.block.proofs.Joining.{few-hollows, read-length, join-reads}
+use Rattle.block.proofs.Lent.{between, first-length, rest-starts, rest-length, both-back}
+use Rattle.block.proofs.Straight.{Straight, goes-straight}
 use Rattle.block.proofs.reading.read_words.Statement.{statement}
 use Rattle.block.proofs.reading.read_words.Tie as tie
-use Rattle.block.proofs.reading.read_words.Reads as reads
-use Rattle.block.proofs.reading.read_words.Lts as lts
-use Rattle.block.proofs.reading.read_singly.Reads as read-singly-reads
-use Rattle.block.proofs.reading.read_straight.Reads as read-straight-reads
-use Rattle.block.proofs.reading.straight_reads.Reads as straight-reads-reads
 
--- src/reading.rt:96:9
 straight-reads-requires : tie.Need-straight-reads-requires
-straight-reads-requires c κs = search needs
+straight-reads-requires c κs = tt
 
--- src/reading.rt:98:9
 read-singly-requires : tie.Need-read-singly-requires
 read-singly-requires c κs = search needs
 
--- src/reading.rt:98:9
 same-length : tie.Need-same-length
 same-length c = search needs
 
--- src/reading.rt:98:9
 returns : tie.Need-returns
 returns c = search needs
 
--- src/reading.rt:101:42
 mul-read-straight : tie.Need-mul-read-straight
 mul-read-straight c = search needs
 
--- src/reading.rt:101:42
 sub-read-straight : tie.Need-sub-read-straight
 sub-read-straight c = search needs
 
--- src/reading.rt:101:42
 part-read-straight-start : tie.Need-part-read-straight-start
 part-read-straight-start c = search needs
 
--- src/reading.rt:101:42
+-- some reads go straight
+straight : (c : tie.Else1) →
+    let a = c .before .before .before .before .args in
+    Straight (incr (a .r .control)) (word-at (a .r .pointer) .0 + 1) (length (a .memory .now)) (length (a .part .now)) (c .before .straight-reads .result)
+unfolding straight-reads
+straight c = goes-straight _ _ _ _ _ (c .before .straight-reads .ensures) (c .if1 .left)
+
 part-read-straight-end : tie.Need-part-read-straight-end
-part-read-straight-end c = ?
+part-read-straight-end c =
+    straight c .most
 
--- src/reading.rt:101:9
 read-straight-requires : tie.Need-read-straight-requires
-read-straight-requires c κs = ?
+read-straight-requires c κs =
+    let s = straight (c .before) in
+    let few = c .before .before .before .before .before .pre in
+    rw (first-length _ _ (s .most)) (few .0, omega (arith, s .most, few .1), s .some, s .stepping, omega (arith, s .inside))
 
--- src/reading.rt:103:39
+-- what they leave
+first : (c : tie.After-read-straight) →
+    let a = c .before .before .before .before .before .before .args in
+    ReadInto (machine (a .r) (a .memory .now)) (c .before .before .before .straight-reads .result) (c .read-straight .result) (c .read-straight .last .1 .1 .0)
+first c = rw (first-length _ _ (straight (c .before .before) .most)) at (c .read-straight .ensures)
+
+-- where the others begin
+starts : (c : tie.After-read-straight) →
+    let n = c .before .before .before .straight-reads .result in
+    let part = c .before .before .before .before .before .before .args .part .now in
+    n ≤ length (between n part (c .read-straight .last .1 .1 .0))
+starts c =
+    let n = c .before .before .before .straight-reads .result in
+    let part = c .before .before .before .before .before .before .args .part .now in
+    rest-starts n part (c .read-straight .last .1 .1 .0) (straight (c .before .before) .most) (read-length (first c))
+
 mul-read-singly : tie.Need-mul-read-singly
-mul-read-singly c = ?
+mul-read-singly c =
+    omega (arith, straight (c .before .before .before .before .before) .most)
 
--- src/reading.rt:103:39
 sub-read-singly : tie.Need-sub-read-singly
-sub-read-singly c = ?
+sub-read-singly c =
+    starts (c .before .before .before)
 
--- src/reading.rt:103:39
 part-read-singly-start : tie.Need-part-read-singly-start
-part-read-singly-start c = ?
+part-read-singly-start c =
+    starts (c .before .before .before)
 
--- src/reading.rt:103:39
 part-read-singly-end : tie.Need-part-read-singly-end
 part-read-singly-end c = search needs
 
--- src/reading.rt:103:9
 read-singly-requires-2 : tie.Need-read-singly-requires-2
-read-singly-requires-2 c κs = search needs
+read-singly-requires-2 c κs =
+    let f = c .before .before .before .before in
+    let few = f .before .before .before .before .before .before .pre in
+    rw (rest-length _ _ _ (straight (f .before .before) .most) (read-length (first f))) (few .0, omega (arith, few .1))
 
--- src/reading.rt:107:17
+-- what the others leave
+rest : (c : tie.After-read-singly2) →
+    let f = c .before .before .before .before .before in
+    let a = f .before .before .before .before .before .before .args in
+    ReadInto (machine (f .read-straight .result .registers) (a .memory .now))
+    (length (a .part .now) - f .before .before .before .straight-reads .result) (c .read-singly2 .result) (c .read-singly2 .last .1 .1 .0)
+rest c =
+    let f = c .before .before .before .before .before in
+    rw (rest-length _ _ _ (straight (f .before .before) .most) (read-length (first f))) at (c .read-singly2 .ensures)
+
 add-t21 : tie.Need-add-t21
-add-t21 c = ?
+add-t21 c =
+    let l = c .before .before .before .before .before in
+    let f = l .before .before .before .before .before in
+    let s = straight (f .before .before) in
+    let few = few-hollows (machine (c .before .before .before .before .before .before .before .before .before .before .before .before .before .before .before .before .args .r) (c .before .before .before .before .before .before .before .before .before .before .before .before .before .before .before .before .args .memory .now)) (c .before .before .before .before .before .before .before .before .before .before .before .before .before .straight-reads .result) in
+    let fewer = few-hollows (machine (c .before .before .before .before .before .before .before .before .before .before .read-straight .result .registers) (c .before .before .before .before .before .before .before .before .before .before .before .before .before .before .before .before .args .memory .now)) (length (c .before .before .before .before .before .before .before .before .before .before .before .before .before .before .before .before .args .part .now) - c .before .before .before .before .before .before .before .before .before .before .before .before .before .straight-reads .result) in
+    omega (arith, s .most, c .before .before .before .before .before .before .before .before .before .before .before .before .before .before .before .before .pre .1, first f .marked, rest l .marked, few, fewer)
 
--- src/reading.rt:92:1
 same-length-2 : tie.Need-same-length-2
 same-length-2 c = search needs
 
--- src/reading.rt:92:1
 returns-2 : tie.Need-returns-2
-returns-2 c = ?
+returns-2 c =
+    let l = c .before .before .before .before .before in
+    let f = l .before .before .before .before .before in
+    let a = c .before .before .before .before .before .before .before .before .before .before .before .before .before .before .before .before .args in
+    let n = c .before .before .before .before .before .before .before .before .before .before .before .before .before .straight-reads .result in
+    let most = straight (f .before .before) .most in
+    let all : n + (length (a .part .now) - n) ≡ length (a .part .now) = omega (arith, most) in
+    let joined = join-reads (a .r) (a .memory .now) n (length (a .part .now) - n) _ _ _ _ (first f) (rest l) in
+    rw (both-back n (a .part .now) _ most (read-length (first f)) (c .before .before .before .before .before .read-singly2 .last .1 .1 .0)) (rw all at joined)
 
 pub read-words-spec : {M : Type 1} → statement M
 read-words-spec =

@@ -1,79 +1,112 @@
+-- `block::writing::write_words` meets its contract: the writes that go straight and then the others are all of them
+-- (`join-writes`), and so are the words of the two parts.
 use borrow.Author.Needs.{needs}
+use Prim.Native.Nat.{ℕ, _≤_}
+use native.Mathlib.Omega.{arith}
+use mathlib.Core.Path.{_≡_, refl}
+use mathlib.Core.List.{List, _++_}
+use lib.ListN.{length, take, drop, length-drop, take-append-drop}
+use lib.Seq.{length-take-le}
+use Rattle.words.specs.Addresses.{word-at}
+use Rattle.control.specs.Control.{incw}
+use Rattle.block.specs.Block.{machine}
+use Rattle.block.specs.Parts.{straight-writes, WrittenFrom}
+use Rattle.block.proofs.Joining.{few-empties, join-writes}
+use Rattle.block.proofs.Lent.{first-length, first-is, rest-is}
+use Rattle.block.proofs.Straight.{Straight, goes-straight}
 use Rattle.block.proofs.writing.write_words.Statement.{statement}
 use Rattle.block.proofs.writing.write_words.Tie as tie
-use Rattle.block.proofs.writing.write_words.Reads as reads
-use Rattle.block.proofs.writing.write_words.Lts as lts
-use Rattle.block.proofs.writing.straight_writes.Reads as straight-writes-reads
-use Rattle.block.proofs.writing.write_singly.Reads as write-singly-reads
-use Rattle.block.proofs.writing.write_straight.Reads as write-straight-reads
 
--- src/writing.rt:100:9
 straight-writes-requires : tie.Need-straight-writes-requires
-straight-writes-requires c κs = search needs
+straight-writes-requires c κs = tt
 
--- src/writing.rt:102:9
 write-singly-requires : tie.Need-write-singly-requires
 write-singly-requires c κs = search needs
 
--- src/writing.rt:102:9
 same-length : tie.Need-same-length
 same-length c = search needs
 
--- src/writing.rt:102:9
 returns : tie.Need-returns
 returns c = search needs
 
--- src/writing.rt:105:43
 mul-write-straight : tie.Need-mul-write-straight
 mul-write-straight c = search needs
 
--- src/writing.rt:105:43
 sub-write-straight : tie.Need-sub-write-straight
 sub-write-straight c = search needs
 
--- src/writing.rt:105:43
 part-write-straight-start : tie.Need-part-write-straight-start
 part-write-straight-start c = search needs
 
--- src/writing.rt:105:43
+-- some writes go straight
+straight : (c : tie.Else1) →
+    let a = c .before .before .before .before .args in
+    Straight (incw (a .r .control)) (word-at (a .r .pointer) .0) (length (a .memory .now)) (length (a .part .now)) (c .before .straight-writes .result)
+unfolding straight-writes
+straight c = goes-straight _ _ _ _ _ (c .before .straight-writes .ensures) (c .if1 .left)
+
 part-write-straight-end : tie.Need-part-write-straight-end
-part-write-straight-end c = ?
+part-write-straight-end c =
+    straight (c .before) .most
 
--- src/writing.rt:105:9
 write-straight-requires : tie.Need-write-straight-requires
-write-straight-requires c κs = ?
+write-straight-requires c κs =
+    let s = straight (c .before .before) in
+    let few = c .before .before .before .before .before .before .pre in
+    rw (first-length _ _ (s .most)) (few .0, omega (arith, s .most, few .1), s .some, s .stepping, s .inside)
 
--- src/writing.rt:107:40
 mul-write-singly : tie.Need-mul-write-singly
-mul-write-singly c = ?
+mul-write-singly c =
+    omega (arith, straight (c .before .before .before .before .before .before .before) .most)
 
--- src/writing.rt:107:40
 sub-write-singly : tie.Need-sub-write-singly
-sub-write-singly c = ?
+sub-write-singly c =
+    straight (c .before .before .before .before .before .before .before) .most
 
--- src/writing.rt:107:40
 part-write-singly-start : tie.Need-part-write-singly-start
-part-write-singly-start c = ?
+part-write-singly-start c =
+    straight (c .before .before .before .before .before .before .before) .most
 
--- src/writing.rt:107:40
 part-write-singly-end : tie.Need-part-write-singly-end
 part-write-singly-end c = search needs
 
--- src/writing.rt:107:9
 write-singly-requires-2 : tie.Need-write-singly-requires-2
 write-singly-requires-2 c κs = search needs
 
--- src/writing.rt:111:17
-add-t25 : tie.Need-add-t25
-add-t25 c = ?
+-- what they leave
+first : (c : tie.After-write-straight) →
+    let a = c .before .before .before .before .before .before .before .args in
+    WrittenFrom (machine (a .r) (a .memory .now)) (take (c .before .before .before .before .straight-writes .result) (a .part .now))
+    (c .write-straight .result) (c .write-straight .last .1 .0)
+first c = rw (first-is _ _) at (c .write-straight .ensures)
 
--- src/writing.rt:96:1
+-- what the others leave
+rest : (c : tie.After-write-singly2) →
+    let f = c .before .before .before .before .before .before in
+    let a = f .before .before .before .before .before .before .before .args in
+    WrittenFrom (machine (f .write-straight .result .registers) (f .write-straight .last .1 .0))
+    (drop (f .before .before .before .before .straight-writes .result) (a .part .now)) (c .write-singly2 .result) (c .write-singly2 .last .1 .0)
+rest c = rw (rest-is _ _) at (c .write-singly2 .ensures)
+
+add-t25 : tie.Need-add-t25
+add-t25 c =
+    let l = c .before .before .before .before .before in
+    let f = l .before .before .before .before .before .before in
+    let s = straight (f .before .before .before) in
+    let part = c .before .before .before .before .before .before .before .before .before .before .before .before .before .before .before .before .before .before .args .part .now in
+    let n = c .before .before .before .before .before .before .before .before .before .before .before .before .before .before .before .straight-writes .result in
+    let few = few-empties (machine (c .before .before .before .before .before .before .before .before .before .before .before .before .before .before .before .before .before .before .args .r) (c .before .before .before .before .before .before .before .before .before .before .before .before .before .before .before .before .before .before .args .memory .now)) (take n part) in
+    let fewer = few-empties (machine (c .before .before .before .before .before .before .before .before .before .before .before .write-straight .result .registers) (c .before .before .before .before .before .before .before .before .before .before .before .write-straight .last .1 .0)) (drop n part) in
+    omega (arith, s .most, c .before .before .before .before .before .before .before .before .before .before .before .before .before .before .before .before .before .before .pre .1, first f .marked, rest l .marked, few, fewer, length-take-le n part (s .most), length-drop n part)
+
 same-length-2 : tie.Need-same-length-2
 same-length-2 c = search needs
 
--- src/writing.rt:96:1
 returns-2 : tie.Need-returns-2
-returns-2 c = ?
+returns-2 c =
+    let l = c .before .before .before .before .before in
+    let f = l .before .before .before .before .before .before in
+    rw (take-append-drop (c .before .before .before .before .before .before .before .before .before .before .before .before .before .before .before .straight-writes .result) (c .before .before .before .before .before .before .before .before .before .before .before .before .before .before .before .before .before .before .args .part .now)) at (join-writes _ _ _ _ _ _ _ (first f) (rest l))
 
 pub write-words-spec : {M : Type 1} → statement M
 write-words-spec =
