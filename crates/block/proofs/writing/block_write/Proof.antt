@@ -1,50 +1,85 @@
+-- `block::writing::block_write` meets its contract: a refused block by its number, an accepted one by its writes.
 use borrow.Author.Needs.{needs}
+use Prim.Native.Nat.{ℕ, _+_, _≤_}
+use native.Mathlib.Omega.{arith}
+use mathlib.Core.Path.{_≡_, sym, ap, _∙_}
+use mathlib.Core.Logic.{_≢_}
+use lib.ListN.{length}
+use Rattle.port.specs.Runs.{answers}
+use Rattle.port.specs.declared.Registers.{Registers}
+use Rattle.block.specs.Block.{machine, block-number, writing, stretch, empties-in}
+use Rattle.block.specs.Parts.{WrittenFrom}
+use Rattle.block.proofs.Numbers.{when, write-taken, memory-taken, write-barred, memory-barred}
+use Rattle.block.proofs.Lent.{part-length, part-is}
 use Rattle.block.proofs.writing.block_write.Statement.{statement}
 use Rattle.block.proofs.writing.block_write.Tie as tie
-use Rattle.block.proofs.writing.block_write.Reads as reads
-use Rattle.block.proofs.writing.block_write.Lts as lts
-use Rattle.block.proofs.judging.block_number_of.Reads as block-number-of-reads
-use Rattle.block.proofs.writing.write_words.Reads as write-words-reads
 
--- src/writing.rt:125:9
 block-number-of-requires : tie.Need-block-number-of-requires
-block-number-of-requires c κs = search needs
+block-number-of-requires c κs = tt
 
--- src/writing.rt:127:9
 returns : tie.Need-returns
-returns c = ?
+returns c =
+    let a = c .before .before .before .before .args in
+    let e = c .before .block-number-of .ensures in
+    let n : block-number (a .memory .now) (a .list .now) (a .place) (a .count) ≢ 0 = λ q. c .if1 .taken (e ∙ q) in
+    record {
+      outcome = ap (λ (x : ℕ). record { number = x; empties = 0; registers = a .r }) e ∙ sym (write-barred (a .r) _ _ _ _ n);
+      memory = sym (memory-barred (a .r) _ _ _ _ n);
+    }
 
--- src/writing.rt:133:15
+-- the block is accepted
+accepted : (c : tie.Else1) →
+    let a = c .before .before .before .before .args in
+    block-number (a .memory .now) (a .list .now) (a .place) (a .count) ≡ 0
+accepted c = sym (c .before .block-number-of .ensures) ∙ c .if1 .left
+
+-- so its numbers fit
+fits : (c : tie.Else1) →
+    let a = c .before .before .before .before .args in
+    (length (a .memory .now) ≤ 32768) × (a .count ≤ 4096) × (a .place + a .count ≤ length (a .list .now))
+fits c = when _ _ _ _ .done .0 (accepted c)
+
 add-end : tie.Need-add-end
-add-end c = ?
+add-end c =
+    omega (arith, fits c .2)
 
--- src/writing.rt:134:38
 mul-write-words : tie.Need-mul-write-words
-mul-write-words c = ?
+mul-write-words c =
+    omega (arith, fits (c .before) .2)
 
--- src/writing.rt:134:38
 sub-write-words : tie.Need-sub-write-words
 sub-write-words c = search needs
 
--- src/writing.rt:134:38
 part-write-words-start : tie.Need-part-write-words-start
 part-write-words-start c = search needs
 
--- src/writing.rt:134:38
 part-write-words-end : tie.Need-part-write-words-end
-part-write-words-end c = ?
+part-write-words-end c =
+    fits (c .before) .2
 
--- src/writing.rt:134:9
 write-words-requires : tie.Need-write-words-requires
-write-words-requires c κs = ?
+write-words-requires c κs =
+    let f = fits (c .before .before) in
+    rw (part-length _ _ _ (f .2)) (f .0, f .1)
 
--- src/writing.rt:116:1
 same-length : tie.Need-same-length
 same-length c = search needs
 
--- src/writing.rt:116:1
 returns-2 : tie.Need-returns-2
-returns-2 c = ?
+returns-2 c =
+    let a = c .before .before .before .before .before .before .before .before .before .before .args in
+    let s = machine (a .r) (a .memory .now) in
+    let ws = stretch (a .list .now) (a .place) (a .count) in
+    let e = accepted (c .before .before .before .before .before .before) in
+    let written : WrittenFrom s ws (c .before .before .before .write-words .result) (c .before .before .before .write-words .last .1 .0) =
+    rw (part-is (a .place) (a .count) (a .list .now)) at (c .before .before .before .write-words .ensures) in
+    record {
+      outcome =
+          ap (λ (x : ℕ). record { number = 0; empties = x; registers = c .before .before .before .write-words .result .registers }) (written .marked) ∙
+          ap (λ (q : Registers). record { number = 0; empties = empties-in (answers s (writing ws)); registers = q }) (written .registers) ∙
+          sym (write-taken (a .r) _ _ _ _ e);
+      memory = written .memory ∙ sym (memory-taken (a .r) _ _ _ _ e);
+    }
 
 pub block-write-spec : {M : Type 1} → statement M
 block-write-spec =
