@@ -5,7 +5,7 @@ use native.Mathlib.Nat.{zero-add, suc-add, add-assoc}
 use native.Mathlib.Omega.{arith}
 use mathlib.Core.Path.{_≡_, refl, sym, ap, _∙_}
 use mathlib.Core.Bool.{Bool, true, false, cond}
-use mathlib.Core.List.{List, [], _∷_, _++_, map, map-append}
+use mathlib.Core.List.{List, [], _∷_, _++_, map-append}
 use lib.ListN.{length, length-map}
 use Rattle.port.specs.Runs.{Machine, Sixteen, load, save, on, answer-of, after, answers, ends}
 use Rattle.port.specs.Table.{reading}
@@ -61,7 +61,8 @@ unfolding reading
 reading-join zero k = ap reading (zero-add k)
 reading-join (suc n) k = ap reading (suc-add n k) ∙ ap (λ (l : List Sixteen). load 2 ∷ l) (reading-join n k)
 
-reading-length : (n : ℕ) → length (reading n) ≡ n
+-- n reads are n accesses.
+pub reading-length : (n : ℕ) → length (reading n) ≡ n
 unfolding reading
 reading-length zero = refl
 reading-length (suc n) = ap suc (reading-length n)

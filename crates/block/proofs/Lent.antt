@@ -1,11 +1,11 @@
--- Parts of a list that are lent and come back: how long they are, and what the list then is.
-use Prim.Native.Nat.{ℕ, _+_, _-_, _≤_}
+-- Parts of a list that are lent and come back: how long they are, what the list then is, and what lies where in it.
+use Prim.Native.Nat.{ℕ, _+_, _-_, _≤_, _<_}
 use native.Mathlib.Nat.{sub-zero}
 use native.Mathlib.Omega.{arith}
-use mathlib.Core.Path.{_≡_, refl, sym, ap, _∙_}
+use mathlib.Core.Path.{_≡_, sym, ap, _∙_}
 use mathlib.Core.List.{List, [], _++_, append-nil}
-use lib.ListN.{length, take, drop, length-append, length-take, length-drop, drop-of-length-le}
-use lib.Seq.{take-at, drop-at, take-all}
+use lib.ListN.{length, getD, take, drop, length-append, length-take, length-drop, drop-of-length-le, List·getD-append}
+use lib.Seq.{length-take-le, take-at, drop-at, take-all, getD-append-add, getD-drop, getD-take}
 use borrow.Rule.Slice.PartMut.{putMid, postOf, post-is}
 
 -- The n places from a on, lent.
@@ -57,3 +57,42 @@ module _ (n : ℕ) (l xs : List ℕ) (h : n ≤ length l) (e : length xs ≡ n) 
       let left : length (drop n (between n l xs)) ≤ length (between n l xs) - n = simp length-drop (omega arith) in
       let none : postOf n (length (between n l xs) - n) (between n l xs) ≡ [] = drop-of-length-le (drop n (between n l xs)) left in
       rw (take-at xs (postOf 0 (n - 0) l) n e, none, append-nil)
+
+-- ---- what lies where, once a stretch of a list has become ys
+module _ (a n : ℕ) (l ys : List ℕ) (h : a + n ≤ length l) (e : length ys ≡ n) where
+  abbrev laid : List ℕ
+  laid = take a l ++ (ys ++ drop (a + n) l)
+
+  front : length (take a l) ≡ a
+  front = length-take-le a l (omega arith)
+
+  -- The list is as long as it was.
+  pub laid-length : length laid ≡ length l
+  laid-length = simp (length-append, length-drop) (omega (arith, front))
+
+  -- In the stretch lie ys.
+  pub laid-inside : (k : ℕ) → k < n → getD laid (a + k) 0 ≡ getD ys k 0
+  laid-inside k q =
+      ap (λ (x : ℕ). getD laid (x + k) 0) (sym front) ∙
+      getD-append-add (take a l) (ys ++ drop (a + n) l) k 0 ∙
+      List·getD-append ys (drop (a + n) l) 0 k (omega arith)
+
+  -- The stretch itself is ys.
+  pub laid-stretch : take n (drop a laid) ≡ ys
+  laid-stretch = rw (drop-at (take a l) (ys ++ drop (a + n) l) a front) (take-at ys (drop (a + n) l) n e)
+
+  -- Before it lies what lay there.
+  pub laid-before : (k : ℕ) → k < a → getD laid k 0 ≡ getD l k 0
+  laid-before k q = List·getD-append (take a l) (ys ++ drop (a + n) l) 0 k (omega (arith, front)) ∙ getD-take a l k 0 q
+
+  -- And after it.
+  pub laid-behind : (k : ℕ) → a + n ≤ k → getD laid k 0 ≡ getD l k 0
+  laid-behind k q =
+      let j = k - (a + n) in
+      let far : k ≡ length (take a l) + (length ys + j) = omega (arith, front) in
+      let back : a + n + j ≡ k = omega arith in
+      ap (λ (x : ℕ). getD laid x 0) far ∙
+      getD-append-add (take a l) (ys ++ drop (a + n) l) (length ys + j) 0 ∙
+      getD-append-add ys (drop (a + n) l) j 0 ∙
+      getD-drop (a + n) l j 0 ∙
+      ap (λ (x : ℕ). getD l x 0) back

@@ -1,32 +1,30 @@
 -- Accesses that step from word to word inside memory, all at once: what reads hand out and leave, and what writes store and
 -- leave. Reads by what crate port says of registers that stand at an address (`Handed`); writes one after the other.
 use Prim.Native.Nat.{ℕ, zero, suc, _+_, _-_, _*_, _%_, _^_, _≤_, _<_, min}
-use native.Mathlib.Nat.{add-zero}
+use native.Mathlib.Nat.{add-zero, zero-add}
 use native.Mathlib.Omega.{arith}
 use mathlib.Core.Path.{_≡_, refl, sym, ap, _∙_, subst}
-use mathlib.Core.Bool.{Bool, true, false, cond, not}
-use mathlib.Core.List.{List, [], _∷_, _++_, map, append-assoc}
+use mathlib.Core.Bool.{Bool, true, false, cond}
+use mathlib.Core.List.{List, [], _∷_, _++_, map, append-assoc, append-nil}
 use mathlib.Core.Logic.{_≢_}
-use lib.ListN.{length, getD, set, take, drop, replicate, length-set}
+use lib.ListN.{replicate, length, getD, set, take, drop, length-set}
 use lib.Seq.{drop-cons, sets, sets-eq}
 use borrow.Author.Tests.{lt-ltb}
 use Rattle.words.specs.Addresses.{word-at, step}
-use Rattle.words.specs.Memory.{in-memory, fetch-at, store-at}
+use Rattle.words.specs.Memory.{fetch-at, store-at}
 use Rattle.words.specs.declared.BitAddress.{BitAddress}
-use Rattle.words.proofs.Addresses.{step-next, step-fits}
+use Rattle.words.proofs.Addresses.{step-fits}
 use Rattle.control.specs.Control.{incr, incw}
 use Rattle.port.specs.Registers.{with-latch}
 use Rattle.port.specs.Cycle.{standing, stepped}
-use Rattle.port.specs.Deeds.{ahead}
 use Rattle.port.specs.Runs.{Machine, answers, ends}
-use Rattle.port.specs.Table.{Memory, stands, reading, handed, on-by, table, Lies, Given, given, held, filler}
+use Rattle.port.specs.Table.{Memory, stands, reading, on-by, table, Lies, Given, given, held, filler}
 use Rattle.port.specs.declared.Registers.{Registers}
 use Rattle.port.specs.declared.Answer.{Answer}
 use Rattle.port.proofs.Handed.{on-by-gains, reads-answer, reads-end}
 use Rattle.port.proofs.TableWords.{table-handed}
 use Rattle.block.specs.Block.{machine, tally, words-in, hollows-in}
 use Rattle.block.specs.Parts.{stepped-by, ReadInto, WrittenFrom}
-use Rattle.block.specs.declared.Run.{Run}
 use Rattle.block.proofs.Joining.{join-reads, join-writes}
 use Rattle.block.proofs.OneAccess.{one-read, one-write}
 
@@ -59,19 +57,31 @@ unfolding tally hollows-of
 hollows-given [] = refl
 hollows-given (x ∷ xs) = ap (λ (n : ℕ). cond (x .hollow) 1 0 + n) (hollows-given xs)
 
-words-held : (ws : List ℕ) → map (λ (g : Given). g .word) (map held ws) ≡ ws
-words-held [] = refl
-words-held (w ∷ ws) = ap (λ (l : List ℕ). w ∷ l) (words-held ws)
+words-told : (ws : List ℕ) (j : ℕ) → map (λ (g : Given). g .word) (map held ws ++ replicate j filler) ≡ ws ++ replicate j 0xffff
+words-told [] zero = refl
+words-told [] (suc j) = ap (λ (l : List ℕ). 0xffff ∷ l) (words-told [] j)
+words-told (w ∷ ws) j = ap (λ (l : List ℕ). w ∷ l) (words-told ws j)
 
-none-hollow : (ws : List ℕ) → hollows-of (map held ws) ≡ 0
+next : (j : ℕ) → 1 + j ≡ suc j
+next j = omega arith
+
+hollows-told : (ws : List ℕ) (j : ℕ) → hollows-of (map held ws ++ replicate j filler) ≡ j
 unfolding hollows-of
-none-hollow [] = refl
-none-hollow (w ∷ ws) = ap (λ (n : ℕ). 0 + n) (none-hollow ws)
+hollows-told [] zero = refl
+hollows-told [] (suc j) = ap (λ (n : ℕ). 1 + n) (hollows-told [] j) ∙ next j
+hollows-told (w ∷ ws) j = ap (λ (n : ℕ). 0 + n) (hollows-told ws j) ∙ zero-add j
 
--- Answers that give words as held hand out just these, and none is hollow.
+-- Answers that give words as held, and after them filler, hand out just these, and the fillers are those counted hollow.
+pub held-then-hollow : (xs : List Answer) (ws : List ℕ) (j : ℕ) → map given xs ≡ map held ws ++ replicate j filler →
+    (words-in xs ≡ ws ++ replicate j 0xffff) × (hollows-in xs ≡ j)
+held-then-hollow xs ws j e =
+    (words-given xs ∙ ap (map (λ (g : Given). g .word)) e ∙ words-told ws j, hollows-given xs ∙ ap hollows-of e ∙ hollows-told ws j)
+
+-- Answers that give all words as held hand out just these, and none is hollow.
 pub all-held : (xs : List Answer) (ws : List ℕ) → map given xs ≡ map held ws → (words-in xs ≡ ws) × (hollows-in xs ≡ 0)
 all-held xs ws e =
-    (words-given xs ∙ ap (map (λ (g : Given). g .word)) e ∙ words-held ws, hollows-given xs ∙ ap hollows-of e ∙ none-hollow ws)
+    let told = held-then-hollow xs ws 0 (e ∙ sym (append-nil (map held ws))) in
+    (told .0 ∙ append-nil ws, told .1)
 
 -- ---- reads
 module _ (r : Registers) (m : List ℕ) (k : Memory m) (i : incr (r .control) ≡ true) where
@@ -130,7 +140,7 @@ module _ (r : Registers) (m : List ℕ) (k : Memory m) (i : incr (r .control) �
 
 -- ---- writes
 -- the registers after n writes, the last of them of the word w
-abbrev wrote : Registers → ℕ → ℕ → Registers
+abbrev pub wrote : Registers → ℕ → ℕ → Registers
 wrote r n w = record { pointer = stepped-by n (r .pointer); latch = w; control = r .control; hollow = false }
 
 one-straight : (r : Registers) (m : List ℕ) (w : ℕ) → length m ≤ 32768 → incw (r .control) ≡ true → w < 65536 → word-at (r .pointer) .0 < length m →

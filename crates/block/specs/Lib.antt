@@ -1,4 +1,3 @@
--- What blocks mean, in reading order.
 pub mod Block
--- ---- what only private functions state
 pub mod Parts
+pub mod InPlainWords

@@ -4,15 +4,12 @@ use borrow.Author.Needs.{needs}
 use Prim.Native.Nat.{ℕ, _+_, _-_, _≤_}
 use native.Mathlib.Omega.{arith}
 use mathlib.Core.Path.{_≡_, sym, ap, _∙_}
-use mathlib.Core.List.{List, _++_}
 use mathlib.Core.Logic.{_≢_}
-use lib.ListN.{length, take, drop}
-use Rattle.port.specs.Runs.{answers}
-use Rattle.port.specs.Table.{reading}
-use Rattle.port.specs.declared.Registers.{Registers}
-use Rattle.block.specs.Block.{machine, block-number, hollows-in}
+use lib.ListN.{length}
+use Rattle.block.specs.Block.{machine, block-number}
 use Rattle.block.specs.Parts.{ReadInto}
-use Rattle.block.proofs.Numbers.{when, read-taken, list-taken, read-barred, list-barred}
+use Rattle.block.proofs.Numbers.{when, read-barred, list-barred}
+use Rattle.block.proofs.Whole.{read-block}
 use Rattle.block.proofs.Lent.{part-length, put-back}
 use Rattle.block.proofs.reading.block_read.Statement.{statement}
 use Rattle.block.proofs.reading.block_read.Tie as tie
@@ -72,20 +69,10 @@ returns-2 : tie.Need-returns-2
 returns-2 c =
     let b = c .before .before .before .before .before in
     let a = c .before .before .before .before .before .before .before .before .before .args in
-    let e = accepted b in
-    let count : length (take (a .place + a .count - a .place) (drop (a .place) (a .list .now))) ≡ a .count = part-length _ _ _ (fits b .2) in
     let read : ReadInto (machine (a .r) (a .memory .now)) (a .count) (c .before .before .before .read-words .result) (c .before .before .before .read-words .last .1 .1 .0) =
-    rw count at (c .before .before .before .read-words .ensures) in
-    record {
-      outcome =
-          ap (λ (x : ℕ). record { number = 0; hollows = x; registers = c .before .before .before .read-words .result .registers }) (read .marked) ∙
-          ap (λ (q : Registers). record { number = 0; hollows = hollows-in (answers (machine (a .r) (a .memory .now)) (reading (a .count))); registers = q }) (read .registers) ∙
-          sym (read-taken (a .r) _ _ _ _ e);
-      list =
-          put-back (a .place) (a .count) (a .list .now) (c .before .before .before .read-words .last .1 .1 .0) ∙
-          ap (λ (ws : List ℕ). take (a .place) (a .list .now) ++ (ws ++ drop (a .place + a .count) (a .list .now))) (read .words) ∙
-          sym (list-taken (a .r) _ _ _ _ e);
-    }
+    rw (part-length (a .place) (a .count) (a .list .now) (fits b .2)) at (c .before .before .before .read-words .ensures) in
+    rw (put-back (a .place) (a .count) (a .list .now) (c .before .before .before .read-words .last .1 .1 .0))
+    (read-block (a .r) (a .memory .now) (a .list .now) (a .place) (a .count) (accepted b) (c .before .before .before .read-words .result) (c .before .before .before .read-words .last .1 .1 .0) read)
 
 pub block-read-spec : {M : Type 1} → statement M
 block-read-spec =

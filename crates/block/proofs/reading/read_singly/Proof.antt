@@ -5,7 +5,7 @@ use native.Mathlib.Omega.{arith}
 use mathlib.Core.Path.{_≡_, refl, _∙_}
 use mathlib.Core.Bool.{cond}
 use mathlib.Core.List.{List, [], _∷_, _++_}
-use lib.ListN.{length, take, set, getD, length-set}
+use lib.ListN.{length, take, set, length-set}
 use lib.Seq.{take-length, take-suc-set}
 use borrow.Author.Needs.{needs}
 use Rattle.port.specs.Cycle.{standing}

@@ -1,7 +1,7 @@
 -- `block::reading::read_straight` meets its contract: the copied words, with the word already held in front, are what the reads
 -- hand out (`copied-read`).
 use borrow.Author.Needs.{needs}
-use Prim.Native.Nat.{ℕ, _+_, _<_}
+use Prim.Native.Nat.{_+_, _<_}
 use native.Mathlib.Omega.{arith}
 use mathlib.Core.Path.{_≡_, sym, ap, _∙_}
 use lib.ListN.{length}

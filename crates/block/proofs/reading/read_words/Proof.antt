@@ -1,10 +1,9 @@
 -- `block::reading::read_words` meets its contract: the reads that go straight and then the others are all of them (`join-reads`),
 -- and so are the two parts that were lent.
 use borrow.Author.Needs.{needs}
-use Prim.Native.Nat.{ℕ, _+_, _-_, _≤_}
+use Prim.Native.Nat.{_+_, _-_, _≤_}
 use native.Mathlib.Omega.{arith}
 use mathlib.Core.Path.{_≡_}
-use mathlib.Core.List.{List, _++_}
 use lib.ListN.{length}
 use Rattle.words.specs.Addresses.{word-at}
 use Rattle.control.specs.Control.{incr}

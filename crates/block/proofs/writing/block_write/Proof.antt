@@ -5,11 +5,9 @@ use native.Mathlib.Omega.{arith}
 use mathlib.Core.Path.{_≡_, sym, ap, _∙_}
 use mathlib.Core.Logic.{_≢_}
 use lib.ListN.{length}
-use Rattle.port.specs.Runs.{answers}
-use Rattle.port.specs.declared.Registers.{Registers}
-use Rattle.block.specs.Block.{machine, block-number, writing, stretch, empties-in}
-use Rattle.block.specs.Parts.{WrittenFrom}
-use Rattle.block.proofs.Numbers.{when, write-taken, memory-taken, write-barred, memory-barred}
+use Rattle.block.specs.Block.{block-number}
+use Rattle.block.proofs.Numbers.{when, write-barred, memory-barred}
+use Rattle.block.proofs.Whole.{write-block}
 use Rattle.block.proofs.Lent.{part-length, part-is}
 use Rattle.block.proofs.writing.block_write.Statement.{statement}
 use Rattle.block.proofs.writing.block_write.Tie as tie
@@ -68,18 +66,8 @@ same-length c = search needs
 returns-2 : tie.Need-returns-2
 returns-2 c =
     let a = c .before .before .before .before .before .before .before .before .before .before .args in
-    let s = machine (a .r) (a .memory .now) in
-    let ws = stretch (a .list .now) (a .place) (a .count) in
-    let e = accepted (c .before .before .before .before .before .before) in
-    let written : WrittenFrom s ws (c .before .before .before .write-words .result) (c .before .before .before .write-words .last .1 .0) =
-    rw (part-is (a .place) (a .count) (a .list .now)) at (c .before .before .before .write-words .ensures) in
-    record {
-      outcome =
-          ap (λ (x : ℕ). record { number = 0; empties = x; registers = c .before .before .before .write-words .result .registers }) (written .marked) ∙
-          ap (λ (q : Registers). record { number = 0; empties = empties-in (answers s (writing ws)); registers = q }) (written .registers) ∙
-          sym (write-taken (a .r) _ _ _ _ e);
-      memory = written .memory ∙ sym (memory-taken (a .r) _ _ _ _ e);
-    }
+    write-block (a .r) (a .memory .now) (a .list .now) (a .place) (a .count) (accepted (c .before .before .before .before .before .before)) (c .before .before .before .write-words .result) _
+    (rw (part-is (a .place) (a .count) (a .list .now)) at (c .before .before .before .write-words .ensures))
 
 pub block-write-spec : {M : Type 1} → statement M
 block-write-spec =

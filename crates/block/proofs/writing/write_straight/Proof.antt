@@ -1,8 +1,8 @@
 -- `block::writing::write_straight` meets its contract: the copied words are what the writes store (`copied-write`).
 use borrow.Author.Needs.{needs}
-use Prim.Native.Nat.{ℕ, _+_, _≤_}
+use Prim.Native.Nat.{_+_, _≤_}
 use native.Mathlib.Omega.{arith}
-use mathlib.Core.Path.{_≡_, ap, _∙_}
+use mathlib.Core.Path.{_≡_, ap}
 use lib.ListN.{length}
 use Rattle.words.specs.Addresses.{word-at}
 use Rattle.words.specs.declared.WordNumber.{WordNumber}

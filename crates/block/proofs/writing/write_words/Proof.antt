@@ -1,10 +1,7 @@
 -- `block::writing::write_words` meets its contract: the writes that go straight and then the others are all of them
 -- (`join-writes`), and so are the words of the two parts.
 use borrow.Author.Needs.{needs}
-use Prim.Native.Nat.{ℕ, _≤_}
 use native.Mathlib.Omega.{arith}
-use mathlib.Core.Path.{_≡_, refl}
-use mathlib.Core.List.{List, _++_}
 use lib.ListN.{length, take, drop, length-drop, take-append-drop}
 use lib.Seq.{length-take-le}
 use Rattle.words.specs.Addresses.{word-at}

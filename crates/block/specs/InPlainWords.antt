@@ -1,0 +1,25 @@
+-- A block place by place, in plain words: what its laws say of it.
+--   kth-read s k        what the k-th single read answers, counted from 0
+--   kth-write s ws k    what the k-th single write answers, of the words ws
+--   number-below n f    for how many k below n f says yes
+use Prim.Native.Nat.{ℕ, zero, suc, _+_}
+use mathlib.Core.Bool.{Bool, cond}
+use mathlib.Core.List.{List}
+use lib.ListN.{getD, take}
+use Rattle.port.specs.Runs.{Machine, answer-of, ends}
+use Rattle.port.specs.Table.{reading}
+use Rattle.port.specs.declared.Access.the-variants.{Read, Write}
+use Rattle.port.specs.declared.Answer.{Answer}
+use Rattle.block.specs.Block.{writing}
+
+-- after the k reads before it, one by one
+abbrev pub kth-read : Machine → ℕ → Answer
+kth-read s k = answer-of (ends s (reading k)) (Read 2 3)
+
+-- after the k writes before it, one by one
+abbrev pub kth-write : Machine → List ℕ → ℕ → Answer
+kth-write s ws k = answer-of (ends s (writing (take k ws))) (Write 2 3 (getD ws k 0))
+
+unfoldable pub number-below : ℕ → (ℕ → Bool) → ℕ
+number-below zero f = 0
+number-below (suc n) f = cond (f 0) 1 0 + number-below n (λ k. f (suc k))
