@@ -55,8 +55,7 @@ module _ (s : Machine) (k : Memory (s .memory)) (i : incr (s .registers .control
       let m = s .memory in
       let e = when (length m) (length l) place n .done .1 (k .size, f .0, f .1) in
       let o = read-taken r m l place n e in
-      let x = words-in (answers (machine r m) (reading n)) in
-      (
+      let x = words-in (answers (machine r m) (reading n)) in (
         ap (λ (x : BlockRead). x .number) o,
         rw (list-taken r m l place n e) (laid-stretch place n l x (f .1) (filled-length (machine r m) n)) ∙ told .0,
         ap (λ (x : BlockRead). x .hollows) o ∙ told .1,

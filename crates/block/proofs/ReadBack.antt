@@ -47,9 +47,10 @@ Words l = (j : ℕ) → getD l j 0 < 65536
 
 stretch-words : (l : List ℕ) (place n : ℕ) → Words l → Words (stretch l place n)
 stretch-words l place n w j =
+    let none : n ≤ j → length (stretch l place n) ≤ j = λ h. simp (length-take, length-drop) (omega arith) in
     ⊎-elim
     (λ h. rw (getD-take n (drop place l) j 0 h ∙ getD-drop place l j 0) (w (place + j)))
-    (λ h. rw (List·getD-eq-default (stretch l place n) 0 {n = j} (simp (length-take, length-drop) (omega arith))) (omega arith))
+    (λ h. rw (List·getD-eq-default (stretch l place n) 0 (none h)) (omega arith))
     (less-or-not j n)
 
 module _ (r : Registers) (m l : List ℕ) (place n : ℕ) (k : Memory m) (i : incw (r .control) ≡ true) (w : Words l)
@@ -94,9 +95,9 @@ module _ (r : Registers) (m l : List ℕ) (place n : ℕ) (k : Memory m) (i : in
       ⊎-elim
       (λ h. rw (words-laid .before j h) (k .words j))
       (λ h. ⊎-elim
-        (λ q. let e : x + (j - x) ≡ j = omega arith in rw e at (inside (j - x) (omega arith)))
-        (λ q. rw (words-laid .behind j q) (k .words j))
-        (less-or-not j (x + n)))
+      (λ q. let e : x + (j - x) ≡ j = omega arith in rw e at (inside (j - x) (omega arith)))
+      (λ q. rw (words-laid .behind j q) (k .words j))
+      (less-or-not j (x + n)))
       (less-or-not j x)
 
   -- And a block reads them back, into any list with room for them.

@@ -123,8 +123,7 @@ module _ (r : Registers) (m l : List ℕ) (place count : ℕ) where
       let s = machine r m in
       let e = sym (read-number r m l place count) ∙ n in
       let fits = when (length m) (length l) place count .done .0 e .2 in
-      let alike = sym (answers-alike s (reading count)) in
-      (
+      let alike = sym (answers-alike s (reading count)) in (
         rw (list-taken r m l place count e) (laid-stretch place count l (words-in (answers s (reading count))) fits (filled-length s count)) ∙ ap words-in alike,
         ap (λ (x : BlockRead). x .hollows) (read-taken r m l place count e) ∙ ap hollows-in alike,
       )
