@@ -1,0 +1,221 @@
+// A day at the bench, each access done in place: document 01's K1 to K4, a table read byte by byte in either order, and refusals.
+// Each access prints a line: what it was, its answer, and the pointer that it left in the record. An accepted read of HSTDATA prints
+// `held` or `hollow`, any other line `-`.
+// The stored output was worked out by hand from document 01, "The four host registers", "Numbers returned" and "Checked examples".
+ghost use Rattle.port.specs.Host.{Accessed};
+ghost use Rattle.port.specs.declared.Access.the-variants.{Read, Write};
+use port::Access;
+use port::Answer;
+use port::Cycle;
+use port::Outcome;
+use port::Registers;
+
+fn print_access(name: &[u8], register: u32, lanes: u32) {
+    io::write_all(1, name);
+    io::write_all(1, b" ");
+    io::print_decimal(1, register as u64);
+    io::write_all(1, b" lanes ");
+    io::print_decimal(1, lanes as u64);
+}
+
+fn print_mark(shown: bool, hollow: bool) {
+    if shown {
+        if hollow {
+            io::write_all(1, b", hollow");
+        } else {
+            io::write_all(1, b", held");
+        }
+    } else {
+        io::write_all(1, b", -");
+    }
+}
+
+fn print_cycle(cycle: Cycle) {
+    match cycle {
+        Cycle::None => {
+            io::write_all(1, b", cycle none");
+        }
+        Cycle::Inside => {
+            io::write_all(1, b", cycle inside");
+        }
+        Cycle::Empty => {
+            io::write_all(1, b", cycle empty");
+        }
+    }
+}
+
+fn print_answer(reads_data: bool, x: Answer) {
+    let cycle = x.cycle;
+    io::write_all(1, b": number ");
+    io::print_decimal(1, x.number as u64);
+    io::write_all(1, b", word ");
+    io::print_hex(1, x.word as u64, 4);
+    print_mark(words::both(reads_data, x.number == 0), x.hollow);
+    print_cycle(cycle);
+}
+
+fn print_pointer(r: Registers) {
+    let pointer = r.pointer;
+    io::write_all(1, b", pointer ");
+    io::print_hex(1, pointer.0 as u64, 8);
+    io::write_all(1, b"\n");
+}
+
+// A read in place, printed.
+fn read(r: Registers, memory: &mut [u16], register: u32, lanes: u32) -> Outcome
+    ensures { λ o. ⌜ Accessed r (now (memory .entry)) (Read register lanes) o (now (memory .exit)) ⌝ }
+{
+    let o = bench::host_access_by_lending(r, memory, Access::Read { register, lanes });
+    print_access(b"read", register, lanes);
+    print_answer(register == 2, o.answer);
+    print_pointer(o.registers);
+    o
+}
+
+// A write in place, printed.
+fn write(r: Registers, memory: &mut [u16], register: u32, lanes: u32, word: u16) -> Outcome
+    ensures { λ o. ⌜ Accessed r (now (memory .entry)) (Write register lanes word) o (now (memory .exit)) ⌝ }
+{
+    let o = bench::host_access_by_lending(
+        r,
+        memory,
+        Access::Write {
+            register,
+            lanes,
+            word,
+        },
+    );
+    print_access(b"write", register, lanes);
+    io::write_all(1, b" word ");
+    io::print_hex(1, word as u64, 4);
+    print_answer(false, o.answer);
+    print_pointer(o.registers);
+    o
+}
+
+fn print_word(word: u16) {
+    io::write_all(1, b" ");
+    io::print_hex(1, word as u64, 4);
+}
+
+fn print_words(memory: &[u16; 3]) {
+    io::write_all(1, b"memory");
+    print_word(memory[0]);
+    print_word(memory[1]);
+    print_word(memory[2]);
+    io::write_all(1, b"\n");
+}
+
+fn run_table() {
+    io::write_all(1, b"K1 and K2: three words, and a read past them\n");
+    let mut memory = [0x1111, 0x2222, 0x3333];
+    let woken = port::reset();
+    let o = write(woken.registers, &mut memory, 3, 3, 0x1000);
+    let o = write(o.registers, &mut memory, 0, 3, 0);
+    let o = write(o.registers, &mut memory, 1, 3, 0);
+    let o = read(o.registers, &mut memory, 2, 3);
+    let o = read(o.registers, &mut memory, 2, 3);
+    let o = read(o.registers, &mut memory, 2, 3);
+    read(o.registers, &mut memory, 2, 3);
+    print_words(&memory);
+}
+
+fn run_store() {
+    io::write_all(1, b"K3: a word stored, then two reads\n");
+    let mut memory = [0x1111, 0x2222, 0x3333];
+    let woken = port::reset();
+    let o = write(woken.registers, &mut memory, 3, 3, 0x0800);
+    let o = write(o.registers, &mut memory, 0, 3, 0);
+    let o = write(o.registers, &mut memory, 1, 3, 0);
+    let o = write(o.registers, &mut memory, 2, 3, 0xaaaa);
+    let o = read(o.registers, &mut memory, 2, 3);
+    read(o.registers, &mut memory, 2, 3);
+    print_words(&memory);
+}
+
+fn run_top() {
+    io::write_all(1, b"K4: the pointer steps from the top to 0\n");
+    let mut memory = [0x1111, 0x2222, 0x3333];
+    let woken = port::reset();
+    let o = write(woken.registers, &mut memory, 3, 3, 0x1000);
+    let o = write(o.registers, &mut memory, 0, 3, 0xfff0);
+    let o = write(o.registers, &mut memory, 1, 3, 0xffff);
+    let o = read(o.registers, &mut memory, 2, 3);
+    read(o.registers, &mut memory, 2, 3);
+}
+
+fn run_low_byte_first() {
+    io::write_all(1, b"two words byte by byte, LBL 0\n");
+    let mut memory = [0x1234, 0x5678];
+    let woken = port::reset();
+    let o = write(woken.registers, &mut memory, 3, 3, 0x1000);
+    let o = write(o.registers, &mut memory, 0, 1, 0);
+    let o = write(o.registers, &mut memory, 0, 2, 0);
+    let o = write(o.registers, &mut memory, 1, 1, 0);
+    let o = write(o.registers, &mut memory, 1, 2, 0);
+    let o = read(o.registers, &mut memory, 2, 1);
+    let o = read(o.registers, &mut memory, 2, 2);
+    let o = read(o.registers, &mut memory, 2, 1);
+    let o = read(o.registers, &mut memory, 2, 2);
+    let o = read(o.registers, &mut memory, 2, 1);
+    read(o.registers, &mut memory, 2, 2);
+}
+
+fn run_high_byte_first() {
+    io::write_all(1, b"the same, LBL 1\n");
+    let mut memory = [0x1234, 0x5678];
+    let woken = port::reset();
+    let o = write(woken.registers, &mut memory, 3, 3, 0x3000);
+    let o = write(o.registers, &mut memory, 1, 2, 0);
+    let o = write(o.registers, &mut memory, 1, 1, 0);
+    let o = write(o.registers, &mut memory, 0, 2, 0);
+    let o = write(o.registers, &mut memory, 0, 1, 0);
+    let o = read(o.registers, &mut memory, 2, 2);
+    let o = read(o.registers, &mut memory, 2, 1);
+    let o = read(o.registers, &mut memory, 2, 2);
+    let o = read(o.registers, &mut memory, 2, 1);
+    let o = read(o.registers, &mut memory, 2, 2);
+    read(o.registers, &mut memory, 2, 1);
+}
+
+// The read after them shows the pointer, the word and the mark that stood before.
+fn run_refusals() {
+    io::write_all(1, b"refusals change nothing\n");
+    let mut memory = [0x1111, 0x2222, 0x3333];
+    let woken = port::reset();
+    let o = write(woken.registers, &mut memory, 3, 3, 0x1800);
+    let o = write(o.registers, &mut memory, 0, 3, 0x0010);
+    let o = write(o.registers, &mut memory, 1, 3, 0);
+    let o = read(o.registers, &mut memory, 4, 3);
+    let o = read(o.registers, &mut memory, 2, 0);
+    let o = write(o.registers, &mut memory, 2, 4, 0xaaaa);
+    let o = write(o.registers, &mut memory, 4, 4, 0xaaaa);
+    read(o.registers, &mut memory, 2, 3);
+    print_words(&memory);
+}
+
+fn run_lengths() {
+    io::write_all(1, b"the longest memory, one word more, and none\n");
+    let mut longest = [0x4444u16; 32768];
+    let mut longer = [0x5555u16; 32769];
+    let mut none = [0u16; 0];
+    let woken = port::reset();
+    let o = write(woken.registers, &mut longest, 3, 3, 0x1800);
+    let o = write(o.registers, &mut longest, 0, 3, 0xfff0);
+    let o = write(o.registers, &mut longest, 1, 3, 0x0007);
+    let o = read(o.registers, &mut longer, 2, 3);
+    let o = write(o.registers, &mut longer, 4, 4, 0xaaaa);
+    let o = write(o.registers, &mut longest, 2, 3, 0xaaaa);
+    let o = read(o.registers, &mut longest, 2, 3);
+    read(o.registers, &mut none, 2, 3);
+}
+
+fn main() {
+    run_table();
+    run_store();
+    run_top();
+    run_low_byte_first();
+    run_high_byte_first();
+    run_refusals();
+    run_lengths();
+}
