@@ -4,7 +4,7 @@ use Prim.Native.Nat.{ℕ, zero, suc, _+_, _≤_}
 use native.Mathlib.Nat.{zero-add, suc-add, add-assoc}
 use native.Mathlib.Omega.{arith}
 use mathlib.Core.Path.{_≡_, refl, sym, ap, _∙_}
-use mathlib.Core.Bool.{Bool, true, false, cond}
+use mathlib.Core.Bool.{Bool, true, false}
 use mathlib.Core.List.{List, [], _∷_, _++_, map-append}
 use lib.ListN.{length, length-map}
 use Rattle.port.specs.Runs.{Machine, Sixteen, load, save, on, answer-of, after, answers, ends}
@@ -13,7 +13,7 @@ use Rattle.port.specs.declared.Registers.{Registers}
 use Rattle.port.specs.declared.Answer.{Answer}
 use Rattle.port.specs.declared.Access.the-variants.{Read}
 use Rattle.port.proofs.DataRegister.{read-keeps-memory}
-use Rattle.block.specs.Block.{machine, writing, tally, words-in, hollows-in, is-empty, empties-in}
+use Rattle.block.specs.Block.{machine, writing, counted, tally, words-in, hollows-in, is-empty, empties-in}
 use Rattle.block.specs.Parts.{ReadInto, WrittenFrom}
 use Rattle.block.specs.declared.Run.{Run}
 
@@ -37,7 +37,7 @@ answers-length s [] = refl
 answers-length s (x ∷ xs) = ap suc (answers-length (after s (on 3 x)) xs)
 
 -- ---- counting marks
-one-more : (b : Bool) {n k : ℕ} → n ≤ k → cond b 1 0 + n ≤ suc k
+one-more : (b : Bool) {n k : ℕ} → n ≤ k → counted b + n ≤ suc k
 one-more true h = omega arith
 one-more false h = omega arith
 
@@ -46,7 +46,7 @@ module _ (marked : Answer → Bool) where
   pub tally-join : (xs ys : List Answer) → tally marked (xs ++ ys) ≡ tally marked xs + tally marked ys
   unfolding tally
   tally-join [] ys = sym (zero-add (tally marked ys))
-  tally-join (x ∷ xs) ys = rw (tally-join xs ys) (sym (add-assoc (cond (marked x) 1 0) (tally marked xs) (tally marked ys)))
+  tally-join (x ∷ xs) ys = rw (tally-join xs ys) (sym (add-assoc (counted (marked x)) (tally marked xs) (tally marked ys)))
 
   -- There are never more marks than answers.
   pub tally-most : (xs : List Answer) → tally marked xs ≤ length xs

@@ -4,7 +4,7 @@ use Prim.Native.Nat.{ℕ, _≤_, _<_}
 use native.Mathlib.Nat.{add-zero}
 use native.Mathlib.Omega.{arith}
 use mathlib.Core.Path.{_≡_, refl, sym, ap, _∙_}
-use mathlib.Core.Bool.{Bool, true, false, cond, not}
+use mathlib.Core.Bool.{Bool, true, false, not}
 use mathlib.Core.List.{List, [], _∷_}
 use mathlib.Core.Logic.{⊎-elim}
 use lib.ListN.{length}
@@ -26,7 +26,7 @@ use Rattle.port.proofs.Numbers.{numbered}
 use Rattle.port.proofs.NoMiss.{rule, true-mark}
 use Rattle.port.proofs.Leaves.{after-storing}
 use Rattle.port.proofs.DataRegister.{read-fetches, write-stores, write-steps}
-use Rattle.block.specs.Block.{machine, tally, is-empty}
+use Rattle.block.specs.Block.{machine, counted, tally, is-empty}
 use Rattle.block.specs.Parts.{ReadInto, WrittenFrom}
 
 module _ (r : Registers) (m : List ℕ) (few : length m ≤ 32768) where
@@ -37,13 +37,13 @@ module _ (r : Registers) (m : List ℕ) (few : length m ≤ 32768) where
 
   -- It hands out the word that is held, with its mark, and then fetches.
   pub one-read : r .latch < 65536 →
-      ReadInto (machine r m) 1 (record { registers = standing m (r .control) (ahead r); marked = cond (r .hollow) 1 0 }) (r .latch ∷ [])
+      ReadInto (machine r m) 1 (record { registers = standing m (r .control) (ahead r); marked = counted (r .hollow) }) (r .latch ∷ [])
   unfolding reading answers ends tally answer-of after
   one-read h =
       let says = rule r m 3 read-accepted in
       record {
         registers = sym (read-fetches r m 3 read-accepted (both-close (r .control)));
-        marked = ap (λ (b : Bool). cond {A = ℕ} b 1 0) (sym (says .hollow)) ∙ sym (add-zero _);
+        marked = ap (λ (b : Bool). counted b) (sym (says .hollow)) ∙ sym (add-zero _);
         words = ap (λ (w : ℕ). w ∷ []) (sym (says .word ∙ shown-whole (r .latch) h));
       }
 
@@ -67,7 +67,7 @@ module _ (r : Registers) (m : List ℕ) (few : length m ≤ 32768) where
     -- It stores the word, holds it, and then steps; beyond memory the store falls empty.
     pub one-write :
         WrittenFrom (machine r m) (w ∷ [])
-        (record { registers = stepped (incw (r .control)) (with-latch r w false); marked = cond (not (in-memory m (word-at (r .pointer)))) 1 0 })
+        (record { registers = stepped (incw (r .control)) (with-latch r w false); marked = counted (not (in-memory m (word-at (r .pointer)))) })
         (store-at m (word-at (r .pointer)) w)
     unfolding answers ends tally answer-of after stepped
     one-write =
@@ -75,6 +75,6 @@ module _ (r : Registers) (m : List ℕ) (few : length m ≤ 32768) where
         let closing = both-close (r .control) in
         record {
           registers = sym (write-steps r m 3 w write-accepted closing ∙ ap (λ (x : ℕ). after-storing r x (incw (r .control))) whole);
-          marked = ap (λ (b : Bool). cond {A = ℕ} b 1 0) (sym falls) ∙ sym (add-zero _);
+          marked = ap (λ (b : Bool). counted b) (sym falls) ∙ sym (add-zero _);
           memory = sym (write-stores r m 3 w write-accepted closing ∙ ap (store-at m (word-at (r .pointer))) whole);
         }

@@ -9,19 +9,17 @@ use mathlib.Core.Logic.{⊎-elim}
 use lib.ListN.{length, getD, take, drop, length-take, length-drop, List·getD-eq-default}
 use lib.Seq.{getD-take, getD-drop}
 use Rattle.words.specs.Addresses.{word-at}
-use Rattle.words.specs.declared.BitAddress.{BitAddress}
 use Rattle.words.proofs.Choices.{less-or-not}
 use Rattle.control.specs.Control.{incr, incw}
-use Rattle.port.specs.Runs.{Machine, answers, ends}
 use Rattle.port.specs.Table.{Memory, loaded, table, Lies}
 use Rattle.port.specs.declared.Registers.{Registers}
-use Rattle.block.specs.Block.{machine, block-number, writing, stretch, empties-in, block-write, memory-left, block-read, list-after}
+use Rattle.block.specs.Block.{machine, block-number, stretch, block-write, memory-left, block-read, list-after}
 use Rattle.block.specs.Parts.{stepped-by, WrittenFrom}
 use Rattle.block.specs.declared.BlockWrite.{BlockWrite}
 use Rattle.block.proofs.Numbers.{when, write-taken, memory-taken}
 use Rattle.block.proofs.Lent.{laid-length, laid-inside, laid-stretch, laid-before, laid-behind}
 use Rattle.block.proofs.Straight.{wrote, copied-write}
-use Rattle.block.proofs.EveryWordOfABlock.{EveryWord, every-word-of-a-block}
+use Rattle.block.proofs.EveryWordOfABlock.{every-word-of-a-block}
 
 -- A block write with INCW set, of n words that find room in memory from the pointer's word on: it is done, no store falls empty,
 -- the words lie there, all else of memory stays, the control register stays, and the pointer stands just past them.

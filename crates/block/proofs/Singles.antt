@@ -4,7 +4,6 @@
 use Prim.Native.Nat.{ℕ, zero, suc, _+_, _<_, _≤_}
 use native.Mathlib.Omega.{arith}
 use mathlib.Core.Path.{_≡_, refl, sym, ap, _∙_}
-use mathlib.Core.Bool.{cond}
 use mathlib.Core.List.{List, [], _∷_}
 use lib.ListN.{length, getD, drop}
 use lib.ListN.{length-drop, length-take, length-map}
@@ -14,7 +13,7 @@ use Rattle.port.specs.Table.{reading}
 use Rattle.port.specs.declared.Registers.{Registers}
 use Rattle.port.specs.declared.Access.the-variants.{Read, Write}
 use Rattle.port.proofs.Alike.{answers-alike, ends-alike}
-use Rattle.block.specs.Block.{machine, writing, stretch, tally, words-in, hollows-in, is-empty, empties-in}
+use Rattle.block.specs.Block.{machine, writing, stretch, counted, tally, words-in, hollows-in, is-empty, empties-in}
 use Rattle.block.specs.Block.{block-read, list-after, block-write, memory-left}
 use Rattle.block.specs.InPlainWords.{kth-read, kth-write, number-below}
 use Rattle.block.specs.declared.BlockRead.{BlockRead}
@@ -35,14 +34,14 @@ word-at-place (suc n) (suc k) s h = word-at-place n k (after s (Read 2 3)) (omeg
 hollows-counted : (n : ℕ) (s : Machine) → hollows-in (answers s (reading n)) ≡ number-below n (λ k. kth-read s k .hollow)
 unfolding answers reading ends tally number-below
 hollows-counted zero s = refl
-hollows-counted (suc n) s = ap (λ (x : ℕ). cond (answer-of s (Read 2 3) .hollow) 1 0 + x) (hollows-counted n (after s (Read 2 3)))
+hollows-counted (suc n) s = ap (λ (x : ℕ). counted (answer-of s (Read 2 3) .hollow) + x) (hollows-counted n (after s (Read 2 3)))
 
 -- The empty stores are counted over the writes.
 empties-counted : (ws : List ℕ) (s : Machine) → empties-in (answers s (writing ws)) ≡ number-below (length ws) (λ k. is-empty (kth-write s ws k .cycle))
 unfolding answers ends tally number-below
 empties-counted [] s = refl
 empties-counted (w ∷ ws) s =
-    ap (λ (x : ℕ). cond (is-empty (answer-of s (Write 2 3 w) .cycle)) 1 0 + x) (empties-counted ws (after s (Write 2 3 w)))
+    ap (λ (x : ℕ). counted (is-empty (answer-of s (Write 2 3 w) .cycle)) + x) (empties-counted ws (after s (Write 2 3 w)))
 
 -- A read hands out a word for each place.
 pub filled-length : (s : Machine) (n : ℕ) → length (words-in (answers s (reading n))) ≡ n

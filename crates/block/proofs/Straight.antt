@@ -23,7 +23,7 @@ use Rattle.port.specs.declared.Registers.{Registers}
 use Rattle.port.specs.declared.Answer.{Answer}
 use Rattle.port.proofs.Handed.{on-by-gains, reads-answer, reads-end}
 use Rattle.port.proofs.TableWords.{table-handed}
-use Rattle.block.specs.Block.{machine, tally, words-in, hollows-in}
+use Rattle.block.specs.Block.{machine, counted, tally, words-in, hollows-in}
 use Rattle.block.specs.Parts.{stepped-by, ReadInto, WrittenFrom}
 use Rattle.block.proofs.Joining.{join-reads, join-writes}
 use Rattle.block.proofs.OneAccess.{one-read, one-write}
@@ -50,12 +50,12 @@ words-given (x ∷ xs) = ap (λ (l : List ℕ). x .word ∷ l) (words-given xs)
 
 hollows-of : List Given → ℕ
 hollows-of [] = 0
-hollows-of (g ∷ gs) = cond (g .hollow) 1 0 + hollows-of gs
+hollows-of (g ∷ gs) = counted (g .hollow) + hollows-of gs
 
 hollows-given : (xs : List Answer) → hollows-in xs ≡ hollows-of (map given xs)
 unfolding tally hollows-of
 hollows-given [] = refl
-hollows-given (x ∷ xs) = ap (λ (n : ℕ). cond (x .hollow) 1 0 + n) (hollows-given xs)
+hollows-given (x ∷ xs) = ap (λ (n : ℕ). counted (x .hollow) + n) (hollows-given xs)
 
 words-told : (ws : List ℕ) (j : ℕ) → map (λ (g : Given). g .word) (map held ws ++ replicate j filler) ≡ ws ++ replicate j 0xffff
 words-told [] zero = refl
@@ -111,10 +111,10 @@ module _ (r : Registers) (m : List ℕ) (k : Memory m) (i : incr (r .control) �
 
   -- The first word is the one already held; the others are copied from memory, and so is the word that is held in the end.
   pub straight-read : (n : ℕ) → r .latch < 65536 → word-at (r .pointer) .0 + suc n < length m →
-      ReadInto s (suc n) (record { registers = moved (suc n); marked = cond (r .hollow) 1 0 }) (r .latch ∷ table m (step (r .pointer)) n)
+      ReadInto s (suc n) (record { registers = moved (suc n); marked = counted (r .hollow) }) (r .latch ∷ table m (step (r .pointer)) n)
   straight-read n f h =
       let a = r .pointer in
-      let first : ReadInto s 1 (record { registers = standing m (r .control) (step a); marked = cond (r .hollow) 1 0 }) (r .latch ∷ []) =
+      let first : ReadInto s 1 (record { registers = standing m (r .control) (step a); marked = counted (r .hollow) }) (r .latch ∷ []) =
       rw i at (one-read r m (k .size) f) in
       let both = join-reads r m 1 n _ _ _ _ first (later n (step a) (omega (arith, k .size))) in
       let count : 1 + n ≡ suc n = omega arith in
@@ -131,7 +131,7 @@ module _ (r : Registers) (m : List ℕ) (k : Memory m) (i : incr (r .control) �
 
   -- The same by a copy from the pointer's word on, with the word already held laid over the first.
   pub copied-read : (n : ℕ) → 0 < n → r .latch < 65536 → word-at (r .pointer) .0 + n < length m →
-      ReadInto s n (record { registers = moved n; marked = cond (r .hollow) 1 0 }) (set (take n (drop (word-at (r .pointer) .0) m)) 0 (r .latch))
+      ReadInto s n (record { registers = moved n; marked = counted (r .hollow) }) (set (take n (drop (word-at (r .pointer) .0) m)) 0 (r .latch))
   copied-read zero p f h = absurd (omega (arith, p))
   copied-read (suc n) p f h =
       let x = word-at (r .pointer) .0 in

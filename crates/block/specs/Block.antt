@@ -3,7 +3,8 @@
 --   block-refusal                    number 1 or 10, or 0 where neither applies
 --   writing ws                       two-lane writes of register 2, one for each word
 --   stretch l place count            the words of a list's stretch
---   words-in, hollows-in, empties-in   what answers hand out, and how many of them bear a mark
+--   tally f xs                       how many of the answers xs bear the mark f
+--   words-in, hollows-in, empties-in   what answers hand out, and how many of them are hollow, or fell empty
 --   block-read, list-after           a block read: its outcome, and the list
 --   block-write, memory-left         a block write: its outcome, and the memory
 use Prim.Native.Nat.{ℕ, _+_}
@@ -48,9 +49,14 @@ stretch l place count = take count (drop place l)
 abbrev pub words-in : List Answer → List ℕ
 words-in xs = map (λ x. x .word) xs
 
+-- a mark counts one
+abbrev pub counted : Bool → ℕ
+counted true = 1
+counted false = 0
+
 unfoldable pub tally : (Answer → Bool) → List Answer → ℕ
 tally marked [] = 0
-tally marked (x ∷ rest) = cond (marked x) 1 0 + tally marked rest
+tally marked (x ∷ rest) = counted (marked x) + tally marked rest
 
 -- "The answer counts the hollow words handed out"
 abbrev pub hollows-in : List Answer → ℕ

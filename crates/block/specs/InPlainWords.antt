@@ -3,14 +3,14 @@
 --   kth-write s ws k    what the k-th single write answers, of the words ws
 --   number-below n f    for how many k below n f says yes
 use Prim.Native.Nat.{ℕ, zero, suc, _+_}
-use mathlib.Core.Bool.{Bool, cond}
+use mathlib.Core.Bool.{Bool}
 use mathlib.Core.List.{List}
 use lib.ListN.{getD, take}
 use Rattle.port.specs.Runs.{Machine, answer-of, ends}
 use Rattle.port.specs.Table.{reading}
 use Rattle.port.specs.declared.Access.the-variants.{Read, Write}
 use Rattle.port.specs.declared.Answer.{Answer}
-use Rattle.block.specs.Block.{writing}
+use Rattle.block.specs.Block.{writing, counted}
 
 -- after the k reads before it, one by one
 abbrev pub kth-read : Machine → ℕ → Answer
@@ -22,4 +22,4 @@ kth-write s ws k = answer-of (ends s (writing (take k ws))) (Write 2 3 (getD ws 
 
 unfoldable pub number-below : ℕ → (ℕ → Bool) → ℕ
 number-below zero f = 0
-number-below (suc n) f = cond (f 0) 1 0 + number-below n (λ k. f (suc k))
+number-below (suc n) f = counted (f 0) + number-below n (λ k. f (suc k))

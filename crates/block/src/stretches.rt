@@ -1,6 +1,6 @@
 // Accesses that step from word to word inside memory, taken together: how many there are, their words, their steps.
 ghost use mathlib.Core.Path.{_≡_};
-ghost use mathlib.Core.Bool.{cond};
+ghost use Rattle.block.specs.Block.{counted};
 ghost use Prim.Native.Nat.{_-_, _≤_, min};
 ghost use lib.ListN.{length};
 ghost use Rattle.block.specs.Parts.{stepped-by};
@@ -43,7 +43,7 @@ pub(crate) fn step_by(a: BitAddress, count: usize) -> BitAddress
 
 // Counts a mark.
 pub(crate) fn one_if(mark: bool) -> u16
-    ensures { λ r. ⌜ (r ≡ cond mark 1 0) × (r ≤ 1) ⌝ }
+    ensures { λ r. ⌜ (r ≡ counted mark) × (r ≤ 1) ⌝ }
 {
     if mark { 1 } else { 0 }
 }

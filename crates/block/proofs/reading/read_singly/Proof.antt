@@ -3,7 +3,6 @@ use Prim.Native.Nat.{ℕ, _+_, _-_, _≤_, _<_}
 use native.Mathlib.Numerals.{add-one}
 use native.Mathlib.Omega.{arith}
 use mathlib.Core.Path.{_≡_, refl, _∙_}
-use mathlib.Core.Bool.{cond}
 use mathlib.Core.List.{List, [], _∷_, _++_}
 use lib.ListN.{length, take, set, length-set}
 use lib.Seq.{take-length, take-suc-set}
@@ -14,7 +13,7 @@ use Rattle.port.specs.Runs.{answers, ends}
 use Rattle.port.specs.Table.{Memory, reading}
 use Rattle.port.specs.declared.Registers.{Registers}
 use Rattle.port.proofs.Handed.{shows-word}
-use Rattle.block.specs.Block.{machine, tally}
+use Rattle.block.specs.Block.{machine, counted, tally}
 use Rattle.block.specs.Parts.{ReadInto}
 use Rattle.block.proofs.Joining.{join-reads, few-hollows}
 use Rattle.block.proofs.OneAccess.{one-read}
@@ -35,7 +34,7 @@ begun r m part h =
 module _ {r : Registers} {m part₀ part : List ℕ} {q : Registers} {h i : ℕ} (k : Reading r m part₀ part q h i) where
   -- one read more
   turned : Memory m → i < length part₀ →
-      Reading r m part₀ (set part i (q .latch)) (standing m (q .control) (ahead q)) (h + cond (q .hollow) 1 0) (i + 1)
+      Reading r m part₀ (set part i (q .latch)) (standing m (q .control) (ahead q)) (h + counted (q .hollow)) (i + 1)
   unfolding standing
   turned words more =
       let there : i < length part = omega (arith, k .room) in

@@ -63,7 +63,8 @@ mul-t10 c = search needs
 
 shared-slice-read-t20 : tie.Need-shared-slice-read-t20
 shared-slice-read-t20 c =
-    past (c .before .before .before .before .before .before .before .before)
+    let h = past (c .before .before .before .before .before .before .before .before) in
+    omega (arith, h)
 
 one-if-requires : tie.Need-one-if-requires
 one-if-requires c κs = tt

@@ -4,7 +4,7 @@ use Prim.Native.Nat.{ℕ, _+_, _-_, _≤_, _<_}
 use native.Mathlib.Numerals.{add-one}
 use native.Mathlib.Omega.{arith}
 use mathlib.Core.Path.{_≡_, refl, _∙_}
-use mathlib.Core.Bool.{Bool, false, cond, not}
+use mathlib.Core.Bool.{Bool, false, not}
 use mathlib.Core.List.{List, [], _∷_, _++_}
 use lib.ListN.{length, take, getD}
 use lib.Seq.{length-take-le, take-all, take-suc}
@@ -17,7 +17,7 @@ use Rattle.port.specs.Registers.{with-latch}
 use Rattle.port.specs.Cycle.{stepped}
 use Rattle.port.specs.Runs.{answers, ends}
 use Rattle.port.specs.declared.Registers.{Registers}
-use Rattle.block.specs.Block.{machine, tally}
+use Rattle.block.specs.Block.{machine, counted, tally}
 use Rattle.block.specs.Parts.{WrittenFrom}
 use Rattle.block.proofs.Joining.{join-writes, few-empties}
 use Rattle.block.proofs.OneAccess.{one-write}
@@ -44,7 +44,7 @@ module _ {r : Registers} {m₀ part m : List ℕ} {q : Registers} {e i : ℕ} (k
   -- one write more
   turned : length m₀ ≤ 32768 → i < length part → word part i < 65536 →
       Writing r m₀ part (store-at m (word-at (q .pointer)) (word part i)) (stepped (incw (q .control)) (with-latch q (word part i) false))
-      (e + cond (not inside) 1 0) (i + 1)
+      (e + counted (not inside)) (i + 1)
   turned few more fits =
       let small : length m ≤ 32768 = omega (arith, k .size) in
       let words : take (i + 1) part ≡ take i part ++ (word part i ∷ []) = rw add-one (take-suc part i 0 more) in
