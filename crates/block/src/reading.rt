@@ -6,7 +6,6 @@ ghost use lib.ListN.{length};
 ghost use Rattle.words.specs.Addresses.{word-at};
 ghost use Rattle.control.specs.Control.{incr};
 ghost use Rattle.port.specs.Cycle.{standing};
-ghost use Rattle.port.specs.Deeds.{ahead};
 ghost use Rattle.block.specs.Block.{machine, ReadBlock};
 ghost use Rattle.block.specs.Parts.{straight-reads, ReadInto};
 use crate::BlockRead;
@@ -23,18 +22,18 @@ use port::step_if;
 use words::fetch_word;
 use words::word_of;
 
-// The registers after a two-lane read of HSTDATA: stepped where INCR is set, then the fetch.
-pub(crate) fn fetch_next(r: Registers, memory: &[u16]) -> Registers
-    ensures { λ q. ⌜ q ≡ standing (now (memory .entry)) (r .control) (ahead r) ⌝ }
+// The registers after a fetch at the pointer.
+pub(crate) fn fetch_here(r: Registers, memory: &[u16]) -> Registers
+    ensures { λ q. ⌜ q ≡ standing (now (memory .entry)) (r .control) (r .pointer) ⌝ }
 {
-    let q = step_if(steps_reading(r.control), r);
-    let a = q.pointer;
-    let c = settle_fetch(q, fetch_word(memory, word_of(a)));
+    let a = r.pointer;
+    let c = settle_fetch(r, fetch_word(memory, word_of(a)));
     let fetched = c.registers;
     fetched
 }
 
-// Reads one by one: each hands out the word already held, and then fetches.
+// Reads one by one: each hands out the word already held; then the pointer steps where INCR is set, and the fetch follows.
+// The tests stand in the loop itself, so that the compiler takes out of it what does not change.
 pub(crate) fn read_singly(r: Registers, memory: &[u16], part: &mut [u16]) -> Run
     requires { ⌜ (length (now memory) ≤ 32768) × (length (now part) ≤ 4096) ⌝ }
     ensures { λ o. ⌜ ReadInto (machine r (now (memory .entry))) (length (now (part .entry))) o (now (part .exit)) ⌝ }
@@ -44,8 +43,11 @@ pub(crate) fn read_singly(r: Registers, memory: &[u16], part: &mut [u16]) -> Run
     let mut i: usize = 0;
     while i < part.len() {
         part[i] = q.latch;
-        hollows += one_if(q.hollow);
-        q = fetch_next(q, memory);
+        if q.hollow {
+            hollows += 1;
+        }
+        let stepped = step_if(steps_reading(q.control), q);
+        q = fetch_here(stepped, memory);
         i += 1;
     }
     Run {

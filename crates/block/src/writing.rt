@@ -6,7 +6,6 @@ ghost use lib.ListN.{length};
 ghost use Rattle.words.specs.Addresses.{word-at};
 ghost use Rattle.control.specs.Control.{incw};
 ghost use Rattle.port.specs.Registers.{with-latch};
-ghost use Rattle.port.specs.Cycle.{stepped};
 ghost use Rattle.block.specs.Block.{machine, WrittenBlock};
 ghost use Rattle.block.specs.Parts.{straight-writes, WrittenFrom};
 use crate::BlockWrite;
@@ -22,21 +21,21 @@ use port::step_if;
 use words::store_word;
 use words::word_of;
 
-// The registers after a two-lane write of HSTDATA: the word is held, and the pointer steps where INCW is set.
+// The registers with a word that is held in HSTDATA.
 pub(crate) fn hold_word(r: Registers, word: u16) -> Registers
-    ensures { λ q. ⌜ q ≡ stepped (incw (r .control)) (with-latch r word false) ⌝ }
+    ensures { λ q. ⌜ q ≡ with-latch r word false ⌝ }
 {
     let a = r.pointer;
-    let held = Registers {
+    Registers {
         pointer: a,
         latch: word,
         control: r.control,
         hollow: false,
-    };
-    step_if(steps_writing(r.control), held)
+    }
 }
 
-// Writes one by one: each stores its word at the pointer, and then steps.
+// Writes one by one: each stores its word at the pointer and holds it; then the pointer steps where INCW is set.
+// That test stands in the loop itself, so that the compiler takes it out.
 pub(crate) fn write_singly(r: Registers, memory: &mut [u16], part: &[u16]) -> Run
     requires { ⌜ (length (now memory) ≤ 32768) × (length (now part) ≤ 4096) ⌝ }
     ensures { λ o. ⌜ WrittenFrom (machine r (now (memory .entry))) (now (part .entry)) o (now (memory .exit)) ⌝ }
@@ -49,7 +48,7 @@ pub(crate) fn write_singly(r: Registers, memory: &mut [u16], part: &[u16]) -> Ru
         let a = q.pointer;
         let inside = store_word(memory, word_of(a), word);
         empties += one_if(!inside);
-        q = hold_word(q, word);
+        q = step_if(steps_writing(q.control), hold_word(q, word));
         i += 1;
     }
     Run {

@@ -1,8 +1,9 @@
 -- `block::reading::read_singly` meets its contract: after i turns registers, count and the first i places are those of i reads.
 use Prim.Native.Nat.{ℕ, _+_, _-_, _≤_, _<_}
+use native.Mathlib.Nat.{add-zero}
 use native.Mathlib.Numerals.{add-one}
 use native.Mathlib.Omega.{arith}
-use mathlib.Core.Path.{_≡_, refl, _∙_}
+use mathlib.Core.Path.{_≡_, refl, sym, _∙_}
 use mathlib.Core.List.{List, [], _∷_, _++_}
 use lib.ListN.{length, take, set, length-set}
 use lib.Seq.{take-length, take-suc-set}
@@ -17,6 +18,9 @@ use Rattle.block.specs.Block.{machine, counted, tally}
 use Rattle.block.specs.Parts.{ReadInto}
 use Rattle.block.proofs.Joining.{join-reads, few-hollows}
 use Rattle.block.proofs.OneAccess.{one-read}
+use mathlib.Core.Logic.{⊎-elim}
+use mathlib.Core.Bool.{Bool, true, false}
+use Rattle.port.specs.Cycle.{stepped}
 use Rattle.block.proofs.reading.read_singly.Statement.{statement}
 use Rattle.block.proofs.reading.read_singly.Tie as tie
 
@@ -58,6 +62,13 @@ module _ {r : Registers} {m part₀ part : List ℕ} {q : Registers} {h i : ℕ}
       let places : take i part ≡ part = rw e (take-length part) in
       rw (k .room) at (rw (places, e) at (k .read))
 
+-- the count after the test of the mark
+count-one : (b : Bool) (h : ℕ) {h′ : ℕ} → b ≡ true → h′ ≡ h + 1 → h′ ≡ h + counted b
+count-one b h e q = rw e q
+
+count-none : (b : Bool) (h : ℕ) {h′ : ℕ} → b ≡ false → h′ ≡ h → h′ ≡ h + counted b
+count-none b h e q = rw e (q ∙ sym (add-zero h))
+
 abbrev Inv-loop : tie.InvT-loop
 Inv-loop memory part₀ q₀ hollows₀ i₀ part q hollows i =
     Reading q₀ memory part₀ part q hollows i
@@ -78,16 +89,19 @@ slice-write-part : tie.Need-slice-write-part Inv-loop μ-loop
 slice-write-part c =
     search needs
 
-one-if-requires : tie.Need-one-if-requires Inv-loop μ-loop
-one-if-requires c κs = tt
-
 add-hollows : tie.Need-add-hollows Inv-loop μ-loop
 add-hollows c =
-    let few : c .before .before .loop .hollows ≤ 4096 = countable (c .before .before .loop .inv) (c .before .before .before .before .before .pre .1) in
-    omega (arith, few, c .one-if .ensures .1)
+    let few = countable (c .before .before .loop .inv) (c .before .before .before .before .before .pre .1) in
+    omega (arith, few)
 
-fetch-next-requires : tie.Need-fetch-next-requires Inv-loop μ-loop
-fetch-next-requires c κs = tt
+steps-reading-requires : tie.Need-steps-reading-requires Inv-loop μ-loop
+steps-reading-requires c κs = tt
+
+step-if-requires : tie.Need-step-if-requires Inv-loop μ-loop
+step-if-requires c κs = tt
+
+fetch-here-requires : tie.Need-fetch-here-requires Inv-loop μ-loop
+fetch-here-requires c κs = tt
 
 add-i : tie.Need-add-i Inv-loop μ-loop
 add-i c =
@@ -98,9 +112,11 @@ loop-less c =
     omega arith
 
 loop-again : tie.Need-loop-again Inv-loop μ-loop
+unfolding stepped
 loop-again c =
-    let words : Memory (c .before .before .before .before .before .before .args .memory .now) = record { size = c .before .before .before .before .before .before .pre .0; words = λ i. omega (arith, c .before .before .before .before .before .shared-slice-known .given i) } in
-    rw (c .fetch-next .ensures, c .before .one-if .ensures .0) (turned (c .before .before .before .loop .inv) words (omega arith))
+    let words : Memory (c .before .before .before .before .before .before .before .before .args .memory .now) = record { size = c .before .before .before .before .before .before .before .before .pre .0; words = λ i. omega (arith, c .before .before .before .before .before .before .before .shared-slice-known .given i) } in
+    let count = ⊎-elim (λ v. count-one _ _ (v .0 .taken) (v .1)) (λ v. count-none _ _ (v .0 .left) (v .1)) (c .before .before .before .if1 .came) in
+    rw (c .fetch-here .ensures, c .before .step-if .ensures, c .before .before .steps-reading .ensures, count) (turned (c .before .before .before .before .before .loop .inv) words (omega arith))
 
 same-length : tie.Need-same-length Inv-loop μ-loop
 same-length c =
@@ -119,9 +135,10 @@ read-singly-spec =
     loop-holds
     mul-part
     slice-write-part
-    one-if-requires
     add-hollows
-    fetch-next-requires
+    steps-reading-requires
+    step-if-requires
+    fetch-here-requires
     add-i
     loop-less
     loop-again

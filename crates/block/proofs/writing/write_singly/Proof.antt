@@ -98,8 +98,14 @@ add-empties c =
     let few = countable (c .before .before .before .before .before .before .before .before .before .loop .inv) (c .before .before .before .before .before .before .before .before .before .before .before .before .pre .1) in
     omega (arith, few, c .one-if .ensures .1)
 
+steps-writing-requires : tie.Need-steps-writing-requires Inv-loop μ-loop
+steps-writing-requires c κs = tt
+
 hold-word-requires : tie.Need-hold-word-requires Inv-loop μ-loop
 hold-word-requires c κs = tt
+
+step-if-requires : tie.Need-step-if-requires Inv-loop μ-loop
+step-if-requires c κs = tt
 
 add-i : tie.Need-add-i Inv-loop μ-loop
 add-i c =
@@ -111,10 +117,10 @@ loop-less c =
 
 loop-again : tie.Need-loop-again Inv-loop μ-loop
 loop-again c =
-    let stored = c .before .before .before .before .store-word .ensures in
-    let fits = c .before .before .before .before .before .before .before .before .before .before .before .shared-slice-known .given (c .before .before .before .before .before .before .before .before .before .before .loop .i) in
-    rw (c .hold-word .ensures, c .before .one-if .ensures .0, stored .fell, stored .memory, c .before .before .before .before .before .word-of .ensures)
-    (turned (c .before .before .before .before .before .before .before .before .before .before .loop .inv) (c .before .before .before .before .before .before .before .before .before .before .before .before .before .pre .0) (c .before .before .before .before .before .before .before .before .before .loop-test .taken) (omega (arith, fits)))
+    let stored = c .before .before .before .before .before .before .store-word .ensures in
+    let fits = c .before .before .before .before .before .before .before .before .before .before .before .before .before .shared-slice-known .given (c .before .before .before .before .before .before .before .before .before .before .before .before .loop .i) in
+    rw (c .step-if .ensures, c .before .hold-word .ensures, c .before .before .steps-writing .ensures, c .before .before .before .one-if .ensures .0, stored .fell, stored .memory, c .before .before .before .before .before .before .before .word-of .ensures)
+    (turned (c .before .before .before .before .before .before .before .before .before .before .before .before .loop .inv) (c .before .before .before .before .before .before .before .before .before .before .before .before .before .before .before .pre .0) (c .before .before .before .before .before .before .before .before .before .before .before .loop-test .taken) (omega (arith, fits)))
 
 same-length : tie.Need-same-length Inv-loop μ-loop
 same-length c =
@@ -137,7 +143,9 @@ write-singly-spec =
     store-word-requires
     one-if-requires
     add-empties
+    steps-writing-requires
     hold-word-requires
+    step-if-requires
     add-i
     loop-less
     loop-again
