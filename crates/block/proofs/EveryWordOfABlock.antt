@@ -34,10 +34,12 @@ Fits l place n = (n ≤ 4096) × (place + n ≤ length l)
 -- Read a block past the end of memory: of n + j words the n that are left in memory and then j fillers, and j are counted hollow.
 pub record ThenHollow (s : Machine) (a : BitAddress) (l : List ℕ) (place n j : ℕ) : Type 0 where
   pub number : block-read (loaded s a .registers) (s .memory) l place (n + j) .number ≡ 0
-  pub words : stretch (list-after (loaded s a .registers) (s .memory) l place (n + j)) place (n + j) ≡ table (s .memory) a n ++ replicate j 0xffff
+  pub words :
+      stretch (list-after (loaded s a .registers) (s .memory) l place (n + j)) place (n + j) ≡ table (s .memory) a n ++ replicate j 0xffff
   pub hollows : block-read (loaded s a .registers) (s .memory) l place (n + j) .hollows ≡ j
 
-module _ (s : Machine) (k : Memory (s .memory)) (i : incr (s .registers .control) ≡ true) (a : BitAddress) (l : List ℕ) (place : ℕ) where
+module _ (s : Machine) (k : Memory (s .memory)) (i : incr (s .registers .control) ≡ true) (a : BitAddress)
+    (l : List ℕ) (place : ℕ) where
   -- loading leaves the memory
   just-loaded : (n : ℕ) → Lies (s .memory) a n → machine (loaded s a .registers) (s .memory) ≡ loaded s a
   just-loaded n h = rw (loads s k a (omega (arith, k .size)))
@@ -69,9 +71,11 @@ module _ (s : Machine) (k : Memory (s .memory)) (i : incr (s .registers .control
       record { number = told .0; words = told .1; hollows = told .2 }
 
   -- Past the end of memory, up to word 2^28, where the pointer comes round, the count tells how many words memory did not have.
-  pub block-past-the-end : (n j : ℕ) → word-at a .0 + n ≡ length (s .memory) → word-at a .0 + n + j ≤ 2 ^ 28 → Fits l place (n + j) → ThenHollow s a l place n j
+  pub block-past-the-end : (n j : ℕ) → word-at a .0 + n ≡ length (s .memory) → word-at a .0 + n + j ≤ 2 ^ 28 → Fits l place (n + j) →
+      ThenHollow s a l place n j
   block-past-the-end n j h q f =
       let here = just-loaded n (omega arith) in
       let given-so = ap (λ (t : Machine). map given (answers t (reading (n + j)))) here ∙ then-hollow s k i a n j h q in
-      let told = handed-out (n + j) (table (s .memory) a n ++ replicate j 0xffff) j f (held-then-hollow _ (table (s .memory) a n) j given-so) in
+      let words = table (s .memory) a n in
+      let told = handed-out (n + j) (words ++ replicate j 0xffff) j f (held-then-hollow _ words j given-so) in
       record { number = told .0; words = told .1; hollows = told .2 }

@@ -99,18 +99,21 @@ join-reads r m n k o p xs ys a b =
           ap (λ (u : Machine). u .registers) (sym (ap (ends s) (reading-join n k) ∙ ends-join s (reading n) (reading k)));
       marked =
           ap (λ (x : ℕ). x + p .marked) (a .marked) ∙
-          ap (λ (x : ℕ). hollows-in (answers s (reading n)) + x) (b .marked ∙ ap (λ (u : Machine). hollows-in (answers u (reading k))) here) ∙
+          ap (λ (x : ℕ). hollows-in (answers s (reading n)) + x)
+          (b .marked ∙ ap (λ (u : Machine). hollows-in (answers u (reading k))) here) ∙
           sym (ap hollows-in both ∙ tally-join (λ x. x .hollow) (answers s (reading n)) (answers t (reading k)));
       words =
           ap (λ (l : List ℕ). l ++ ys) (a .words) ∙
-          ap (λ (l : List ℕ). words-in (answers s (reading n)) ++ l) (b .words ∙ ap (λ (u : Machine). words-in (answers u (reading k))) here) ∙
+          ap (λ (l : List ℕ). words-in (answers s (reading n)) ++ l)
+          (b .words ∙ ap (λ (u : Machine). words-in (answers u (reading k))) here) ∙
           sym (ap words-in both ∙ map-append (λ x. x .word) (answers s (reading n)) (answers t (reading k)));
     }
 
 -- ---- writes
 -- Of the writes of some words at most that many fall empty.
 pub few-empties : (s : Machine) (ws : List ℕ) → empties-in (answers s (writing ws)) ≤ length ws
-few-empties s ws = rw (answers-length s (writing ws), length-map ws (save 2)) at (tally-most (λ x. is-empty (x .cycle)) (answers s (writing ws)))
+few-empties s ws =
+    rw (answers-length s (writing ws), length-map ws (save 2)) at (tally-most (λ x. is-empty (x .cycle)) (answers s (writing ws)))
 
 -- Writes of some words and then of others are writes of both.
 pub join-writes : (s : Machine) (m m′ : List ℕ) (o p : Run) (xs ys : List ℕ) →
@@ -126,7 +129,10 @@ join-writes s m m′ o p xs ys a b =
       registers = b .registers ∙ ap (λ (u : Machine). u .registers) end;
       marked =
           ap (λ (x : ℕ). x + p .marked) (a .marked) ∙
-          ap (λ (x : ℕ). empties-in (answers s (writing xs)) + x) (b .marked ∙ ap (λ (u : Machine). empties-in (answers u (writing ys))) here) ∙
-          sym (ap empties-in (ap (answers s) parts ∙ answers-join s (writing xs) (writing ys)) ∙ tally-join (λ x. is-empty (x .cycle)) (answers s (writing xs)) (answers t (writing ys)));
+          ap (λ (x : ℕ). empties-in (answers s (writing xs)) + x)
+          (b .marked ∙ ap (λ (u : Machine). empties-in (answers u (writing ys))) here) ∙
+          sym
+          (ap empties-in (ap (answers s) parts ∙ answers-join s (writing xs) (writing ys)) ∙
+          tally-join (λ x. is-empty (x .cycle)) (answers s (writing xs)) (answers t (writing ys)));
       memory = b .memory ∙ ap (λ (u : Machine). u .memory) end;
     }

@@ -10,7 +10,8 @@ use Rattle.port.specs.Runs.{answers, ends}
 use Rattle.port.specs.Table.{reading}
 use Rattle.port.specs.declared.Registers.{Registers}
 use Rattle.block.specs.Block.{block-number, tally, block-read, list-after, block-write, memory-left}
-use Rattle.block.proofs.Numbers.{read-taken, list-taken, write-taken, memory-taken, read-barred, list-barred, write-barred, memory-barred}
+use Rattle.block.proofs.Numbers.{read-taken, list-taken, write-taken, memory-taken}
+use Rattle.block.proofs.Numbers.{read-barred, list-barred, write-barred, memory-barred}
 
 module _ (r : Registers) (m l : List ℕ) (place : ℕ) where
   abbrev number : ℕ

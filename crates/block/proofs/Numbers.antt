@@ -88,7 +88,8 @@ module _ (r : Registers) (m l : List ℕ) (place count : ℕ) where
     read-taken = rw (eq-eqb _ _ e)
 
     -- And the list after it.
-    pub list-taken : list-after r m l place count ≡ take place l ++ (words-in (answers (machine r m) (reading count)) ++ drop (place + count) l)
+    pub list-taken : list-after r m l place count ≡
+        take place l ++ (words-in (answers (machine r m) (reading count)) ++ drop (place + count) l)
     unfolding list-after
     list-taken = rw (eq-eqb _ _ e)
 
@@ -128,11 +129,19 @@ module _ (r : Registers) (m l : List ℕ) (place count : ℕ) where
   -- ---- the number answered
   -- A block read answers the number that applies.
   pub read-number : block-read r m l place count .number ≡ number
-  read-number = ⊎-elim (λ e. ap (λ (o : BlockRead). o .number) (read-taken e) ∙ sym e) (λ n. ap (λ (o : BlockRead). o .number) (read-barred n)) (same-or-not number 0)
+  read-number =
+      ⊎-elim
+      (λ e. ap (λ (o : BlockRead). o .number) (read-taken e) ∙ sym e)
+      (λ n. ap (λ (o : BlockRead). o .number) (read-barred n))
+      (same-or-not number 0)
 
   -- So does a block write.
   pub write-number : block-write r m l place count .number ≡ number
-  write-number = ⊎-elim (λ e. ap (λ (o : BlockWrite). o .number) (write-taken e) ∙ sym e) (λ n. ap (λ (o : BlockWrite). o .number) (write-barred n)) (same-or-not number 0)
+  write-number =
+      ⊎-elim
+      (λ e. ap (λ (o : BlockWrite). o .number) (write-taken e) ∙ sym e)
+      (λ n. ap (λ (o : BlockWrite). o .number) (write-barred n))
+      (same-or-not number 0)
 
   -- Both are 0, 1 or 10, each when, and only then.
   pub read-numbered : When (length m) (length l) place count (block-read r m l place count .number)

@@ -67,7 +67,10 @@ module _ (r : Registers) (m : List ℕ) (few : length m ≤ 32768) where
     -- It stores the word, holds it, and then steps; beyond memory the store falls empty.
     pub one-write :
         WrittenFrom (machine r m) (w ∷ [])
-        (record { registers = stepped (incw (r .control)) (with-latch r w false); marked = counted (not (in-memory m (word-at (r .pointer)))) })
+        (record {
+          registers = stepped (incw (r .control)) (with-latch r w false);
+          marked = counted (not (in-memory m (word-at (r .pointer))));
+        })
         (store-at m (word-at (r .pointer)) w)
     unfolding answers ends tally answer-of after stepped
     one-write =

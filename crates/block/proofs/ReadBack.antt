@@ -34,7 +34,7 @@ pub record Laid (r : Registers) (m l : List ℕ) (place n : ℕ) : Type 0 where
   pub size : length (memory-left r m l place n) ≡ length m
 
 -- What the same words are when a block reads them again: the pointer is loaded with the address where the write began.
-pub record ReadBack (r : Registers) (m l : List ℕ) (place n : ℕ) (l′ : List ℕ) (place′ : ℕ) (q : Registers) (m′ : List ℕ) : Type 0 where
+pub record ReadBack (l : List ℕ) (place n : ℕ) (l′ : List ℕ) (place′ : ℕ) (q : Registers) (m′ : List ℕ) : Type 0 where
   pub number : block-read q m′ l′ place′ n .number ≡ 0
   pub words : stretch (list-after q m′ l′ place′ n) place′ n ≡ stretch l place n
   pub hollows : block-read q m′ l′ place′ n .hollows ≡ 0
@@ -65,7 +65,8 @@ module _ (r : Registers) (m l : List ℕ) (place n : ℕ) (k : Memory m) (i : in
   accepted : block-number m l place n ≡ 0
   accepted = when (length m) (length l) place n .done .1 (k .size, most, room)
 
-  written : WrittenFrom (machine r m) ws (record { registers = wrote r n (getD ws (n - 1) 0); marked = 0 }) (take x m ++ (ws ++ drop (x + n) m))
+  written :
+      WrittenFrom (machine r m) ws (record { registers = wrote r n (getD ws (n - 1) 0); marked = 0 }) (take x m ++ (ws ++ drop (x + n) m))
   written = rw size-of at (copied-write ws r m (rw size-of some) (k .size) i (stretch-words l place n w) (rw size-of there))
 
   memory-is : memory-left r m l place n ≡ take x m ++ (ws ++ drop (x + n) m)
@@ -100,8 +101,8 @@ module _ (r : Registers) (m l : List ℕ) (place n : ℕ) (k : Memory m) (i : in
 
   -- And a block reads them back, into any list with room for them.
   pub reads-back : incr (r .control) ≡ true → (l′ : List ℕ) (place′ : ℕ) → place′ + n ≤ length l′ →
-      ReadBack r m l place n l′ place′
-      (loaded (machine (block-write r m l place n .registers) (memory-left r m l place n)) (r .pointer) .registers) (memory-left r m l place n)
+      let t = machine (block-write r m l place n .registers) (memory-left r m l place n) in
+      ReadBack l place n l′ place′ (loaded t (r .pointer) .registers) (t .memory)
   reads-back c l′ place′ q =
       let laid = words-laid in
       let t = machine (block-write r m l place n .registers) (memory-left r m l place n) in

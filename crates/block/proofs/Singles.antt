@@ -37,7 +37,8 @@ hollows-counted zero s = refl
 hollows-counted (suc n) s = ap (λ (x : ℕ). counted (answer-of s (Read 2 3) .hollow) + x) (hollows-counted n (after s (Read 2 3)))
 
 -- The empty stores are counted over the writes.
-empties-counted : (ws : List ℕ) (s : Machine) → empties-in (answers s (writing ws)) ≡ number-below (length ws) (λ k. is-empty (kth-write s ws k .cycle))
+empties-counted : (ws : List ℕ) (s : Machine) →
+    empties-in (answers s (writing ws)) ≡ number-below (length ws) (λ k. is-empty (kth-write s ws k .cycle))
 unfolding answers ends tally number-below
 empties-counted [] s = refl
 empties-counted (w ∷ ws) s =
@@ -63,9 +64,11 @@ pub record LikeReads (r : Registers) (m l : List ℕ) (place count : ℕ) : Type
 pub record LikeWrites (r : Registers) (m l : List ℕ) (place count : ℕ) : Type 0 where
   pub words : (k : ℕ) → k < count → getD (stretch l place count) k 0 ≡ getD l (place + k) 0
   pub empties :
-      block-write r m l place count .empties ≡ number-below count (λ k. is-empty (kth-write (machine r m) (stretch l place count) k .cycle))
+      block-write r m l place count .empties ≡
+      number-below count (λ k. is-empty (kth-write (machine r m) (stretch l place count) k .cycle))
   pub ended :
-      machine (block-write r m l place count .registers) (memory-left r m l place count) ≡ ends (machine r m) (writing (stretch l place count))
+      machine (block-write r m l place count .registers) (memory-left r m l place count) ≡
+      ends (machine r m) (writing (stretch l place count))
 
 module _ (r : Registers) (m l : List ℕ) (place count : ℕ) where
   -- A block read ends like its single reads.
@@ -84,7 +87,9 @@ module _ (r : Registers) (m l : List ℕ) (place count : ℕ) where
         behind = λ k h. rw list (laid-behind place count l ws fits full k h);
         size = rw list (laid-length place count l ws fits full);
         hollows = ap (λ (x : BlockRead). x .hollows) o ∙ hollows-counted count s;
-        ended = ap (λ (x : BlockRead). machine (x .registers) m) o ∙ ap (machine (ends s (reading count) .registers)) (sym (reads-keep-memory s count));
+        ended =
+            ap (λ (x : BlockRead). machine (x .registers) m) o ∙
+            ap (machine (ends s (reading count) .registers)) (sym (reads-keep-memory s count));
       }
 
   -- A block write ends like its single writes.
@@ -98,7 +103,9 @@ module _ (r : Registers) (m l : List ℕ) (place count : ℕ) where
       let size : length ws ≡ count = simp (length-take, length-drop) (omega (arith, fits)) in
       record {
         words = λ k h. getD-take count (drop place l) k 0 h ∙ getD-drop place l k 0;
-        empties = ap (λ (x : BlockWrite). x .empties) o ∙ empties-counted ws s ∙ ap (λ (x : ℕ). number-below x (λ k. is-empty (kth-write s ws k .cycle))) size;
+        empties =
+            ap (λ (x : BlockWrite). x .empties) o ∙ empties-counted ws s ∙
+            ap (λ (x : ℕ). number-below x (λ k. is-empty (kth-write s ws k .cycle))) size;
         ended =
             ap (λ (x : BlockWrite). machine (x .registers) (memory-left r m l place count)) o ∙
             ap (machine (ends s (writing ws) .registers)) (memory-taken r m l place count e);
@@ -111,7 +118,8 @@ module _ (r : Registers) (m l : List ℕ) (place count : ℕ) where
 
   -- And a block write's.
   pub write-by-bytes : block-write r m l place count .number ≡ 0 →
-      machine (block-write r m l place count .registers) (memory-left r m l place count) ≡ byte-ends (machine r m) (writing (stretch l place count))
+      machine (block-write r m l place count .registers) (memory-left r m l place count) ≡
+      byte-ends (machine r m) (writing (stretch l place count))
   write-by-bytes n = like-writes n .ended ∙ sym (ends-alike (machine r m) (writing (stretch l place count)))
 
   -- Their answers hand out the words of the list's stretch, and as many hollow ones.
@@ -123,7 +131,8 @@ module _ (r : Registers) (m l : List ℕ) (place count : ℕ) where
       let e = sym (read-number r m l place count) ∙ n in
       let fits = when (length m) (length l) place count .done .0 e .2 in
       let alike = sym (answers-alike s (reading count)) in (
-        rw (list-taken r m l place count e) (laid-stretch place count l (words-in (answers s (reading count))) fits (filled-length s count)) ∙ ap words-in alike,
+        rw (list-taken r m l place count e) (laid-stretch place count l (words-in (answers s (reading count))) fits (filled-length s count)) ∙
+            ap words-in alike,
         ap (λ (x : BlockRead). x .hollows) (read-taken r m l place count e) ∙ ap hollows-in alike,
       )
 
@@ -132,4 +141,5 @@ module _ (r : Registers) (m l : List ℕ) (place count : ℕ) where
       block-write r m l place count .empties ≡ empties-in (byte-answers (machine r m) (writing (stretch l place count)))
   write-bytes-answer n =
       let e = sym (write-number r m l place count) ∙ n in
-      ap (λ (x : BlockWrite). x .empties) (write-taken r m l place count e) ∙ ap empties-in (sym (answers-alike (machine r m) (writing (stretch l place count))))
+      ap (λ (x : BlockWrite). x .empties) (write-taken r m l place count e) ∙
+      ap empties-in (sym (answers-alike (machine r m) (writing (stretch l place count))))

@@ -90,7 +90,13 @@ module _ (r : Registers) (m : List ℕ) (k : Memory m) (i : incr (r .control) �
 
   -- the registers n words on
   abbrev moved : ℕ → Registers
-  moved n = record { pointer = stepped-by n (r .pointer); latch = getD m (word-at (r .pointer) .0 + n) 0; control = r .control; hollow = false }
+  moved n =
+      record {
+        pointer = stepped-by n (r .pointer);
+        latch = getD m (word-at (r .pointer) .0 + n) 0;
+        control = r .control;
+        hollow = false;
+      }
 
   -- Registers that stand inside memory.
   stands-inside : (a : BitAddress) → word-at a .0 < length m →
@@ -100,9 +106,11 @@ module _ (r : Registers) (m : List ℕ) (k : Memory m) (i : incr (r .control) �
 
   -- reads of registers that stand at a
   later : (n : ℕ) (a : BitAddress) → Lies m a n →
-      ReadInto (machine (standing m (r .control) a) m) n (record { registers = standing m (r .control) (on-by n a); marked = 0 }) (table m a n)
+      ReadInto (machine (standing m (r .control) a) m) n
+      (record { registers = standing m (r .control) (on-by n a); marked = 0 }) (table m a n)
   later n a h =
-      let g = all-held (answers (stands s a) (reading n)) (table m a n) (ap (map given) (reads-answer s k i n a) ∙ table-handed m (k .size) n a h) in
+      let given-so = ap (map given) (reads-answer s k i n a) ∙ table-handed m (k .size) n a h in
+      let g = all-held (answers (stands s a) (reading n)) (table m a n) given-so in
       record {
         registers = sym (ap (λ (t : Machine). t .registers) (reads-end s k i n a));
         marked = sym (g .1);
@@ -143,7 +151,8 @@ module _ (r : Registers) (m : List ℕ) (k : Memory m) (i : incr (r .control) �
 abbrev pub wrote : Registers → ℕ → ℕ → Registers
 wrote r n w = record { pointer = stepped-by n (r .pointer); latch = w; control = r .control; hollow = false }
 
-one-straight : (r : Registers) (m : List ℕ) (w : ℕ) → length m ≤ 32768 → incw (r .control) ≡ true → w < 65536 → word-at (r .pointer) .0 < length m →
+one-straight : (r : Registers) (m : List ℕ) (w : ℕ) →
+    length m ≤ 32768 → incw (r .control) ≡ true → w < 65536 → word-at (r .pointer) .0 < length m →
     WrittenFrom (machine r m) (w ∷ []) (record { registers = wrote r 1 w; marked = 0 }) (set m (word-at (r .pointer) .0) w)
 unfolding stepped store-at
 one-straight r m w few i f h = rw (i, lt-ltb (word-at (r .pointer) .0) (length m) h) at (one-write r m few w f)

@@ -14,12 +14,14 @@ use Rattle.block.proofs.Numbers.{read-taken, list-taken, write-taken, m
 module _ (r : Registers) (m l : List ℕ) (place count : ℕ) (e : block-number m l place count ≡ 0) (o : Run) where
   -- A block read, whose words ws lie in the stretch.
   pub read-block : (ws : List ℕ) → ReadInto (machine r m) count o ws →
-      ReadBlock r m l place count (record { number = 0; hollows = o .marked; registers = o .registers }) (take place l ++ (ws ++ drop (place + count) l))
+      ReadBlock r m l place count (record { number = 0; hollows = o .marked; registers = o .registers })
+      (take place l ++ (ws ++ drop (place + count) l))
   read-block ws a =
       record {
         outcome =
             ap (λ (n : ℕ). record { number = 0; hollows = n; registers = o .registers }) (a .marked) ∙
-            ap (λ (q : Registers). record { number = 0; hollows = hollows-in (answers (machine r m) (reading count)); registers = q }) (a .registers) ∙
+            ap (λ (q : Registers). record { number = 0; hollows = hollows-in (answers (machine r m) (reading count)); registers = q })
+            (a .registers) ∙
             sym (read-taken r m l place count e);
         list = ap (λ (x : List ℕ). take place l ++ (x ++ drop (place + count) l)) (a .words) ∙ sym (list-taken r m l place count e);
       }
@@ -32,7 +34,8 @@ module _ (r : Registers) (m l : List ℕ) (place count : ℕ) (e : block-number 
       record {
         outcome =
             ap (λ (n : ℕ). record { number = 0; empties = n; registers = o .registers }) (a .marked) ∙
-            ap (λ (q : Registers). record { number = 0; empties = empties-in (answers (machine r m) writes); registers = q }) (a .registers) ∙
+            ap (λ (q : Registers). record { number = 0; empties = empties-in (answers (machine r m) writes); registers = q })
+            (a .registers) ∙
             sym (write-taken r m l place count e);
         memory = a .memory ∙ sym (memory-taken r m l place count e);
       }

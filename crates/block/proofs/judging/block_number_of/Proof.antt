@@ -35,14 +35,16 @@ unfolding block-refusal
 returns-4 c =
     let a = c .before .before .before .before .before .args in
     let past : ltb (a .room) (a .place + a .count) ≡ true = lt-ltb (a .room) (a .place + a .count) (omega arith) in
-    rw (sym (c .before .before .before .before .is-over-limit .ensures) ∙ c .before .before .before .if1 .left, le-ltb _ _ (c .before .before .if2 .left), past)
+    let t = c .before .before in
+    rw (sym (t .before .before .is-over-limit .ensures) ∙ t .before .if1 .left, le-ltb _ _ (t .if2 .left), past)
 
 returns-5 : tie.Need-returns-5
 unfolding block-refusal
 returns-5 c =
     let a = c .before .before .before .before .before .args in
     let fits : ltb (a .room) (a .place + a .count) ≡ false = le-ltb (a .room) (a .place + a .count) (omega arith) in
-    rw (sym (c .before .before .before .before .is-over-limit .ensures) ∙ c .before .before .before .if1 .left, le-ltb _ _ (c .before .before .if2 .left), fits)
+    let t = c .before .before in
+    rw (sym (t .before .before .is-over-limit .ensures) ∙ t .before .if1 .left, le-ltb _ _ (t .if2 .left), fits)
 
 pub block-number-of-spec : {M : Type 1} → statement M
 block-number-of-spec =

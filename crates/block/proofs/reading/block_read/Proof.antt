@@ -68,11 +68,12 @@ same-length c = search needs
 returns-2 : tie.Need-returns-2
 returns-2 c =
     let b = c .before .before .before .before .before in
-    let a = c .before .before .before .before .before .before .before .before .before .args in
-    let read : ReadInto (machine (a .r) (a .memory .now)) (a .count) (c .before .before .before .read-words .result) (c .before .before .before .read-words .last .1 .1 .0) =
-    rw (part-length (a .place) (a .count) (a .list .now) (fits b .2)) at (c .before .before .before .read-words .ensures) in
-    rw (put-back (a .place) (a .count) (a .list .now) (c .before .before .before .read-words .last .1 .1 .0))
-    (read-block (a .r) (a .memory .now) (a .list .now) (a .place) (a .count) (accepted b) (c .before .before .before .read-words .result) (c .before .before .before .read-words .last .1 .1 .0) read)
+    let a = b .before .before .before .before .args in
+    let run = c .before .before .before .read-words in
+    let read : ReadInto (machine (a .r) (a .memory .now)) (a .count) (run .result) (run .last .1 .1 .0) =
+    rw (part-length (a .place) (a .count) (a .list .now) (fits b .2)) at (run .ensures) in
+    rw (put-back (a .place) (a .count) (a .list .now) (run .last .1 .1 .0))
+    (read-block (a .r) (a .memory .now) (a .list .now) (a .place) (a .count) (accepted b) (run .result) (run .last .1 .1 .0) read)
 
 pub block-read-spec : {M : Type 1} → statement M
 block-read-spec =

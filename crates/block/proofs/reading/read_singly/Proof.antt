@@ -114,9 +114,13 @@ loop-less c =
 loop-again : tie.Need-loop-again Inv-loop μ-loop
 unfolding stepped
 loop-again c =
-    let words : Memory (c .before .before .before .before .before .before .before .before .args .memory .now) = record { size = c .before .before .before .before .before .before .before .before .pre .0; words = λ i. omega (arith, c .before .before .before .before .before .before .before .shared-slice-known .given i) } in
+    let l = c .before .before .before .before .before in
+    let start = l .before .before .before in
+    let known = l .before .before .shared-slice-known .given in
+    let words : Memory (start .args .memory .now) = record { size = start .pre .0; words = λ i. omega (arith, known i) } in
     let count = ⊎-elim (λ v. count-one _ _ (v .0 .taken) (v .1)) (λ v. count-none _ _ (v .0 .left) (v .1)) (c .before .before .before .if1 .came) in
-    rw (c .fetch-here .ensures, c .before .step-if .ensures, c .before .before .steps-reading .ensures, count) (turned (c .before .before .before .before .before .loop .inv) words (omega arith))
+    rw (c .fetch-here .ensures, c .before .step-if .ensures, c .before .before .steps-reading .ensures, count)
+    (turned (l .loop .inv) words (omega arith))
 
 same-length : tie.Need-same-length Inv-loop μ-loop
 same-length c =

@@ -74,11 +74,15 @@ same-length c = search needs
 
 returns : tie.Need-returns
 returns c =
-    let a = c .before .before .before .before .before .before .before .before .before .before .before .before .before .args in
-    let words : Memory (a .memory .now) = record { size = c .before .before .before .before .before .before .before .before .before .before .before .before .before .pre .0; words = λ i. omega (arith, c .before .shared-slice-known2 .given i) } in
-    let copied = c .before .before .before .before .before .copy-words .ensures ∙ part-is (c .before .before .before .before .before .before .before .before .before .word-of .result .0) (length (a .part .now)) (a .memory .now) in
-    rw (c .before .before .step-by .ensures, c .one-if .ensures .0, copied, here (c .before .before .before .before .before .before .before .before .before))
-    (copied-read (a .r) (a .memory .now) words (c .before .before .before .before .before .before .before .before .before .before .before .before .before .pre .3) (length (a .part .now)) (c .before .before .before .before .before .before .before .before .before .before .before .before .before .pre .2) (omega arith) (c .before .before .before .before .before .before .before .before .before .before .before .before .before .pre .4))
+    let w = c .before .before .before .before .before .before .before .before .before in
+    let start = w .before .before .before .before in
+    let a = start .args in
+    let known = c .before .shared-slice-known2 .given in
+    let words : Memory (a .memory .now) = record { size = start .pre .0; words = λ i. omega (arith, known i) } in
+    let count = length (a .part .now) in
+    let copied = c .before .before .before .before .before .copy-words .ensures ∙ part-is (w .word-of .result .0) count (a .memory .now) in
+    rw (c .before .before .step-by .ensures, c .one-if .ensures .0, copied, here w)
+    (copied-read (a .r) (a .memory .now) words (start .pre .3) count (start .pre .2) (omega arith) (start .pre .4))
 
 pub read-straight-spec : {M : Type 1} → statement M
 read-straight-spec =

@@ -39,7 +39,8 @@ part-read-straight-start c = search needs
 -- some reads go straight
 straight : (c : tie.Else1) →
     let a = c .before .before .before .before .args in
-    Straight (incr (a .r .control)) (word-at (a .r .pointer) .0 + 1) (length (a .memory .now)) (length (a .part .now)) (c .before .straight-reads .result)
+    Straight (incr (a .r .control)) (word-at (a .r .pointer) .0 + 1) (length (a .memory .now)) (length (a .part .now))
+    (c .before .straight-reads .result)
 unfolding straight-reads
 straight c = goes-straight _ _ _ _ _ (c .before .straight-reads .ensures) (c .if1 .left)
 
@@ -56,7 +57,8 @@ read-straight-requires c κs =
 -- what they leave
 first : (c : tie.After-read-straight) →
     let a = c .before .before .before .before .before .before .args in
-    ReadInto (machine (a .r) (a .memory .now)) (c .before .before .before .straight-reads .result) (c .read-straight .result) (c .read-straight .last .1 .1 .0)
+    ReadInto (machine (a .r) (a .memory .now)) (c .before .before .before .straight-reads .result) (c .read-straight .result)
+    (c .read-straight .last .1 .1 .0)
 first c = rw (first-length _ _ (straight (c .before .before) .most)) at (c .read-straight .ensures)
 
 -- where the others begin
@@ -104,10 +106,12 @@ add-t21 : tie.Need-add-t21
 add-t21 c =
     let l = c .before .before .before .before .before in
     let f = l .before .before .before .before .before in
-    let s = straight (f .before .before) in
-    let few = few-hollows (machine (c .before .before .before .before .before .before .before .before .before .before .before .before .before .before .before .before .args .r) (c .before .before .before .before .before .before .before .before .before .before .before .before .before .before .before .before .args .memory .now)) (c .before .before .before .before .before .before .before .before .before .before .before .before .before .straight-reads .result) in
-    let fewer = few-hollows (machine (c .before .before .before .before .before .before .before .before .before .before .read-straight .result .registers) (c .before .before .before .before .before .before .before .before .before .before .before .before .before .before .before .before .args .memory .now)) (length (c .before .before .before .before .before .before .before .before .before .before .before .before .before .before .before .before .args .part .now) - c .before .before .before .before .before .before .before .before .before .before .before .before .before .straight-reads .result) in
-    omega (arith, s .most, c .before .before .before .before .before .before .before .before .before .before .before .before .before .before .before .before .pre .1, first f .marked, rest l .marked, few, fewer)
+    let start = f .before .before .before .before .before .before in
+    let m = start .args .memory .now in
+    let n = f .before .before .before .straight-reads .result in
+    let few = few-hollows (machine (start .args .r) m) n in
+    let fewer = few-hollows (machine (f .read-straight .result .registers) m) (length (start .args .part .now) - n) in
+    omega (arith, straight (f .before .before) .most, start .pre .1, first f .marked, rest l .marked, few, fewer)
 
 same-length-2 : tie.Need-same-length-2
 same-length-2 c = search needs
@@ -116,12 +120,12 @@ returns-2 : tie.Need-returns-2
 returns-2 c =
     let l = c .before .before .before .before .before in
     let f = l .before .before .before .before .before in
-    let a = c .before .before .before .before .before .before .before .before .before .before .before .before .before .before .before .before .args in
-    let n = c .before .before .before .before .before .before .before .before .before .before .before .before .before .straight-reads .result in
+    let a = f .before .before .before .before .before .before .args in
+    let n = f .before .before .before .straight-reads .result in
     let most = straight (f .before .before) .most in
     let all : n + (length (a .part .now) - n) ≡ length (a .part .now) = omega (arith, most) in
     let joined = join-reads (a .r) (a .memory .now) n (length (a .part .now) - n) _ _ _ _ (first f) (rest l) in
-    rw (both-back n (a .part .now) _ most (read-length (first f)) (c .before .before .before .before .before .read-singly2 .last .1 .1 .0)) (rw all at joined)
+    rw (both-back n (a .part .now) _ most (read-length (first f)) (l .read-singly2 .last .1 .1 .0)) (rw all at joined)
 
 pub read-words-spec : {M : Type 1} → statement M
 read-words-spec =

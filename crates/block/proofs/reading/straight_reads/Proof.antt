@@ -23,7 +23,8 @@ inside-from-requires c κs = tt
 returns : tie.Need-returns
 unfolding straight-reads
 returns c =
-    rw (c .inside-from .ensures, sym (c .before .before .before .before .before .steps-reading .ensures) ∙ c .before .before .before .before .if1 .taken, c .before .before .word-of .ensures)
+    let test = c .before .before .before .before in
+    rw (c .inside-from .ensures, sym (test .before .steps-reading .ensures) ∙ test .if1 .taken, c .before .before .word-of .ensures)
 
 returns-2 : tie.Need-returns-2
 unfolding straight-reads

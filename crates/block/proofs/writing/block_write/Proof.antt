@@ -65,9 +65,11 @@ same-length c = search needs
 
 returns-2 : tie.Need-returns-2
 returns-2 c =
-    let a = c .before .before .before .before .before .before .before .before .before .before .args in
-    write-block (a .r) (a .memory .now) (a .list .now) (a .place) (a .count) (accepted (c .before .before .before .before .before .before)) (c .before .before .before .write-words .result) _
-    (rw (part-is (a .place) (a .count) (a .list .now)) at (c .before .before .before .write-words .ensures))
+    let b = c .before .before .before .before .before .before in
+    let a = b .before .before .before .before .args in
+    let run = c .before .before .before .write-words in
+    write-block (a .r) (a .memory .now) (a .list .now) (a .place) (a .count) (accepted b) (run .result) _
+    (rw (part-is (a .place) (a .count) (a .list .now)) at (run .ensures))
 
 pub block-write-spec : {M : Type 1} → statement M
 block-write-spec =

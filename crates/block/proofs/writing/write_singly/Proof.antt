@@ -95,7 +95,8 @@ one-if-requires c κs = tt
 
 add-empties : tie.Need-add-empties Inv-loop μ-loop
 add-empties c =
-    let few = countable (c .before .before .before .before .before .before .before .before .before .loop .inv) (c .before .before .before .before .before .before .before .before .before .before .before .before .pre .1) in
+    let l = c .before .before .before .before .before .before .before .before .before in
+    let few = countable (l .loop .inv) (l .before .before .before .pre .1) in
     omega (arith, few, c .one-if .ensures .1)
 
 steps-writing-requires : tie.Need-steps-writing-requires Inv-loop μ-loop
@@ -117,10 +118,14 @@ loop-less c =
 
 loop-again : tie.Need-loop-again Inv-loop μ-loop
 loop-again c =
-    let stored = c .before .before .before .before .before .before .store-word .ensures in
-    let fits = c .before .before .before .before .before .before .before .before .before .before .before .before .before .shared-slice-known .given (c .before .before .before .before .before .before .before .before .before .before .before .before .loop .i) in
-    rw (c .step-if .ensures, c .before .hold-word .ensures, c .before .before .steps-writing .ensures, c .before .before .before .one-if .ensures .0, stored .fell, stored .memory, c .before .before .before .before .before .before .before .word-of .ensures)
-    (turned (c .before .before .before .before .before .before .before .before .before .before .before .before .loop .inv) (c .before .before .before .before .before .before .before .before .before .before .before .before .before .before .before .pre .0) (c .before .before .before .before .before .before .before .before .before .before .before .loop-test .taken) (omega (arith, fits)))
+    let m = c .before .before .before in
+    let stored = m .before .before .before .store-word .ensures in
+    let w = m .before .before .before .before .word-of .ensures in
+    let l = m .before .before .before .before .before .before .before .before .before in
+    let fits = l .before .shared-slice-known .given (l .loop .i) in
+    let more = m .before .before .before .before .before .before .before .before .loop-test .taken in
+    rw (c .step-if .ensures, c .before .hold-word .ensures, c .before .before .steps-writing .ensures, m .one-if .ensures .0, stored .fell, stored .memory, w)
+    (turned (l .loop .inv) (l .before .before .before .pre .0) more (omega (arith, fits)))
 
 same-length : tie.Need-same-length Inv-loop μ-loop
 same-length c =

@@ -65,11 +65,14 @@ same-length c = search needs
 
 returns : tie.Need-returns
 returns c =
-    let a = c .before .before .before .before .before .before .before .before .before .before .before .args in
     let w = c .before .before .before .before .before .before .before in
-    let back = put-back (w .word-of .result .0) (length (a .part .now)) (a .memory .now) (c .before .before .before .before .copy-words .last .1 .0) in
-    rw (c .before .step-by .ensures, back, c .before .before .before .before .copy-words .ensures, here w)
-    (copied-write (a .part .now) (a .r) (a .memory .now) (c .before .before .before .before .before .before .before .before .before .before .before .pre .2) (c .before .before .before .before .before .before .before .before .before .before .before .pre .0) (c .before .before .before .before .before .before .before .before .before .before .before .pre .3) (λ j. omega (arith, c .shared-slice-known2 .given j)) (c .before .before .before .before .before .before .before .before .before .before .before .pre .4))
+    let start = w .before .before .before .before in
+    let a = start .args in
+    let p = start .pre in
+    let copied = c .before .before .before .before .copy-words in
+    let back = put-back (w .word-of .result .0) (length (a .part .now)) (a .memory .now) (copied .last .1 .0) in
+    rw (c .before .step-by .ensures, back, copied .ensures, here w)
+    (copied-write (a .part .now) (a .r) (a .memory .now) (p .2) (p .0) (p .3) (λ j. omega (arith, c .shared-slice-known2 .given j)) (p .4))
 
 pub write-straight-spec : {M : Type 1} → statement M
 write-straight-spec =

@@ -38,7 +38,8 @@ part-write-straight-start c = search needs
 -- some writes go straight
 straight : (c : tie.Else1) →
     let a = c .before .before .before .before .args in
-    Straight (incw (a .r .control)) (word-at (a .r .pointer) .0) (length (a .memory .now)) (length (a .part .now)) (c .before .straight-writes .result)
+    Straight (incw (a .r .control)) (word-at (a .r .pointer) .0) (length (a .memory .now)) (length (a .part .now))
+    (c .before .straight-writes .result)
 unfolding straight-writes
 straight c = goes-straight _ _ _ _ _ (c .before .straight-writes .ensures) (c .if1 .left)
 
@@ -82,19 +83,22 @@ rest : (c : tie.After-write-singly2) →
     let f = c .before .before .before .before .before .before in
     let a = f .before .before .before .before .before .before .before .args in
     WrittenFrom (machine (f .write-straight .result .registers) (f .write-straight .last .1 .0))
-    (drop (f .before .before .before .before .straight-writes .result) (a .part .now)) (c .write-singly2 .result) (c .write-singly2 .last .1 .0)
+    (drop (f .before .before .before .before .straight-writes .result) (a .part .now)) (c .write-singly2 .result)
+    (c .write-singly2 .last .1 .0)
 rest c = rw (rest-is _ _) at (c .write-singly2 .ensures)
 
 add-t25 : tie.Need-add-t25
 add-t25 c =
     let l = c .before .before .before .before .before in
     let f = l .before .before .before .before .before .before in
-    let s = straight (f .before .before .before) in
-    let part = c .before .before .before .before .before .before .before .before .before .before .before .before .before .before .before .before .before .before .args .part .now in
-    let n = c .before .before .before .before .before .before .before .before .before .before .before .before .before .before .before .straight-writes .result in
-    let few = few-empties (machine (c .before .before .before .before .before .before .before .before .before .before .before .before .before .before .before .before .before .before .args .r) (c .before .before .before .before .before .before .before .before .before .before .before .before .before .before .before .before .before .before .args .memory .now)) (take n part) in
-    let fewer = few-empties (machine (c .before .before .before .before .before .before .before .before .before .before .before .write-straight .result .registers) (c .before .before .before .before .before .before .before .before .before .before .before .write-straight .last .1 .0)) (drop n part) in
-    omega (arith, s .most, c .before .before .before .before .before .before .before .before .before .before .before .before .before .before .before .before .before .before .pre .1, first f .marked, rest l .marked, few, fewer, length-take-le n part (s .most), length-drop n part)
+    let start = f .before .before .before .before .before .before .before in
+    let part = start .args .part .now in
+    let n = f .before .before .before .before .straight-writes .result in
+    let most = straight (f .before .before .before) .most in
+    let few = few-empties (machine (start .args .r) (start .args .memory .now)) (take n part) in
+    let fewer = few-empties (machine (f .write-straight .result .registers) (f .write-straight .last .1 .0)) (drop n part) in
+    let n-words = length-take-le n part most in
+    omega (arith, most, start .pre .1, first f .marked, rest l .marked, few, fewer, n-words, length-drop n part)
 
 same-length-2 : tie.Need-same-length-2
 same-length-2 c = search needs
@@ -103,7 +107,9 @@ returns-2 : tie.Need-returns-2
 returns-2 c =
     let l = c .before .before .before .before .before in
     let f = l .before .before .before .before .before .before in
-    rw (take-append-drop (c .before .before .before .before .before .before .before .before .before .before .before .before .before .before .before .straight-writes .result) (c .before .before .before .before .before .before .before .before .before .before .before .before .before .before .before .before .before .before .args .part .now)) at (join-writes _ _ _ _ _ _ _ (first f) (rest l))
+    let n = f .before .before .before .before .straight-writes .result in
+    let part = f .before .before .before .before .before .before .before .args .part .now in
+    rw (take-append-drop n part) at (join-writes _ _ _ _ _ _ _ (first f) (rest l))
 
 pub write-words-spec : {M : Type 1} → statement M
 write-words-spec =
