@@ -1,5 +1,6 @@
 // The host's side of the port: one access.
 ghost use mathlib.Core.Path.{_≡_};
+ghost use Rattle.port.specs.declared.Access.the-variants.{Read, Write};
 ghost use Rattle.port.specs.Host.{read-due, write-due, begin-access, refusal, register-of, lanes-of, refused, finished, Accessed};
 use crate::Access;
 use crate::Answer;
@@ -47,27 +48,41 @@ fn due_of_write(c: u16, register: u32, lanes: u32) -> Due
     Due::Nothing
 }
 
-// An access on the registers alone. It refuses nothing: a register above 3 is taken for HSTCTL, so `number_of` comes first.
+// A read on the registers alone. It refuses nothing: a register above 3 is taken for HSTCTL, so `number_of` comes first.
+pub fn begin_read(r: Registers, register: u32, lanes: u32) -> Begun
+    ensures { λ b. ⌜ b ≡ begin-access r (Read register lanes) ⌝ }
+{
+    Begun {
+        word: show_bytes(lanes, read_register(r, register)),
+        hollow: both(register == 2, r.hollow),
+        registers: r,
+        due: due_of_read(r.control, register, lanes),
+    }
+}
+
+// A write on the registers alone, which refuses nothing either.
+pub fn begin_write(r: Registers, register: u32, lanes: u32, word: u16) -> Begun
+    ensures { λ b. ⌜ b ≡ begin-access r (Write register lanes word) ⌝ }
+{
+    Begun {
+        word: 0,
+        hollow: false,
+        registers: write_register(r, register, lanes, word),
+        due: due_of_write(r.control, register, lanes),
+    }
+}
+
+// An access on the registers alone. A caller that knows its kind of access calls one of the two above, and the compiler keeps that one alone.
 pub fn begin(r: Registers, a: Access) -> Begun
     ensures { λ b. ⌜ b ≡ begin-access r a ⌝ }
 {
     match a {
-        Access::Read { register, lanes } => Begun {
-            word: show_bytes(lanes, read_register(r, register)),
-            hollow: both(register == 2, r.hollow),
-            registers: r,
-            due: due_of_read(r.control, register, lanes),
-        },
+        Access::Read { register, lanes } => begin_read(r, register, lanes),
         Access::Write {
             register,
             lanes,
             word,
-        } => Begun {
-            word: 0,
-            hollow: false,
-            registers: write_register(r, register, lanes, word),
-            due: due_of_write(r.control, register, lanes),
-        },
+        } => begin_write(r, register, lanes, word),
     }
 }
 

@@ -21,6 +21,8 @@ pub use cycles::settle_fetch;
 pub use cycles::settle_store;
 pub use cycles::step_if;
 pub use host::begin;
+pub use host::begin_read;
+pub use host::begin_write;
 pub use host::finish;
 pub use host::number_of;
 pub use host::refuse;
