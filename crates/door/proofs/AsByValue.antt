@@ -1,0 +1,125 @@
+-- The door does what the access by value does on the registers and words that the bytes stand for; what a call leaves fits the door
+-- again, so no call is refused with number 11 for what an accepted one left.
+-- A call that is done leaves the image and the bytes of what the access leaves; one that is refused with 1, 2 or 3 leaves its own,
+-- and a good image is that of its registers.
+use Prim.Native.Nat.{ℕ, zero, suc, _*_, _%_}
+use native.Mathlib.Omega.{arith}
+use mathlib.Core.Path.{_≡_, refl, sym, ap, _∙_}
+use mathlib.Core.Bool.{Bool, true, false, cond}
+use mathlib.Core.List.{List, [], _∷_}
+use mathlib.Core.Logic.{_≢_}
+use lib.Dec.{eqb}
+use lib.ListN.{length}
+use borrow.Author.Tests.{eqb-false}
+use Rattle.port.specs.Host.{number-for, access, access-memory}
+use Rattle.port.specs.declared.Registers.{Registers}
+use Rattle.port.specs.declared.Access.{Access}
+use Rattle.port.specs.declared.Outcome.{Outcome}
+use Rattle.port.proofs.Taken.{barred, barred-memory}
+use Rattle.door.specs.Bytes.{words-of, bytes-of}
+use Rattle.door.specs.Image.{registers-of, image-of}
+use Rattle.door.specs.Answer.{refusing}
+use Rattle.door.specs.Door.{call-number, call-tells, call-image, call-memory}
+use Rattle.door.specs.InPlainWords.{AreBytes, GoodImage, Fitting, FitsImage, AreWords}
+use Rattle.door.proofs.WordsAndBytes.{bytes-length, bytes-of-words, words-of-bytes}
+use Rattle.door.proofs.ImageAndRecord.{registers-of-image, image-of-registers, image-fits, image-bytes, good-image}
+use Rattle.door.proofs.Numbers.{fit-number}
+use Rattle.door.proofs.StaysGood.{access-fits, access-memory-fits}
+
+-- ---- words of bytes are words, bytes of words are bytes
+pub words-fit : (b : List ℕ) → AreBytes b → AreWords (words-of b)
+unfolding words-of
+words-fit [] s k = omega arith
+words-fit (l ∷ []) s k = omega arith
+words-fit (l ∷ h ∷ rest) s zero = omega (arith, s 0, s 1)
+words-fit (l ∷ h ∷ rest) s (suc k) = words-fit rest (λ j. s (suc (suc j))) k
+
+pub bytes-fit : (m : List ℕ) → AreBytes (bytes-of m)
+unfolding bytes-of
+bytes-fit [] k = omega arith
+bytes-fit (w ∷ rest) zero = omega arith
+bytes-fit (w ∷ rest) (suc zero) = omega arith
+bytes-fit (w ∷ rest) (suc (suc k)) = bytes-fit rest k
+
+-- what holds of a call that is done, and is the same for one that is refused
+done-or-same : {A : Type 0} (n : ℕ) (x y : A) → (n ≢ 0 → y ≡ x) → cond (eqb n 0) x y ≡ x
+done-or-same {A} n x y h = go (eqb n 0) refl
+  where
+    go : (t : Bool) → eqb n 0 ≡ t → cond t x y ≡ x
+    go true e = refl
+    go false e = h (eqb-false n 0 e)
+
+twice-even : (n : ℕ) → 2 * n % 2 ≡ 0
+twice-even n = omega arith
+
+module _ (image memory : List ℕ) (f : Fitting image memory) (s : AreBytes image) (t : AreBytes memory) (a : Access) where
+  abbrev r : Registers
+  r = registers-of image
+
+  abbrev m : List ℕ
+  m = words-of memory
+
+  -- ---- what is left, whether the call is done or refused
+  number-by-words : call-number image memory a ≡ number-for m a
+  number-by-words = fit-number image memory a f
+
+  barred-words : call-number image memory a ≢ 0 → number-for m a ≢ 0
+  barred-words n z = n (number-by-words ∙ z)
+
+  -- A call that fits the door tells what the access tells.
+  pub tells-as-access : call-tells image memory a ≡ access r m a .answer
+  unfolding call-tells
+  tells-as-access =
+      done-or-same (call-number image memory a) _ _
+      (λ n. ap refusing number-by-words ∙ sym (ap (λ (o : Outcome). o .answer) (barred r m a (barred-words n))))
+
+  -- It leaves the image of the registers that the access leaves.
+  pub image-as-access : call-image image memory a ≡ image-of (access r m a .registers)
+  unfolding call-image
+  image-as-access =
+      done-or-same (call-number image memory a) _ _
+      (λ n.
+      sym
+      (ap (λ (o : Outcome). image-of (o .registers)) (barred r m a (barred-words n)) ∙
+      image-of-registers image (f .good-image) s))
+
+  -- It leaves the bytes of the words that the access leaves.
+  pub memory-as-access : call-memory image memory a ≡ bytes-of (access-memory r m a)
+  unfolding call-memory
+  memory-as-access =
+      done-or-same (call-number image memory a) _ _
+      (λ n. sym (ap bytes-of (barred-memory r m a (barred-words n)) ∙ bytes-of-words memory (f .even-memory) t))
+
+  -- ---- what that stands for
+  fits : FitsImage (access r m a .registers)
+  fits = access-fits r m a (image-fits image (f .good-image) s) (words-fit memory t)
+
+  -- The image stands for the registers that the access leaves.
+  pub registers-left : registers-of (call-image image memory a) ≡ access r m a .registers
+  registers-left = rw image-as-access (registers-of-image (access r m a .registers) (fits .widths))
+
+  -- The memory stands for the words that the access leaves.
+  pub words-left : words-of (call-memory image memory a) ≡ access-memory r m a
+  words-left =
+      rw memory-as-access
+      (words-of-bytes (access-memory r m a) (access-memory-fits r m a (image-fits image (f .good-image) s) (words-fit memory t)))
+
+  -- ---- another call can follow
+  -- The image that a call leaves is a good one.
+  pub good-again : GoodImage (call-image image memory a)
+  good-again = rw image-as-access (good-image (access r m a .registers) fits)
+
+  -- What a call leaves fits the door again.
+  pub fits-again : Fitting (call-image image memory a) (call-memory image memory a)
+  fits-again =
+      record {
+        good-image = good-again;
+        even-memory = rw (memory-as-access, bytes-length) (twice-even (length (access-memory r m a)));
+      }
+
+  -- It is made of bytes.
+  pub image-bytes-again : AreBytes (call-image image memory a)
+  image-bytes-again = rw image-as-access (image-bytes (access r m a .registers))
+
+  pub memory-bytes-again : AreBytes (call-memory image memory a)
+  memory-bytes-again = rw memory-as-access (bytes-fit (access-memory r m a))

@@ -1,0 +1,50 @@
+-- The two ways through a call, as both functions go them: refused with its number, or begun and closed.
+use Prim.Native.Nat.{ℕ}
+use mathlib.Core.Path.{_≡_, sym, _∙_}
+use mathlib.Core.List.{List}
+use mathlib.Core.Logic.{_≢_}
+use lib.ListN.{length}
+use borrow.Author.Tests.{eq-eqb, ne-eqb}
+use Rattle.port.specs.Host.{begin-access}
+use Rattle.port.specs.declared.Access.{Access}
+use Rattle.port.proofs.Taken.{taken, taken-memory}
+use Rattle.door.specs.Bytes.{words-of}
+use Rattle.door.specs.Image.{registers-of}
+use Rattle.door.specs.Answer.{packed, refusing}
+use Rattle.door.specs.Door.{call-number, call-tells, call-image, call-memory, Called}
+use Rattle.door.specs.Parts.{Closed}
+use Rattle.door.specs.InPlainWords.{AreBytes, Fitting}
+use Rattle.door.proofs.CycleOverBytes.{cycled-bytes}
+use Rattle.door.proofs.Numbers.{numbered, fit-number}
+
+module _ (image memory : List ℕ) (a : Access) where
+  -- A call that is refused leaves what its statement says by leaving all as it stood.
+  pub refused-call : call-number image memory a ≢ 0 → Called image memory a (packed (refusing (call-number image memory a))) image memory
+  unfolding call-tells call-image call-memory
+  refused-call n =
+      let t = ne-eqb _ _ n in
+      record { answered = rw t; image-left = rw t; memory-left = rw t }
+
+  module _ (z : call-number image memory a ≡ 0) where
+    accepted : Fitting image memory
+    accepted = numbered image memory a .done .0 z .0
+
+    -- A call that is accepted was lent nine bytes of image.
+    pub nine : length image ≡ 9
+    nine = accepted .good-image .nine-bytes
+
+    -- One that is accepted leaves what its statement says by closing the access on what its bytes stand for.
+    pub closed-call : {x : ℕ} {image′ memory′ : List ℕ} → AreBytes memory →
+        Closed memory (begin-access (registers-of image) a) x image′ memory′ → Called image memory a x image′ memory′
+    unfolding call-tells call-image call-memory
+    closed-call s d =
+        let t = eq-eqb _ _ z in
+        let z′ = sym (fit-number image memory a accepted) ∙ z in
+        let o = taken (registers-of image) (words-of memory) a z′ in
+        record {
+          answered = rw (t, o) (d .answered);
+          image-left = rw (t, o) (d .image-left);
+          memory-left =
+              rw (t, taken-memory (registers-of image) (words-of memory) a z′)
+              (d .memory-left ∙ cycled-bytes memory (accepted .even-memory) s _ _);
+        }

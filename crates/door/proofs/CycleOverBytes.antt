@@ -1,0 +1,34 @@
+-- A cycle over lent bytes leaves the bytes of the words that the cycle leaves, so one word's two bytes are all that need be touched.
+-- By cases on the cycle; a store's by whether its word is in memory.
+use Prim.Native.Nat.{ℕ, _%_}
+use mathlib.Core.Path.{_≡_, sym, ap, _∙_}
+use mathlib.Core.Bool.{Bool, true, false, cond}
+use mathlib.Core.List.{List}
+use lib.ListN.{length, set}
+use Rattle.words.specs.Memory.{in-memory, store-at}
+use Rattle.words.specs.declared.WordNumber.{WordNumber}
+use Rattle.port.specs.Cycle.{memory-after}
+use Rattle.port.specs.declared.Registers.{Registers}
+use Rattle.port.specs.declared.Due.{Due}
+use Rattle.port.specs.declared.Due.the-variants.{Nothing, Fetch, Store}
+use Rattle.door.specs.Bytes.{words-of, bytes-of}
+use Rattle.door.specs.Parts.{put-word, store-bytes, bytes-after}
+use Rattle.door.specs.InPlainWords.{AreBytes}
+use Rattle.door.proofs.WordsAndBytes.{bytes-of-words, bytes-of-set}
+
+module _ (b : List ℕ) (even : length b % 2 ≡ 0) (s : AreBytes b) where
+  -- A store of two bytes leaves the bytes of the words with one word stored.
+  pub stored-bytes : (n : WordNumber) (w : ℕ) → store-bytes b n w ≡ bytes-of (store-at (words-of b) n w)
+  unfolding store-bytes store-at
+  stored-bytes n w = go (in-memory (words-of b) n)
+    where
+      go : (t : Bool) → cond t (put-word b (n .0) w) b ≡ bytes-of (cond t (set (words-of b) (n .0) w) (words-of b))
+      go true = sym (bytes-of-set (words-of b) (n .0) w ∙ ap (λ (x : List ℕ). put-word x (n .0) w) (bytes-of-words b even s))
+      go false = sym (bytes-of-words b even s)
+
+  -- Any cycle over bytes leaves the bytes of the words that it leaves.
+  pub cycled-bytes : (r : Registers) (due : Due) → bytes-after r due b ≡ bytes-of (memory-after r due (words-of b))
+  unfolding bytes-after memory-after
+  cycled-bytes r Nothing = sym (bytes-of-words b even s)
+  cycled-bytes r (Fetch t) = sym (bytes-of-words b even s)
+  cycled-bytes r (Store t) = stored-bytes _ (r .latch)

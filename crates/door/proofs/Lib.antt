@@ -1,0 +1,17 @@
+-- The laws of the C door, in reading order. Proofs of single functions are in the folders beside them.
+-- ---- lent bytes, and the register image
+pub mod WordsAndBytes
+pub mod ImageAndRecord
+pub mod CycleOverBytes
+-- ---- demand 1
+pub mod Numbers
+pub mod Refusals
+pub mod Packed
+pub mod One
+pub mod Calls
+-- ---- a call is the access by value
+pub mod StaysGood
+pub mod AsByValue
+pub mod TwoBytes
+-- ---- demand 3: bytes and words end alike
+pub mod ByBytes

@@ -1,0 +1,30 @@
+-- Any two outcomes that a statement allows are one. The functions that are lent nothing to change state one equation each, and
+-- `one-value` of crate words is their law.
+use Prim.Native.Nat.{ℕ}
+use mathlib.Core.Path.{_≡_}
+use mathlib.Core.Bool.{Bool}
+use mathlib.Core.List.{List}
+use Rattle.words.specs.declared.WordNumber.{WordNumber}
+use Rattle.words.proofs.One.{one-value}
+use Rattle.port.specs.declared.Registers.{Registers}
+use Rattle.port.specs.declared.Access.{Access}
+use Rattle.port.specs.declared.Due.{Due}
+use Rattle.port.specs.declared.Carried.{Carried}
+use Rattle.door.specs.Door.{Called}
+use Rattle.door.specs.Parts.{StoredBytes, CycledBytes}
+
+-- A call has one outcome.
+pub one-called : {image memory : List ℕ} {a : Access} {x y : ℕ} {i j m n : List ℕ} →
+    Called image memory a x i m → Called image memory a y j n → (x ≡ y) × (i ≡ j) × (m ≡ n)
+one-called p q =
+    (one-value (p .answered) (q .answered), one-value (p .image-left) (q .image-left), one-value (p .memory-left) (q .memory-left))
+
+-- A store over bytes has one outcome.
+pub one-stored : {b b′ b″ : List ℕ} {n : WordNumber} {w : ℕ} {i j : Bool} →
+    StoredBytes b n w i b′ → StoredBytes b n w j b″ → (i ≡ j) × (b′ ≡ b″)
+one-stored p q = (one-value (p .fell) (q .fell), one-value (p .memory) (q .memory))
+
+-- A cycle over bytes has one outcome.
+pub one-cycled : {r : Registers} {due : Due} {b b′ b″ : List ℕ} {c d : Carried} →
+    CycledBytes r due b c b′ → CycledBytes r due b d b″ → (c ≡ d) × (b′ ≡ b″)
+one-cycled p q = (one-value (p .outcome) (q .outcome), one-value (p .memory) (q .memory))

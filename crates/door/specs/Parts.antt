@@ -1,0 +1,51 @@
+-- The parts of a call, and its memory cycle over lent bytes: one word's two bytes are read or written, and the rest is not touched.
+--   put-word b n w       the bytes with those of word n made the bytes of w
+--   store-bytes b n w    the bytes after a store of w to word n
+--   bytes-after r due b  the bytes after the cycle that is due
+--   Closed b x ..        what is left of a call once its access is begun
+use Prim.Native.Nat.{ℕ, _+_, _*_}
+use mathlib.Core.Bool.{Bool, cond}
+use mathlib.Core.List.{List}
+use mathlib.Core.Path.{_≡_}
+use lib.ListN.{set}
+use Rattle.words.specs.Addresses.{word-at}
+use Rattle.words.specs.Bytes.{lo, hi}
+use Rattle.words.specs.Memory.{in-memory}
+use Rattle.words.specs.declared.WordNumber.{WordNumber}
+use Rattle.port.specs.Cycle.{carried}
+use Rattle.port.specs.Host.{done}
+use Rattle.port.specs.declared.Registers.{Registers}
+use Rattle.port.specs.declared.Due.{Due}
+use Rattle.port.specs.declared.Due.the-variants.{Nothing, Fetch, Store}
+use Rattle.port.specs.declared.Begun.{Begun}
+use Rattle.port.specs.declared.Carried.{Carried}
+use Rattle.door.specs.Bytes.{words-of}
+use Rattle.door.specs.Image.{image-of}
+use Rattle.door.specs.Answer.{packed}
+
+abbrev pub put-word : List ℕ → ℕ → ℕ → List ℕ
+put-word b n w = set (set b (2 * n) (lo w)) (2 * n + 1) (hi w)
+
+unfoldable pub store-bytes : List ℕ → WordNumber → ℕ → List ℕ
+store-bytes b n w = cond (in-memory (words-of b) n) (put-word b (n .0) w) b
+
+-- what a store leaves: whether it fell inside, and the bytes
+pub record StoredBytes (b : List ℕ) (n : WordNumber) (w : ℕ) (inside : Bool) (b′ : List ℕ) : Type 0 where
+  pub fell : inside ≡ in-memory (words-of b) n
+  pub memory : b′ ≡ store-bytes b n w
+
+unfoldable pub bytes-after : Registers → Due → List ℕ → List ℕ
+bytes-after r Nothing b = b
+bytes-after r (Fetch s) b = b
+bytes-after r (Store s) b = store-bytes b (word-at (r .pointer)) (r .latch)
+
+-- what a cycle leaves: the registers with its mark, and the bytes
+pub record CycledBytes (r : Registers) (due : Due) (b : List ℕ) (c : Carried) (b′ : List ℕ) : Type 0 where
+  pub outcome : c ≡ carried r due (words-of b)
+  pub memory : b′ ≡ bytes-after r due b
+
+-- what an accepted call leaves from x, its access before the cycle: its answer, the image and the bytes
+pub record Closed (b : List ℕ) (x : Begun) (answer : ℕ) (image′ b′ : List ℕ) : Type 0 where
+  pub answered : answer ≡ packed (done x (words-of b) .answer)
+  pub image-left : image′ ≡ image-of (done x (words-of b) .registers)
+  pub memory-left : b′ ≡ bytes-after (x .registers) (x .due) b

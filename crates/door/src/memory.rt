@@ -1,0 +1,73 @@
+// The memory cycle over lent bytes: the two bytes of its word are read or written, and no others.
+ghost use mathlib.Core.Path.{_≡_};
+ghost use Rattle.words.specs.Memory.{fetch-at};
+ghost use Rattle.door.specs.Bytes.{words-of};
+ghost use Rattle.door.specs.Parts.{StoredBytes, CycledBytes};
+use crate::image::join_bytes;
+use port::Carried;
+use port::Cycle;
+use port::Due;
+use port::Registers;
+use port::settle_fetch;
+use port::settle_store;
+use port::step_if;
+use words::Fetched;
+use words::WordNumber;
+use words::high_byte;
+use words::low_byte;
+use words::word_of;
+
+// One word of memory as a fetch finds it.
+fn fetch_bytes(memory: &[u8], n: WordNumber) -> Fetched
+    ensures { λ r. ⌜ r ≡ fetch-at (words-of (now (memory .entry))) n ⌝ }
+{
+    let k = n.0 as usize;
+    if k < memory.len() / 2 {
+        let i = 2 * k;
+        let w = join_bytes(memory[i], memory[i + 1]);
+        return Fetched {
+            word: w,
+            inside: true,
+        };
+    }
+    Fetched {
+        word: 0xffff,
+        inside: false,
+    }
+}
+
+// One word of memory replaced, and true; where it is not there, nothing and false.
+fn store_bytes(memory: &mut [u8], n: WordNumber, w: u16) -> bool
+    ensures { λ r. ⌜ StoredBytes (now (memory .entry)) n w r (now (memory .exit)) ⌝ }
+{
+    let k = n.0 as usize;
+    if k < memory.len() / 2 {
+        let i = 2 * k;
+        memory[i] = low_byte(w);
+        memory[i + 1] = high_byte(w);
+        return true;
+    }
+    false
+}
+
+// The cycle that is due, on the lent bytes.
+pub(crate) fn carry_bytes(r: Registers, due: Due, memory: &mut [u8]) -> Carried
+    ensures { λ c. ⌜ CycledBytes r due (now (memory .entry)) c (now (memory .exit)) ⌝ }
+{
+    match due {
+        Due::Nothing => Carried {
+            registers: r,
+            cycle: Cycle::None,
+        },
+        Due::Fetch(step) => {
+            let q = step_if(step, r);
+            let a = q.pointer;
+            settle_fetch(q, fetch_bytes(memory, word_of(a)))
+        }
+        Due::Store(step) => {
+            let a = r.pointer;
+            let inside = store_bytes(memory, word_of(a), r.latch);
+            settle_store(r, step, inside)
+        }
+    }
+}
