@@ -1,7 +1,9 @@
-// A day at the bench, each access done in place: document 01's K1 to K4, a table read byte by byte in either order, and refusals.
-// Each access prints a line: what it was, its answer, and the pointer that it left in the record. An accepted read of HSTDATA prints
-// `held` or `hollow`, any other line `-`.
+// A day at the bench, each access done in place: document 01's K1 to K4, a table read byte by byte in either order, refusals, and
+// memories of every kind of length. Each access prints a line: what it was, its answer, and the pointer that it left in the record. An
+// accepted read of HSTDATA prints `held` or `hollow`, any other line `-`.
 // The stored output was worked out by hand from document 01, "The four host registers", "Numbers returned" and "Checked examples".
+ghost use mathlib.Core.Bool.{cond};
+ghost use lib.Dec.{eqb};
 ghost use Rattle.port.specs.Host.{Accessed};
 ghost use Rattle.port.specs.declared.Access.the-variants.{Read, Write};
 use port::Access;
@@ -106,108 +108,320 @@ fn print_words(memory: &[u16; 3]) {
     io::write_all(1, b"\n");
 }
 
-fn run_table() {
-    io::write_all(1, b"K1 and K2: three words, and a read past them\n");
-    let mut memory = [0x1111, 0x2222, 0x3333];
+// One access of a script, which has four numbers for each: 0 for a read or 1 for a write, the register, the lanes, and the word.
+fn step(
+    r: Registers,
+    memory: &mut [u16],
+    kind: u16,
+    register: u16,
+    lanes: u16,
+    word: u16,
+) -> Outcome
+    ensures { λ o. ⌜ Accessed r (now (memory .entry)) (cond (eqb kind 0) (Read register lanes) (Write register lanes word)) o (now (memory .exit)) ⌝ }
+{
+    if kind == 0 {
+        return read(r, memory, register as u32, lanes as u32);
+    }
+    write(r, memory, register as u32, lanes as u32, word)
+}
+
+// A script, from reset on.
+fn run(title: &[u8], memory: &mut [u16], script: &[u16]) {
+    io::write_all(1, title);
     let woken = port::reset();
-    let o = write(woken.registers, &mut memory, 3, 3, 0x1000);
-    let o = write(o.registers, &mut memory, 0, 3, 0);
-    let o = write(o.registers, &mut memory, 1, 3, 0);
-    let o = read(o.registers, &mut memory, 2, 3);
-    let o = read(o.registers, &mut memory, 2, 3);
-    let o = read(o.registers, &mut memory, 2, 3);
-    read(o.registers, &mut memory, 2, 3);
+    let mut r = woken.registers;
+    let mut at: usize = 0;
+    while at + 3 < script.len() {
+        let o = step(
+            r,
+            memory,
+            script[at],
+            script[at + 1],
+            script[at + 2],
+            script[at + 3],
+        );
+        r = o.registers;
+        at += 4;
+    }
+}
+
+fn run_table() {
+    let mut memory = [0x1111, 0x2222, 0x3333];
+    let script = [
+        1,
+        3,
+        3,
+        0x1000,
+        1,
+        0,
+        3,
+        0,
+        1,
+        1,
+        3,
+        0,
+        0,
+        2,
+        3,
+        0,
+        0,
+        2,
+        3,
+        0,
+        0,
+        2,
+        3,
+        0,
+        0,
+        2,
+        3,
+        0,
+    ];
+    run(
+        b"K1 and K2: three words, and a read past them\n",
+        &mut memory,
+        &script,
+    );
     print_words(&memory);
 }
 
 fn run_store() {
-    io::write_all(1, b"K3: a word stored, then two reads\n");
     let mut memory = [0x1111, 0x2222, 0x3333];
-    let woken = port::reset();
-    let o = write(woken.registers, &mut memory, 3, 3, 0x0800);
-    let o = write(o.registers, &mut memory, 0, 3, 0);
-    let o = write(o.registers, &mut memory, 1, 3, 0);
-    let o = write(o.registers, &mut memory, 2, 3, 0xaaaa);
-    let o = read(o.registers, &mut memory, 2, 3);
-    read(o.registers, &mut memory, 2, 3);
+    let script = [
+        1,
+        3,
+        3,
+        0x0800,
+        1,
+        0,
+        3,
+        0,
+        1,
+        1,
+        3,
+        0,
+        1,
+        2,
+        3,
+        0xaaaa,
+        0,
+        2,
+        3,
+        0,
+        0,
+        2,
+        3,
+        0,
+    ];
+    run(b"K3: a word stored, then two reads\n", &mut memory, &script);
     print_words(&memory);
 }
 
 fn run_top() {
-    io::write_all(1, b"K4: the pointer steps from the top to 0\n");
     let mut memory = [0x1111, 0x2222, 0x3333];
-    let woken = port::reset();
-    let o = write(woken.registers, &mut memory, 3, 3, 0x1000);
-    let o = write(o.registers, &mut memory, 0, 3, 0xfff0);
-    let o = write(o.registers, &mut memory, 1, 3, 0xffff);
-    let o = read(o.registers, &mut memory, 2, 3);
-    read(o.registers, &mut memory, 2, 3);
+    let script = [
+        1,
+        3,
+        3,
+        0x1000,
+        1,
+        0,
+        3,
+        0xfff0,
+        1,
+        1,
+        3,
+        0xffff,
+        0,
+        2,
+        3,
+        0,
+        0,
+        2,
+        3,
+        0,
+    ];
+    run(
+        b"K4: the pointer steps from the top to 0\n",
+        &mut memory,
+        &script,
+    );
 }
 
 fn run_low_byte_first() {
-    io::write_all(1, b"two words byte by byte, LBL 0\n");
     let mut memory = [0x1234, 0x5678];
-    let woken = port::reset();
-    let o = write(woken.registers, &mut memory, 3, 3, 0x1000);
-    let o = write(o.registers, &mut memory, 0, 1, 0);
-    let o = write(o.registers, &mut memory, 0, 2, 0);
-    let o = write(o.registers, &mut memory, 1, 1, 0);
-    let o = write(o.registers, &mut memory, 1, 2, 0);
-    let o = read(o.registers, &mut memory, 2, 1);
-    let o = read(o.registers, &mut memory, 2, 2);
-    let o = read(o.registers, &mut memory, 2, 1);
-    let o = read(o.registers, &mut memory, 2, 2);
-    let o = read(o.registers, &mut memory, 2, 1);
-    read(o.registers, &mut memory, 2, 2);
+    let script = [
+        1,
+        3,
+        3,
+        0x1000,
+        1,
+        0,
+        1,
+        0,
+        1,
+        0,
+        2,
+        0,
+        1,
+        1,
+        1,
+        0,
+        1,
+        1,
+        2,
+        0,
+        0,
+        2,
+        1,
+        0,
+        0,
+        2,
+        2,
+        0,
+        0,
+        2,
+        1,
+        0,
+        0,
+        2,
+        2,
+        0,
+        0,
+        2,
+        1,
+        0,
+        0,
+        2,
+        2,
+        0,
+    ];
+    run(b"two words byte by byte, LBL 0\n", &mut memory, &script);
 }
 
 fn run_high_byte_first() {
-    io::write_all(1, b"the same, LBL 1\n");
     let mut memory = [0x1234, 0x5678];
-    let woken = port::reset();
-    let o = write(woken.registers, &mut memory, 3, 3, 0x3000);
-    let o = write(o.registers, &mut memory, 1, 2, 0);
-    let o = write(o.registers, &mut memory, 1, 1, 0);
-    let o = write(o.registers, &mut memory, 0, 2, 0);
-    let o = write(o.registers, &mut memory, 0, 1, 0);
-    let o = read(o.registers, &mut memory, 2, 2);
-    let o = read(o.registers, &mut memory, 2, 1);
-    let o = read(o.registers, &mut memory, 2, 2);
-    let o = read(o.registers, &mut memory, 2, 1);
-    let o = read(o.registers, &mut memory, 2, 2);
-    read(o.registers, &mut memory, 2, 1);
+    let script = [
+        1,
+        3,
+        3,
+        0x3000,
+        1,
+        1,
+        2,
+        0,
+        1,
+        1,
+        1,
+        0,
+        1,
+        0,
+        2,
+        0,
+        1,
+        0,
+        1,
+        0,
+        0,
+        2,
+        2,
+        0,
+        0,
+        2,
+        1,
+        0,
+        0,
+        2,
+        2,
+        0,
+        0,
+        2,
+        1,
+        0,
+        0,
+        2,
+        2,
+        0,
+        0,
+        2,
+        1,
+        0,
+    ];
+    run(b"the same, LBL 1\n", &mut memory, &script);
 }
 
 // The read after them shows the pointer, the word and the mark that stood before.
 fn run_refusals() {
-    io::write_all(1, b"refusals change nothing\n");
     let mut memory = [0x1111, 0x2222, 0x3333];
-    let woken = port::reset();
-    let o = write(woken.registers, &mut memory, 3, 3, 0x1800);
-    let o = write(o.registers, &mut memory, 0, 3, 0x0010);
-    let o = write(o.registers, &mut memory, 1, 3, 0);
-    let o = read(o.registers, &mut memory, 4, 3);
-    let o = read(o.registers, &mut memory, 2, 0);
-    let o = write(o.registers, &mut memory, 2, 4, 0xaaaa);
-    let o = write(o.registers, &mut memory, 4, 4, 0xaaaa);
-    read(o.registers, &mut memory, 2, 3);
+    let script = [
+        1,
+        3,
+        3,
+        0x1800,
+        1,
+        0,
+        3,
+        0x0010,
+        1,
+        1,
+        3,
+        0,
+        0,
+        4,
+        3,
+        0,
+        0,
+        2,
+        0,
+        0,
+        1,
+        2,
+        4,
+        0xaaaa,
+        1,
+        4,
+        4,
+        0xaaaa,
+        0,
+        2,
+        3,
+        0,
+    ];
+    run(b"refusals change nothing\n", &mut memory, &script);
     print_words(&memory);
 }
 
 fn run_lengths() {
-    io::write_all(1, b"the longest memory, one word more, and none\n");
     let mut longest = [0x4444u16; 32768];
     let mut longer = [0x5555u16; 32769];
     let mut none = [0u16; 0];
-    let woken = port::reset();
-    let o = write(woken.registers, &mut longest, 3, 3, 0x1800);
-    let o = write(o.registers, &mut longest, 0, 3, 0xfff0);
-    let o = write(o.registers, &mut longest, 1, 3, 0x0007);
-    let o = read(o.registers, &mut longer, 2, 3);
-    let o = write(o.registers, &mut longer, 4, 4, 0xaaaa);
-    let o = write(o.registers, &mut longest, 2, 3, 0xaaaa);
-    let o = read(o.registers, &mut longest, 2, 3);
-    read(o.registers, &mut none, 2, 3);
+    let last = [
+        1,
+        3,
+        3,
+        0x1800,
+        1,
+        0,
+        3,
+        0xfff0,
+        1,
+        1,
+        3,
+        0x0007,
+        1,
+        2,
+        3,
+        0xaaaa,
+        0,
+        2,
+        3,
+        0,
+    ];
+    let refused = [0, 2, 3, 0, 1, 4, 4, 0xaaaa];
+    let missed = [0, 2, 3, 0, 0, 2, 3, 0, 1, 2, 3, 0xaaaa, 0, 2, 3, 0];
+    run(b"the last of 32,768 words\n", &mut longest, &last);
+    run(b"one word more: number 1\n", &mut longer, &refused);
+    run(b"no memory, after reset\n", &mut none, &missed);
 }
 
 fn main() {
