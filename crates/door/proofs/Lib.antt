@@ -2,12 +2,13 @@
 -- ---- lent bytes, and the register image
 pub mod WordsAndBytes
 pub mod ImageAndRecord
-pub mod CycleOverBytes
 -- ---- demand 1
 pub mod Numbers
 pub mod Refusals
 pub mod Packed
 pub mod One
+-- ---- what both calls rest on
+pub mod CycleOverBytes
 pub mod Calls
 -- ---- a call is the access by value
 pub mod StaysGood

@@ -9,9 +9,10 @@ use Rattle.words.proofs.One.{one-value}
 use Rattle.port.specs.declared.Registers.{Registers}
 use Rattle.port.specs.declared.Access.{Access}
 use Rattle.port.specs.declared.Due.{Due}
+use Rattle.port.specs.declared.Begun.{Begun}
 use Rattle.port.specs.declared.Carried.{Carried}
 use Rattle.door.specs.Door.{Called}
-use Rattle.door.specs.Parts.{StoredBytes, CycledBytes}
+use Rattle.door.specs.Parts.{StoredBytes, CycledBytes, Closed}
 
 -- A call has one outcome.
 pub one-called : {image memory : List ℕ} {a : Access} {x y : ℕ} {i j m n : List ℕ} →
@@ -28,3 +29,9 @@ one-stored p q = (one-value (p .fell) (q .fell), one-value (p .memory) (q .memor
 pub one-cycled : {r : Registers} {due : Due} {b b′ b″ : List ℕ} {c d : Carried} →
     CycledBytes r due b c b′ → CycledBytes r due b d b″ → (c ≡ d) × (b′ ≡ b″)
 one-cycled p q = (one-value (p .outcome) (q .outcome), one-value (p .memory) (q .memory))
+
+-- What is left of a call once its access is begun has one outcome.
+pub one-closed : {b : List ℕ} {x : Begun} {v w : ℕ} {i j m n : List ℕ} →
+    Closed b x v i m → Closed b x w j n → (v ≡ w) × (i ≡ j) × (m ≡ n)
+one-closed p q =
+    (one-value (p .answered) (q .answered), one-value (p .image-left) (q .image-left), one-value (p .memory-left) (q .memory-left))

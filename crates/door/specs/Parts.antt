@@ -1,8 +1,9 @@
 -- The parts of a call, and its memory cycle over lent bytes: one word's two bytes are read or written, and the rest is not touched.
---   put-word b n w       the bytes with those of word n made the bytes of w
---   store-bytes b n w    the bytes after a store of w to word n
---   bytes-after r due b  the bytes after the cycle that is due
---   Closed b x ..        what is left of a call once its access is begun
+--   put-word b n w              the bytes with those of word n made the bytes of w
+--   store-bytes b n w           the bytes after a store of w to word n
+--   bytes-after r due b         the bytes after the cycle that is due
+--   StoredBytes, CycledBytes    what a store and a cycle leave, as contracts
+--   Closed                      what a call leaves, from its access before the cycle, as a contract
 use Prim.Native.Nat.{ℕ, _+_, _*_}
 use mathlib.Core.Bool.{Bool, cond}
 use mathlib.Core.List.{List}
@@ -23,9 +24,11 @@ use Rattle.door.specs.Bytes.{words-of}
 use Rattle.door.specs.Image.{image-of}
 use Rattle.door.specs.Answer.{packed}
 
+-- "memory two bytes a word, low first"
 abbrev pub put-word : List ℕ → ℕ → ℕ → List ℕ
 put-word b n w = set (set b (2 * n) (lo w)) (2 * n + 1) (hi w)
 
+-- "an empty store is dropped" (house)
 unfoldable pub store-bytes : List ℕ → WordNumber → ℕ → List ℕ
 store-bytes b n w = cond (in-memory (words-of b) n) (put-word b (n .0) w) b
 
@@ -34,6 +37,7 @@ pub record StoredBytes (b : List ℕ) (n : WordNumber) (w : ℕ) (inside : Bool)
   pub fell : inside ≡ in-memory (words-of b) n
   pub memory : b′ ≡ store-bytes b n w
 
+-- "the whole of HSTDATA is stored at the pointer"
 unfoldable pub bytes-after : Registers → Due → List ℕ → List ℕ
 bytes-after r Nothing b = b
 bytes-after r (Fetch s) b = b
