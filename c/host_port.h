@@ -1,5 +1,5 @@
 /*
- * The host port of the TMS34010 for programs in C and C++ on x86-64: one access by the host, on numbers and lent bytes.
+ * The host port of the TMS34010 for programs in C (from C99 on) and C++ on x86-64: one access by the host, on numbers and lent bytes.
  *
  *     cc program.c -Idist dist/libhost_port.a
  *
@@ -101,7 +101,8 @@ enum {
  *     bit 24      the hollow mark that HSTDATA had when the call began; 0 but for reads of HSTDATA
  *     bits 25-26  the cycle
  *
- * All other bits are 0; 32-59 are kept for a word number. A refusal is its number and zeros, and changes no byte.
+ * All other bits are 0; 32-59 are kept for a word number. A refusal is its number and zeros, and changes no byte. A read
+ * changes no byte of the memory, and a write at most the two of the word that it stores.
  * Take it apart with the functions below, so that a program needn't change when the kept bits come into use.
  */
 uint64_t host_port_read(uint8_t *image, size_t image_length, uint8_t *memory, size_t memory_length, uint32_t reg,

@@ -1,5 +1,5 @@
 /* The choices are weighted: most calls are accepted and happen near an end of the memory, where mistakes would show.
- * No expression here has two of them, since C leaves their order open and the calls would differ from compiler to compiler. */
+ * No expression here makes two of them in an order that C leaves open: the calls would differ from compiler to compiler. */
 #include "lent.h"
 
 #include <stdbool.h>

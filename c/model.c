@@ -227,7 +227,10 @@ static bool is_bad_image(const uint8_t *image, size_t image_length, size_t memor
     if (image_length != 9 && !(tells(lie, LONG_IMAGE_TAKEN) && image_length > 9)) {
         return true;
     }
-    return image[8] > 1 || (image[7] & 4) != 0 || memory_length % 2 != 0;
+    bool bad_mark = image[8] > (tells(lie, HOLLOW_BYTE_2_TAKEN) ? 2 : 1);
+    bool bit_10 = (image[7] & 4) != 0 && !tells(lie, BIT_10_TAKEN);
+    bool odd = memory_length % 2 != 0 && !tells(lie, ODD_MEMORY_TAKEN);
+    return bad_mark || bit_10 || odd;
 }
 
 /* "Tested in this order: 11 first, then as numbered." */

@@ -58,7 +58,6 @@ one-day d e =
 
 -- ---- port's laws, for a day
 
--- Sixteen-bit accesses, each done whole, are a sequence of `Runs`: what port's laws say of its answers and of its end holds of the day.
 wholes-answer : (s : Machine) (l : List Sixteen) → day-answers s (wholes l) ≡ answers s l
 unfolding day-answers answers
 wholes-answer s [] = refl
@@ -69,16 +68,17 @@ unfolding day-ends ends
 wholes-end s [] = refl
 wholes-end s (a ∷ l) = wholes-end (after s (on 3 a)) l
 
+-- Sixteen-bit accesses, each done whole, are a sequence of `Runs`: what port's laws say of its answers and of its end holds of the day.
 pub whole-day : {s t : Machine} {xs : List Answer} (l : List Sixteen) → Day s (wholes l) xs t → (xs ≡ answers s l) × (t ≡ ends s l)
 whole-day {s} l d =
     let p = day-by-value d in
     (p .0 ∙ wholes-answer s l, p .1 ∙ wholes-end s l)
 
--- Accesses of any kind are a run of deeds of the host: what the keeper's law says of HSTDATA after a run holds after the day.
 ran-by-host : (s : Machine) (l : List Access) → day-ends s l ≡ ran s (by-host l)
 unfolding day-ends ran does
 ran-by-host s [] = refl
 ran-by-host s (a ∷ l) = ran-by-host (after s a) l
 
+-- Accesses of any kind are a run of deeds of the host: what the keeper's law says of HSTDATA after a run holds after the day.
 pub day-of-deeds : {s t : Machine} {l : List Access} {xs : List Answer} → Day s l xs t → t ≡ ran s (by-host l)
 day-of-deeds {s} {t} {l} d = day-by-value d .1 ∙ ran-by-host s l

@@ -1,10 +1,11 @@
--- The watch tuner's law once more, for a block: every word of a table is handed out, the last included; and the keeper's: the
--- words past the end of memory are counted, all of them and no other. By crate port's `EveryWord`.
-use Prim.Native.Nat.{ℕ, _+_, _^_, _≤_}
+-- The watch tuner's law once more, for a block: every word of a table is handed out, the last included; and the keeper's: of a block
+-- that reads on past the end of memory, or begins there, the words past the end are counted, all of them and no other. By crate
+-- port's `EveryWord`.
+use Prim.Native.Nat.{ℕ, _+_, _^_, _<_, _≤_}
 use native.Mathlib.Omega.{arith}
 use mathlib.Core.Path.{_≡_, ap, _∙_}
 use mathlib.Core.Bool.{true}
-use mathlib.Core.List.{List, _++_, map}
+use mathlib.Core.List.{List, [], _++_, map}
 use lib.ListN.{length, replicate}
 use Rattle.words.specs.Addresses.{word-at}
 use Rattle.words.specs.declared.BitAddress.{BitAddress}
@@ -12,13 +13,14 @@ use Rattle.control.specs.Control.{incr}
 use Rattle.port.specs.Runs.{Machine, answers}
 use Rattle.port.specs.Table.{Memory, loaded, reading, table, Lies, given}
 use Rattle.port.proofs.Handed.{loads}
-use Rattle.port.proofs.EveryWord.{every-word, then-hollow}
+use Rattle.port.proofs.EveryWord.{every-word, then-hollow, only-hollow}
 use Rattle.block.specs.Block.{machine, stretch, words-in, hollows-in, block-read, list-after}
+use Rattle.block.specs.InPlainWords.{Fits}
 use Rattle.block.specs.declared.BlockRead.{BlockRead}
 use Rattle.block.proofs.Numbers.{when, read-taken, list-taken}
 use Rattle.block.proofs.Lent.{laid-stretch}
 use Rattle.block.proofs.Straight.{held-then-hollow, all-held}
-use Rattle.block.proofs.Singles.{filled-length}
+use Rattle.block.proofs.Joining.{filled-length}
 
 -- Load the pointer at a table of n words that lies in memory, with INCR set, and read a block of n: it is done, every word of the
 -- table lies in the list's stretch, in order, the last included, and none is counted hollow, whatever lies after the table.
@@ -26,10 +28,6 @@ pub record EveryWord (s : Machine) (a : BitAddress) (l : List ℕ) (place n : �
   pub number : block-read (loaded s a .registers) (s .memory) l place n .number ≡ 0
   pub words : stretch (list-after (loaded s a .registers) (s .memory) l place n) place n ≡ table (s .memory) a n
   pub hollows : block-read (loaded s a .registers) (s .memory) l place n .hollows ≡ 0
-
--- a block that fits the list
-abbrev Fits : List ℕ → ℕ → ℕ → Type 0
-Fits l place n = (n ≤ 4096) × (place + n ≤ length l)
 
 -- Read a block past the end of memory: of n + j words the n that are left in memory and then j fillers, and j are counted hollow.
 pub record ThenHollow (s : Machine) (a : BitAddress) (l : List ℕ) (place n j : ℕ) : Type 0 where
@@ -41,8 +39,8 @@ pub record ThenHollow (s : Machine) (a : BitAddress) (l : List ℕ) (place n j :
 module _ (s : Machine) (k : Memory (s .memory)) (i : incr (s .registers .control) ≡ true) (a : BitAddress)
     (l : List ℕ) (place : ℕ) where
   -- loading leaves the memory
-  just-loaded : (n : ℕ) → Lies (s .memory) a n → machine (loaded s a .registers) (s .memory) ≡ loaded s a
-  just-loaded n h = rw (loads s k a (omega (arith, k .size)))
+  just-loaded : a .0 < 2 ^ 32 → machine (loaded s a .registers) (s .memory) ≡ loaded s a
+  just-loaded b = rw (loads s k a b)
 
   -- a block of so many words that hands out ws, of which j are hollow
   handed-out : (n : ℕ) (ws : List ℕ) (j : ℕ) → Fits l place n →
@@ -66,7 +64,7 @@ module _ (s : Machine) (k : Memory (s .memory)) (i : incr (s .registers .control
   -- Every word of a table that lies in memory is handed out.
   pub every-word-of-a-block : (n : ℕ) → Lies (s .memory) a n → Fits l place n → EveryWord s a l place n
   every-word-of-a-block n h f =
-      let given-so = ap (λ (t : Machine). map given (answers t (reading n))) (just-loaded n h) ∙ every-word s k i a n h .words in
+      let given-so = ap (λ (t : Machine). map given (answers t (reading n))) (just-loaded (omega (arith, k .size))) ∙ every-word s k i a n h .words in
       let told = handed-out n (table (s .memory) a n) 0 f (all-held _ _ given-so) in
       record { number = told .0; words = told .1; hollows = told .2 }
 
@@ -74,8 +72,17 @@ module _ (s : Machine) (k : Memory (s .memory)) (i : incr (s .registers .control
   pub block-past-the-end : (n j : ℕ) → word-at a .0 + n ≡ length (s .memory) → word-at a .0 + n + j ≤ 2 ^ 28 → Fits l place (n + j) →
       ThenHollow s a l place n j
   block-past-the-end n j h q f =
-      let here = just-loaded n (omega arith) in
+      let here = just-loaded (omega (arith, k .size)) in
       let given-so = ap (λ (t : Machine). map given (answers t (reading (n + j)))) here ∙ then-hollow s k i a n j h q in
       let words = table (s .memory) a n in
       let told = handed-out (n + j) (words ++ replicate j 0xffff) j f (held-then-hollow _ words j given-so) in
       record { number = told .0; words = told .1; hollows = told .2 }
+
+  -- Begun past the end of memory, every word of the block is filler, and counted.
+  pub block-beyond : (j : ℕ) → a .0 < 2 ^ 32 → length (s .memory) ≤ word-at a .0 → word-at a .0 + j ≤ 2 ^ 28 → Fits l place j →
+      (stretch (list-after (loaded s a .registers) (s .memory) l place j) place j ≡ replicate j 0xffff)
+      × (block-read (loaded s a .registers) (s .memory) l place j .hollows ≡ j)
+  block-beyond j b h q f =
+      let given-so = ap (λ (t : Machine). map given (answers t (reading j))) (just-loaded b) ∙ only-hollow s k i a j b h q in
+      let told = handed-out j (replicate j 0xffff) j f (held-then-hollow _ [] j given-so) in
+      (told .1, told .2)

@@ -78,10 +78,13 @@ reads-keep-memory s (suc n) =
 pub few-hollows : (s : Machine) (n : ℕ) → hollows-in (answers s (reading n)) ≤ n
 few-hollows s n = rw (answers-length s (reading n), reading-length n) at (tally-most (λ x. x .hollow) (answers s (reading n)))
 
--- They fill as many places.
+-- A read hands out a word for each place.
+pub filled-length : (s : Machine) (n : ℕ) → length (words-in (answers s (reading n))) ≡ n
+filled-length s n = length-map (answers s (reading n)) (λ x. x .word) ∙ answers-length s (reading n) ∙ reading-length n
+
+-- So a part that is read into has as many places.
 pub read-length : {s : Machine} {n : ℕ} {o : Run} {part : List ℕ} → ReadInto s n o part → length part ≡ n
-read-length {s} {n} a =
-    ap length (a .words) ∙ length-map (answers s (reading n)) (λ x. x .word) ∙ answers-length s (reading n) ∙ reading-length n
+read-length {s} {n} a = ap length (a .words) ∙ filled-length s n
 
 -- Reads into one part and then into the next are reads into both.
 pub join-reads : (r : Registers) (m : List ℕ) (n k : ℕ) (o p : Run) (xs ys : List ℕ) →

@@ -7,19 +7,20 @@ use mathlib.Core.List.{List, [], _++_, append-nil}
 use lib.ListN.{length, getD, take, drop, length-append, length-take, length-drop, drop-of-length-le, List·getD-append}
 use lib.Seq.{length-take-le, take-at, drop-at, take-all, getD-append-add, getD-drop, getD-take}
 use borrow.Rule.Slice.PartMut.{putMid, postOf, post-is}
+use Rattle.block.specs.Block.{stretch, with-stretch}
 
 -- The n places from a on, lent.
 pub part-length : (a n : ℕ) (l : List ℕ) → a + n ≤ length l → length (take (a + n - a) (drop a l)) ≡ n
 part-length a n l h = simp (length-take, length-drop) (omega arith)
 
 -- They are the stretch.
-pub part-is : (a n : ℕ) (l : List ℕ) → take (a + n - a) (drop a l) ≡ take n (drop a l)
+pub part-is : (a n : ℕ) (l : List ℕ) → take (a + n - a) (drop a l) ≡ stretch l a n
 part-is a n l =
     let e : a + n - a ≡ n = omega arith in
     ap (λ (k : ℕ). take k (drop a l)) e
 
 -- Come back as ys, they lie between what was before them and what was after them.
-pub put-back : (a n : ℕ) (l ys : List ℕ) → putMid a (a + n - a) l ys ≡ take a l ++ (ys ++ drop (a + n) l)
+pub put-back : (a n : ℕ) (l ys : List ℕ) → putMid a (a + n - a) l ys ≡ with-stretch l a n ys
 put-back a n l ys = ap (λ (r : List ℕ). take a l ++ (ys ++ r)) (post-is a (a + n) l (omega arith))
 
 -- The first n places, lent.
@@ -61,7 +62,7 @@ module _ (n : ℕ) (l xs : List ℕ) (h : n ≤ length l) (e : length xs ≡ n) 
 -- ---- what lies where, once a stretch of a list has become ys
 module _ (a n : ℕ) (l ys : List ℕ) (h : a + n ≤ length l) (e : length ys ≡ n) where
   abbrev laid : List ℕ
-  laid = take a l ++ (ys ++ drop (a + n) l)
+  laid = with-stretch l a n ys
 
   front : length (take a l) ≡ a
   front = length-take-le a l (omega arith)
@@ -78,7 +79,7 @@ module _ (a n : ℕ) (l ys : List ℕ) (h : a + n ≤ length l) (e : length ys �
       List·getD-append ys (drop (a + n) l) 0 k (omega arith)
 
   -- The stretch itself is ys.
-  pub laid-stretch : take n (drop a laid) ≡ ys
+  pub laid-stretch : stretch laid a n ≡ ys
   laid-stretch = rw (drop-at (take a l) (ys ++ drop (a + n) l) a front) (take-at ys (drop (a + n) l) n e)
 
   -- Before it lies what lay there.

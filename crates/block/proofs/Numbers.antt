@@ -4,16 +4,16 @@ use Prim.Native.Nat.{ℕ, _+_, _<_, _≤_}
 use native.Mathlib.Omega.{arith}
 use mathlib.Core.Path.{_≡_, refl, sym, ap, _∙_}
 use mathlib.Core.Bool.{Bool, true, false, cond, _||_}
-use mathlib.Core.List.{List, _++_}
+use mathlib.Core.List.{List}
 use mathlib.Core.Logic.{_⊎_, inl, inr, ⊎-elim, _↔_, _≢_}
 use lib.Dec.{ltb}
-use lib.ListN.{length, take, drop}
+use lib.ListN.{length}
 use borrow.Author.Tests.{ltb-true, ltb-false, eq-eqb, ne-eqb}
 use Rattle.words.proofs.Choices.{same-or-not}
 use Rattle.port.specs.Runs.{Sixteen, answers, ends}
 use Rattle.port.specs.Table.{reading}
 use Rattle.port.specs.declared.Registers.{Registers}
-use Rattle.block.specs.Block.{machine, block-refusal, block-number, writing, stretch, words-in, hollows-in, empties-in}
+use Rattle.block.specs.Block.{machine, block-refusal, block-number, stretch, with-stretch, writing, words-in, hollows-in, empties-in}
 use Rattle.block.specs.Block.{block-read, list-after, block-write, memory-left}
 use Rattle.block.specs.declared.BlockRead.{BlockRead}
 use Rattle.block.specs.declared.BlockWrite.{BlockWrite}
@@ -88,8 +88,7 @@ module _ (r : Registers) (m l : List ℕ) (place count : ℕ) where
     read-taken = rw (eq-eqb _ _ e)
 
     -- And the list after it.
-    pub list-taken : list-after r m l place count ≡
-        take place l ++ (words-in (answers (machine r m) (reading count)) ++ drop (place + count) l)
+    pub list-taken : list-after r m l place count ≡ with-stretch l place count (words-in (answers (machine r m) (reading count)))
     unfolding list-after
     list-taken = rw (eq-eqb _ _ e)
 

@@ -1,33 +1,34 @@
 -- What a block wrote, a block reads back: the words lie in memory from the pointer's word on, and reading from there hands them
 -- out, all held.
-use Prim.Native.Nat.{ℕ, _+_, _-_, _≤_, _<_}
+use Prim.Native.Nat.{ℕ, _+_, _-_, _*_, _≤_, _<_}
 use native.Mathlib.Omega.{arith}
 use mathlib.Core.Path.{_≡_, sym, ap, _∙_}
 use mathlib.Core.Bool.{true}
-use mathlib.Core.List.{List, _++_}
+use mathlib.Core.List.{List}
 use mathlib.Core.Logic.{⊎-elim}
-use lib.ListN.{length, getD, take, drop, length-take, length-drop, List·getD-eq-default}
+use lib.ListN.{length, getD, drop, length-take, length-drop, List·getD-eq-default}
 use lib.Seq.{getD-take, getD-drop}
 use Rattle.words.specs.Addresses.{word-at}
 use Rattle.words.proofs.Choices.{less-or-not}
 use Rattle.control.specs.Control.{incr, incw}
 use Rattle.port.specs.Table.{Memory, loaded, table, Lies}
 use Rattle.port.specs.declared.Registers.{Registers}
-use Rattle.block.specs.Block.{machine, block-number, stretch, block-write, memory-left, block-read, list-after}
+use Rattle.block.specs.Block.{machine, block-number, stretch, with-stretch, block-write, memory-left, block-read, list-after}
 use Rattle.block.specs.Parts.{stepped-by, WrittenFrom}
+use Rattle.block.specs.InPlainWords.{Words}
 use Rattle.block.specs.declared.BlockWrite.{BlockWrite}
 use Rattle.block.proofs.Numbers.{when, write-taken, memory-taken}
 use Rattle.block.proofs.Lent.{laid-length, laid-inside, laid-stretch, laid-before, laid-behind}
 use Rattle.block.proofs.Straight.{wrote, copied-write}
 use Rattle.block.proofs.EveryWordOfABlock.{every-word-of-a-block}
 
--- A block write with INCW set, of n words that find room in memory from the pointer's word on: it is done, no store falls empty,
--- the words lie there, all else of memory stays, the control register stays, and the pointer stands just past them.
+-- A block write with INCW set, of n words, one or more, that find room in memory from the pointer's word on: it is done, no store
+-- falls empty, the words lie there, all else of memory stays, the control register stays, and the pointer stands just past them.
 pub record Laid (r : Registers) (m l : List ℕ) (place n : ℕ) : Type 0 where
   pub number : block-write r m l place n .number ≡ 0
   pub empties : block-write r m l place n .empties ≡ 0
   pub control : block-write r m l place n .registers .control ≡ r .control
-  pub pointer : block-write r m l place n .registers .pointer ≡ stepped-by n (r .pointer)
+  pub pointer : block-write r m l place n .registers .pointer .0 ≡ r .pointer .0 + 16 * n
   pub words : table (memory-left r m l place n) (r .pointer) n ≡ stretch l place n
   pub before : (k : ℕ) → k < word-at (r .pointer) .0 → getD (memory-left r m l place n) k 0 ≡ getD m k 0
   pub behind : (k : ℕ) → word-at (r .pointer) .0 + n ≤ k → getD (memory-left r m l place n) k 0 ≡ getD m k 0
@@ -38,10 +39,6 @@ pub record ReadBack (l : List ℕ) (place n : ℕ) (l′ : List ℕ) (place′ :
   pub number : block-read q m′ l′ place′ n .number ≡ 0
   pub words : stretch (list-after q m′ l′ place′ n) place′ n ≡ stretch l place n
   pub hollows : block-read q m′ l′ place′ n .hollows ≡ 0
-
--- a list of words
-abbrev Words : List ℕ → Type 0
-Words l = (j : ℕ) → getD l j 0 < 65536
 
 stretch-words : (l : List ℕ) (place n : ℕ) → Words l → Words (stretch l place n)
 stretch-words l place n w j =
@@ -66,11 +63,14 @@ module _ (r : Registers) (m l : List ℕ) (place n : ℕ) (k : Memory m) (i : in
   accepted = when (length m) (length l) place n .done .1 (k .size, most, room)
 
   written :
-      WrittenFrom (machine r m) ws (record { registers = wrote r n (getD ws (n - 1) 0); marked = 0 }) (take x m ++ (ws ++ drop (x + n) m))
+      WrittenFrom (machine r m) ws (record { registers = wrote r n (getD ws (n - 1) 0); marked = 0 }) (with-stretch m x n ws)
   written = rw size-of at (copied-write ws r m (rw size-of some) (k .size) i (stretch-words l place n w) (rw size-of there))
 
-  memory-is : memory-left r m l place n ≡ take x m ++ (ws ++ drop (x + n) m)
+  memory-is : memory-left r m l place n ≡ with-stretch m x n ws
   memory-is = memory-taken r m l place n accepted ∙ sym (written .memory)
+
+  no-wrap : stepped-by n (r .pointer) .0 ≡ r .pointer .0 + 16 * n
+  no-wrap = omega (arith, k .size)
 
   -- The words are laid into memory.
   pub words-laid : Laid r m l place n
@@ -80,7 +80,8 @@ module _ (r : Registers) (m l : List ℕ) (place n : ℕ) (k : Memory m) (i : in
         number = ap (λ (b : BlockWrite). b .number) o;
         empties = ap (λ (b : BlockWrite). b .empties) o ∙ sym (written .marked);
         control = ap (λ (b : BlockWrite). b .registers .control) o ∙ ap (λ (q : Registers). q .control) (sym (written .registers));
-        pointer = ap (λ (b : BlockWrite). b .registers .pointer) o ∙ ap (λ (q : Registers). q .pointer) (sym (written .registers));
+        pointer =
+            ap (λ (b : BlockWrite). b .registers .pointer .0) o ∙ ap (λ (q : Registers). q .pointer .0) (sym (written .registers)) ∙ no-wrap;
         words = rw memory-is (laid-stretch x n m ws there size-of);
         before = λ j h. rw memory-is (laid-before x n m ws there size-of j h);
         behind = λ j h. rw memory-is (laid-behind x n m ws there size-of j h);

@@ -6,7 +6,7 @@ use native.Mathlib.Omega.{arith}
 use mathlib.Core.Path.{_≡_, refl, sym, ap, _∙_}
 use mathlib.Core.List.{List, [], _∷_}
 use lib.ListN.{length, getD, drop}
-use lib.ListN.{length-drop, length-take, length-map}
+use lib.ListN.{length-drop, length-take}
 use lib.Seq.{getD-drop, getD-take}
 use Rattle.port.specs.Runs.{Machine, answer-of, after, answers, ends, byte-answers, byte-ends}
 use Rattle.port.specs.Table.{reading}
@@ -20,7 +20,7 @@ use Rattle.block.specs.declared.BlockRead.{BlockRead}
 use Rattle.block.specs.declared.BlockWrite.{BlockWrite}
 use Rattle.block.proofs.Numbers.{when, read-number, read-taken, list-taken, write-number, write-taken, memory-taken}
 use Rattle.block.proofs.Lent.{laid-length, laid-inside, laid-stretch, laid-before, laid-behind}
-use Rattle.block.proofs.Joining.{answers-length, reading-length, reads-keep-memory}
+use Rattle.block.proofs.Joining.{reads-keep-memory, filled-length}
 
 -- ---- a run taken apart
 -- The k-th word handed out is the k-th read's.
@@ -43,10 +43,6 @@ unfolding answers ends tally number-below
 empties-counted [] s = refl
 empties-counted (w ∷ ws) s =
     ap (λ (x : ℕ). counted (is-empty (answer-of s (Write 2 3 w) .cycle)) + x) (empties-counted ws (after s (Write 2 3 w)))
-
--- A read hands out a word for each place.
-pub filled-length : (s : Machine) (n : ℕ) → length (words-in (answers s (reading n))) ≡ n
-filled-length s n = length-map (answers s (reading n)) (λ x. x .word) ∙ answers-length s (reading n) ∙ reading-length n
 
 -- ---- a block read
 

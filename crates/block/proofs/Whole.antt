@@ -1,12 +1,11 @@
 -- An accepted block, from what its accesses leave: what the two calls end with.
-use Prim.Native.Nat.{ℕ, _+_}
+use Prim.Native.Nat.{ℕ}
 use mathlib.Core.Path.{_≡_, sym, ap, _∙_}
-use mathlib.Core.List.{List, _++_}
-use lib.ListN.{take, drop}
+use mathlib.Core.List.{List}
 use Rattle.port.specs.Runs.{answers}
 use Rattle.port.specs.Table.{reading}
 use Rattle.port.specs.declared.Registers.{Registers}
-use Rattle.block.specs.Block.{machine, block-number, writing, stretch, hollows-in, empties-in, ReadBlock, WrittenBlock}
+use Rattle.block.specs.Block.{machine, block-number, stretch, with-stretch, writing, hollows-in, empties-in, ReadBlock, WrittenBlock}
 use Rattle.block.specs.Parts.{ReadInto, WrittenFrom}
 use Rattle.block.specs.declared.Run.{Run}
 use Rattle.block.proofs.Numbers.{read-taken, list-taken, write-taken, memory-taken}
@@ -15,7 +14,7 @@ module _ (r : Registers) (m l : List ℕ) (place count : ℕ) (e : block-number 
   -- A block read, whose words ws lie in the stretch.
   pub read-block : (ws : List ℕ) → ReadInto (machine r m) count o ws →
       ReadBlock r m l place count (record { number = 0; hollows = o .marked; registers = o .registers })
-      (take place l ++ (ws ++ drop (place + count) l))
+      (with-stretch l place count ws)
   read-block ws a =
       record {
         outcome =
@@ -23,7 +22,7 @@ module _ (r : Registers) (m l : List ℕ) (place count : ℕ) (e : block-number 
             ap (λ (q : Registers). record { number = 0; hollows = hollows-in (answers (machine r m) (reading count)); registers = q })
             (a .registers) ∙
             sym (read-taken r m l place count e);
-        list = ap (λ (x : List ℕ). take place l ++ (x ++ drop (place + count) l)) (a .words) ∙ sym (list-taken r m l place count e);
+        list = ap (with-stretch l place count) (a .words) ∙ sym (list-taken r m l place count e);
       }
 
   -- A block write, that leaves the memory m′.

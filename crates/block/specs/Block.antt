@@ -1,12 +1,15 @@
 -- Blocks: document 01, 'Blocks and the two doors' and number 10 of 'Numbers returned'.
---   machine r m                      the registers, with the lent memory
---   block-refusal                    number 1 or 10, or 0 where neither applies
---   writing ws                       two-lane writes of register 2, one for each word
---   stretch l place count            the words of a list's stretch
---   tally f xs                       how many of the answers xs bear the mark f
+--   machine r m                        the registers, with the lent memory
+--   block-refusal, block-number        number 1 or 10, or 0 where neither applies
+--   stretch l place count              the words of a list's stretch
+--   with-stretch l place count ws      the list with its stretch become ws
+--   writing ws                         two-lane writes of register 2, one for each word
+--   counted, tally f xs                a mark as a number, and how many of the answers xs bear the mark f
+--   is-empty                           the cycle of a store that was dropped
 --   words-in, hollows-in, empties-in   what answers hand out, and how many of them are hollow, or fell empty
---   block-read, list-after           a block read: its outcome, and the list
---   block-write, memory-left         a block write: its outcome, and the memory
+--   block-read, list-after             a block read: its outcome, and the list
+--   block-write, memory-left           a block write: its outcome, and the memory
+--   ReadBlock, WrittenBlock            these, as the contracts of the two calls
 use Prim.Native.Nat.{ℕ, _+_}
 use mathlib.Core.Bool.{Bool, true, false, cond, _||_}
 use mathlib.Core.List.{List, [], _∷_, _++_, map}
@@ -35,14 +38,20 @@ block-refusal words room place count =
 abbrev pub block-number : List ℕ → List ℕ → ℕ → ℕ → ℕ
 block-number m l place count = block-refusal (length m) (length l) place count
 
+-- ---- a stretch of the caller's list, "from a given place"
+
+abbrev pub stretch : List ℕ → ℕ → ℕ → List ℕ
+stretch l place count = take count (drop place l)
+
+-- "List places outside the stretch stay"
+abbrev pub with-stretch : List ℕ → ℕ → ℕ → List ℕ → List ℕ
+with-stretch l place count ws = take place l ++ (ws ++ drop (place + count) l)
+
 -- ---- the accesses: `reading n` of crate port is a count of two-lane reads of register 2
 
 -- "a block write takes its words from such a stretch"
 abbrev pub writing : List ℕ → List Sixteen
 writing ws = map (save 2) ws
-
-abbrev pub stretch : List ℕ → ℕ → ℕ → List ℕ
-stretch l place count = take count (drop place l)
 
 -- ---- what their answers say
 
@@ -51,8 +60,7 @@ words-in xs = map (λ x. x .word) xs
 
 -- a mark counts one
 abbrev pub counted : Bool → ℕ
-counted true = 1
-counted false = 0
+counted b = cond b 1 0
 
 unfoldable pub tally : (Answer → Bool) → List Answer → ℕ
 tally marked [] = 0
@@ -83,11 +91,10 @@ block-read r m l place count =
     })
     (record { number = block-number m l place count; hollows = 0; registers = r })
 
--- "List places outside the stretch stay"
 unfoldable pub list-after : Registers → List ℕ → List ℕ → ℕ → ℕ → List ℕ
 list-after r m l place count =
     cond (eqb (block-number m l place count) 0)
-    (take place l ++ (words-in (answers (machine r m) (reading count)) ++ drop (place + count) l))
+    (with-stretch l place count (words-in (answers (machine r m) (reading count))))
     l
 
 -- what a block read leaves: its outcome and the list

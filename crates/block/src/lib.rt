@@ -3,11 +3,14 @@
 //
 // A block is its single accesses, one after another. Those that step from word to word inside memory are done by
 // copying; the others, where the pointer stays or leaves memory, go one by one.
+mod copying;
 mod judging;
 mod reading;
-mod stretches;
 mod writing;
 
+ghost use mathlib.Core.Path.{_≡_};
+ghost use Prim.Native.Nat.{_≤_};
+ghost use Rattle.block.specs.Block.{counted};
 use port::Registers;
 pub use reading::block_read;
 pub use writing::block_write;
@@ -30,4 +33,11 @@ pub struct BlockWrite {
 pub(crate) struct Run {
     pub(crate) registers: Registers,
     pub(crate) marked: u16,
+}
+
+// 1 for a mark, else 0.
+pub(crate) fn one_if(mark: bool) -> u16
+    ensures { λ r. ⌜ (r ≡ counted mark) × (r ≤ 1) ⌝ }
+{
+    if mark { 1 } else { 0 }
 }

@@ -10,11 +10,11 @@ ghost use Rattle.block.specs.Block.{machine, ReadBlock};
 ghost use Rattle.block.specs.Parts.{straight-reads, ReadInto};
 use crate::BlockRead;
 use crate::Run;
+use crate::copying::copy_words;
+use crate::copying::inside_from;
+use crate::copying::step_by;
 use crate::judging::block_number_of;
-use crate::stretches::copy_words;
-use crate::stretches::inside_from;
-use crate::stretches::one_if;
-use crate::stretches::step_by;
+use crate::one_if;
 use control::steps_reading;
 use port::Registers;
 use port::settle_fetch;
@@ -68,7 +68,8 @@ pub(crate) fn straight_reads(r: Registers, words: usize, count: usize) -> usize
     0
 }
 
-// Such reads, at once: the words are copied, and the first is the one already held.
+// Such reads, at once: the words are copied from the pointer's word on. The first read hands out the word already held, which need
+// not be the one that lies there, so that word is laid over the copy's first.
 pub(crate) fn read_straight(r: Registers, memory: &[u16], part: &mut [u16]) -> Run
     requires { ⌜ (length (now memory) ≤ 32768) × (length (now part) ≤ 4096) × (0 < length (now part)) × (incr (r .control) ≡ true) × (word-at (r .pointer) .0 + length (now part) < length (now memory)) ⌝ }
     ensures { λ o. ⌜ ReadInto (machine r (now (memory .entry))) (length (now (part .entry))) o (now (part .exit)) ⌝ }

@@ -1,38 +1,25 @@
 // A block write.
 ghost use mathlib.Core.Path.{_≡_};
-ghost use mathlib.Core.Bool.{true, false};
+ghost use mathlib.Core.Bool.{true};
 ghost use Prim.Native.Nat.{_+_, _<_, _≤_};
 ghost use lib.ListN.{length};
 ghost use Rattle.words.specs.Addresses.{word-at};
 ghost use Rattle.control.specs.Control.{incw};
-ghost use Rattle.port.specs.Registers.{with-latch};
 ghost use Rattle.block.specs.Block.{machine, WrittenBlock};
 ghost use Rattle.block.specs.Parts.{straight-writes, WrittenFrom};
 use crate::BlockWrite;
 use crate::Run;
+use crate::copying::copy_words;
+use crate::copying::inside_from;
+use crate::copying::step_by;
 use crate::judging::block_number_of;
-use crate::stretches::copy_words;
-use crate::stretches::inside_from;
-use crate::stretches::one_if;
-use crate::stretches::step_by;
+use crate::one_if;
 use control::steps_writing;
 use port::Registers;
+use port::set_latch;
 use port::step_if;
 use words::store_word;
 use words::word_of;
-
-// The registers with a word that is held in HSTDATA.
-pub(crate) fn hold_word(r: Registers, word: u16) -> Registers
-    ensures { λ q. ⌜ q ≡ with-latch r word false ⌝ }
-{
-    let a = r.pointer;
-    Registers {
-        pointer: a,
-        latch: word,
-        control: r.control,
-        hollow: false,
-    }
-}
 
 // Writes one by one: each stores its word at the pointer and holds it; then the pointer steps where INCW is set.
 // That test stands in the loop itself, so that the compiler takes it out.
@@ -48,7 +35,7 @@ pub(crate) fn write_singly(r: Registers, memory: &mut [u16], part: &[u16]) -> Ru
         let a = q.pointer;
         let inside = store_word(memory, word_of(a), word);
         empties += one_if(!inside);
-        q = step_if(steps_writing(q.control), hold_word(q, word));
+        q = step_if(steps_writing(q.control), set_latch(q, word, false));
         i += 1;
     }
     Run {

@@ -109,7 +109,7 @@ fn run_reads() {
     );
     read(b"the same with the pointer standing still\n", still, 1, 4);
     read(
-        b"from the top of the pointer's range: a miss is held, then comes word 0\n",
+        b"from the top of the pointer's range: the filler of a miss, then word 0\n",
         top,
         1,
         4,
@@ -202,7 +202,7 @@ fn run_lengths() {
     read_long(&full, 4097);
     io::write_all(
         1,
-        b"one word of memory too many, and one word of the list\n",
+        b"a memory of one word too many, and a count of 4,097: number 1\n",
     );
     read_long(&longer, 4097);
 }

@@ -2,11 +2,11 @@
 -- again, so no call is refused with number 11 for what an accepted one left.
 -- A call that is done leaves the image and the bytes of what the access leaves; one that is refused with 1, 2 or 3 leaves its own,
 -- and a good image is that of its registers.
-use Prim.Native.Nat.{ℕ, zero, suc, _*_, _%_}
+use Prim.Native.Nat.{ℕ, _*_, _%_}
 use native.Mathlib.Omega.{arith}
 use mathlib.Core.Path.{_≡_, refl, sym, ap, _∙_}
 use mathlib.Core.Bool.{Bool, true, false, cond}
-use mathlib.Core.List.{List, [], _∷_}
+use mathlib.Core.List.{List}
 use mathlib.Core.Logic.{_≢_}
 use lib.Dec.{eqb}
 use lib.ListN.{length}
@@ -20,26 +20,11 @@ use Rattle.door.specs.Bytes.{words-of, bytes-of}
 use Rattle.door.specs.Image.{registers-of, image-of}
 use Rattle.door.specs.Answer.{refusing}
 use Rattle.door.specs.Door.{call-number, call-tells, call-image, call-memory}
-use Rattle.door.specs.InPlainWords.{AreBytes, GoodImage, Fitting, FitsImage, AreWords}
-use Rattle.door.proofs.WordsAndBytes.{bytes-length, bytes-of-words, words-of-bytes}
+use Rattle.door.specs.InPlainWords.{AreBytes, GoodImage, Fitting, FitsImage}
+use Rattle.door.proofs.WordsAndBytes.{bytes-length, bytes-of-words, words-of-bytes, words-fit, bytes-fit}
 use Rattle.door.proofs.ImageAndRecord.{registers-of-image, image-of-registers, image-fits, image-bytes, good-image}
 use Rattle.door.proofs.Numbers.{fit-number}
 use Rattle.door.proofs.StaysGood.{access-fits, access-memory-fits}
-
--- ---- words of bytes are words, bytes of words are bytes
-pub words-fit : (b : List ℕ) → AreBytes b → AreWords (words-of b)
-unfolding words-of
-words-fit [] s k = omega arith
-words-fit (l ∷ []) s k = omega arith
-words-fit (l ∷ h ∷ rest) s zero = omega (arith, s 0, s 1)
-words-fit (l ∷ h ∷ rest) s (suc k) = words-fit rest (λ j. s (suc (suc j))) k
-
-pub bytes-fit : (m : List ℕ) → AreBytes (bytes-of m)
-unfolding bytes-of
-bytes-fit [] k = omega arith
-bytes-fit (w ∷ rest) zero = omega arith
-bytes-fit (w ∷ rest) (suc zero) = omega arith
-bytes-fit (w ∷ rest) (suc (suc k)) = bytes-fit rest k
 
 -- what holds of a call that is done, and is the same for one that is refused
 done-or-same : {A : Type 0} (n : ℕ) (x y : A) → (n ≢ 0 → y ≡ x) → cond (eqb n 0) x y ≡ x
@@ -117,9 +102,10 @@ module _ (image memory : List ℕ) (f : Fitting image memory) (s : AreBytes imag
         even-memory = rw (memory-as-access, bytes-length) (twice-even (length (access-memory r m a)));
       }
 
-  -- It is made of bytes.
+  -- The image is made of bytes.
   pub image-bytes-again : AreBytes (call-image image memory a)
   image-bytes-again = rw image-as-access (image-bytes (access r m a .registers))
 
+  -- So is the memory.
   pub memory-bytes-again : AreBytes (call-memory image memory a)
   memory-bytes-again = rw memory-as-access (bytes-fit (access-memory r m a))

@@ -23,7 +23,7 @@ use Rattle.port.proofs.Taken.{either-done, number-is}
 use Rattle.door.specs.Answer.{cycle-number, packed, refusing}
 use Rattle.door.specs.Door.{call-number, outcome-of, call-tells, call-answer}
 use Rattle.door.specs.InPlainWords.{word-in, number-in, hollow-in, cycle-in, rest-in}
-use Rattle.door.proofs.Numbers.{numbered, fit-number}
+use Rattle.door.proofs.Numbers.{When, numbered, fit-number}
 
 -- p is the answer a as one number
 pub record Unpacks (p : ℕ) (a : Answer) : Type 0 where
@@ -145,3 +145,7 @@ module _ (image memory : List ℕ) (a : Access) where
   -- Every call's answer is given back by the number that it returns, whatever was lent.
   pub call-unpacks : Unpacks (call-answer image memory a) (call-tells image memory a)
   call-unpacks = unpacks (call-tells image memory a) word-told number-below
+
+  -- The number that a C program finds in the answer is one of 0, 1, 2, 3 and 11, each when, and only then.
+  pub answer-numbered : When image memory a (number-in (call-answer image memory a))
+  answer-numbered = rw (call-unpacks .number ∙ number-told) (numbered image memory a)

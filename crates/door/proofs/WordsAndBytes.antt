@@ -9,7 +9,7 @@ use Rattle.words.specs.Bytes.{lo, hi}
 use Rattle.words.proofs.Lanes.{low-of, high-of, whole-word}
 use Rattle.door.specs.Bytes.{words-of, bytes-of, byte}
 use Rattle.door.specs.Parts.{put-word}
-use Rattle.door.specs.InPlainWords.{AreBytes}
+use Rattle.door.specs.InPlainWords.{AreBytes, AreWords}
 
 half : (k : ℕ) → suc (suc k) / 2 ≡ suc (k / 2)
 half k = omega arith
@@ -75,3 +75,20 @@ unfolding bytes-of
 bytes-of-set [] n w = refl
 bytes-of-set (v ∷ rest) zero w = refl
 bytes-of-set (v ∷ rest) (suc n) w = rw (twice-one, twice, bytes-of-set rest n w)
+
+-- ---- words of bytes are words, bytes of words are bytes
+-- Two bytes make a word of 16 bits.
+pub words-fit : (b : List ℕ) → AreBytes b → AreWords (words-of b)
+unfolding words-of
+words-fit [] s k = omega arith
+words-fit (l ∷ []) s k = omega arith
+words-fit (l ∷ h ∷ rest) s zero = omega (arith, s 0, s 1)
+words-fit (l ∷ h ∷ rest) s (suc k) = words-fit rest (λ j. s (suc (suc j))) k
+
+-- The bytes of words are bytes.
+pub bytes-fit : (m : List ℕ) → AreBytes (bytes-of m)
+unfolding bytes-of
+bytes-fit [] k = omega arith
+bytes-fit (w ∷ rest) zero = omega arith
+bytes-fit (w ∷ rest) (suc zero) = omega arith
+bytes-fit (w ∷ rest) (suc (suc k)) = bytes-fit rest k

@@ -26,6 +26,7 @@ pub use host::begin_write;
 pub use host::finish;
 pub use host::number_of;
 pub use host::refuse;
+pub use parts::set_latch;
 use words::BitAddress;
 
 pub struct Registers {

@@ -40,7 +40,7 @@ pub(crate) fn set_pointer(r: Registers, a: BitAddress) -> Registers
 }
 
 // The registers with another HSTDATA, and its mark.
-pub(crate) fn set_latch(r: Registers, w: u16, hollow: bool) -> Registers
+pub fn set_latch(r: Registers, w: u16, hollow: bool) -> Registers
     ensures { λ x. ⌜ x ≡ with-latch r w hollow ⌝ }
 {
     let a = r.pointer;

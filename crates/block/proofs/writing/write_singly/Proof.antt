@@ -102,8 +102,8 @@ add-empties c =
 steps-writing-requires : tie.Need-steps-writing-requires Inv-loop μ-loop
 steps-writing-requires c κs = tt
 
-hold-word-requires : tie.Need-hold-word-requires Inv-loop μ-loop
-hold-word-requires c κs = tt
+set-latch-requires : tie.Need-set-latch-requires Inv-loop μ-loop
+set-latch-requires c κs = tt
 
 step-if-requires : tie.Need-step-if-requires Inv-loop μ-loop
 step-if-requires c κs = tt
@@ -124,7 +124,7 @@ loop-again c =
     let l = m .before .before .before .before .before .before .before .before .before in
     let fits = l .before .shared-slice-known .given (l .loop .i) in
     let more = m .before .before .before .before .before .before .before .before .loop-test .taken in
-    rw (c .step-if .ensures, c .before .hold-word .ensures, c .before .before .steps-writing .ensures, m .one-if .ensures .0, stored .fell, stored .memory, w)
+    rw (c .step-if .ensures, c .before .set-latch .ensures, c .before .before .steps-writing .ensures, m .one-if .ensures .0, stored .fell, stored .memory, w)
     (turned (l .loop .inv) (l .before .before .before .pre .0) more (omega (arith, fits)))
 
 same-length : tie.Need-same-length Inv-loop μ-loop
@@ -149,7 +149,7 @@ write-singly-spec =
     one-if-requires
     add-empties
     steps-writing-requires
-    hold-word-requires
+    set-latch-requires
     step-if-requires
     add-i
     loop-less

@@ -1,4 +1,4 @@
--- `block::stretches::copy_words` meets its contract: after i turns the first i words are those to be copied.
+-- `block::copying::copy_words` meets its contract: after i turns the first i words are those to be copied.
 use Prim.Native.Nat.{ℕ, _-_, _≤_, _+_, _<_}
 use native.Mathlib.Numerals.{add-one}
 use native.Mathlib.Omega.{arith}
@@ -7,8 +7,8 @@ use mathlib.Core.List.{List, [], _∷_, _++_}
 use lib.ListN.{length, take, set, getD, length-set}
 use lib.Seq.{take-length, take-suc, take-suc-set}
 use borrow.Author.Needs.{needs}
-use Rattle.block.proofs.stretches.copy_words.Statement.{statement}
-use Rattle.block.proofs.stretches.copy_words.Tie as tie
+use Rattle.block.proofs.copying.copy_words.Statement.{statement}
+use Rattle.block.proofs.copying.copy_words.Tie as tie
 
 record Copied (from to₀ to : List ℕ) (i : ℕ) : Type 0 where
   most : i ≤ length from

@@ -1,6 +1,5 @@
-// Accesses that step from word to word inside memory, taken together: how many there are, their words, their steps.
+// Accesses that step from word to word inside memory are done by copying: how many there are, the copy, their steps.
 ghost use mathlib.Core.Path.{_≡_};
-ghost use Rattle.block.specs.Block.{counted};
 ghost use Prim.Native.Nat.{_-_, _≤_, min};
 ghost use lib.ListN.{length};
 ghost use Rattle.block.specs.Parts.{stepped-by};
@@ -39,11 +38,4 @@ pub(crate) fn step_by(a: BitAddress, count: usize) -> BitAddress
     ensures { λ r. ⌜ r ≡ stepped-by count a ⌝ }
 {
     BitAddress(wrapping_add_u32(a.0, 16 * (count as u32)))
-}
-
-// Counts a mark.
-pub(crate) fn one_if(mark: bool) -> u16
-    ensures { λ r. ⌜ (r ≡ counted mark) × (r ≤ 1) ⌝ }
-{
-    if mark { 1 } else { 0 }
 }

@@ -1,7 +1,7 @@
--- `block::stretches::step_by` meets its contract: the supplied wrapping add is the sum modulo 2^32.
+-- `block::copying::step_by` meets its contract: the supplied wrapping add is the sum modulo 2^32.
 use borrow.Author.Needs.{needs}
-use Rattle.block.proofs.stretches.step_by.Statement.{statement}
-use Rattle.block.proofs.stretches.step_by.Tie as tie
+use Rattle.block.proofs.copying.step_by.Statement.{statement}
+use Rattle.block.proofs.copying.step_by.Tie as tie
 
 cast-wrapping-add-u32 : tie.Need-cast-wrapping-add-u32
 cast-wrapping-add-u32 c = search needs
