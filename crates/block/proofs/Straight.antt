@@ -24,7 +24,7 @@ use Rattle.port.specs.declared.Answer.{Answer}
 use Rattle.port.proofs.Handed.{on-by-gains, reads-answer, reads-end}
 use Rattle.port.proofs.TableWords.{table-handed}
 use Rattle.block.specs.Block.{machine, counted, tally, words-in, hollows-in}
-use Rattle.block.specs.Parts.{stepped-by, ReadInto, WrittenFrom}
+use Rattle.block.specs.Parts.{straight-reads, straight-writes, stepped-by, ReadInto, WrittenFrom}
 use Rattle.block.proofs.Joining.{join-reads, join-writes}
 use Rattle.block.proofs.OneAccess.{one-read, one-write}
 
@@ -36,12 +36,23 @@ pub record Straight (steps : Bool) (first words count n : ℕ) : Type 0 where
   pub stepping : steps ≡ true
   pub inside : first + n ≤ words
 
--- That many go straight, if any.
-pub goes-straight : (steps : Bool) (first words count n : ℕ) → n ≡ cond steps (min count (words - first)) 0 → n ≢ 0 →
+goes-straight : (steps : Bool) (first words count n : ℕ) → n ≡ cond steps (min count (words - first)) 0 → n ≢ 0 →
     Straight steps first words count n
 goes-straight true first words count n e h =
     record { some = omega arith; most = omega arith; stepping = refl; inside = omega arith }
 goes-straight false first words count n e h = absurd (h e)
+
+-- Reads go straight, if any, while the word after the pointer's, which they fetch, is in memory.
+pub reads-go-straight : (r : Registers) (words count n : ℕ) → n ≡ straight-reads r words count → n ≢ 0 →
+    Straight (incr (r .control)) (word-at (r .pointer) .0 + 1) words count n
+unfolding straight-reads
+reads-go-straight r words count n = goes-straight (incr (r .control)) (word-at (r .pointer) .0 + 1) words count n
+
+-- Writes go straight, if any, while the pointer's word is in memory.
+pub writes-go-straight : (r : Registers) (words count n : ℕ) → n ≡ straight-writes r words count → n ≢ 0 →
+    Straight (incw (r .control)) (word-at (r .pointer) .0) words count n
+unfolding straight-writes
+writes-go-straight r words count n = goes-straight (incw (r .control)) (word-at (r .pointer) .0) words count n
 
 -- ---- what answers hand out, by what is given
 words-given : (xs : List Answer) → words-in xs ≡ map (λ (g : Given). g .word) (map given xs)

@@ -72,7 +72,8 @@ pub fn begin_write(r: Registers, register: u32, lanes: u32, word: u16) -> Begun
     }
 }
 
-// An access on the registers alone. A caller that knows its kind of access calls one of the two above, and the compiler keeps that one alone.
+// An access on the registers alone. A caller that knows its kind of access calls one of the two above, and the compiler keeps that
+// one alone.
 pub fn begin(r: Registers, a: Access) -> Begun
     ensures { λ b. ⌜ b ≡ begin-access r a ⌝ }
 {

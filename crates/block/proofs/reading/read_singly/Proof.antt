@@ -118,7 +118,8 @@ loop-again c =
     let start = l .before .before .before in
     let known = l .before .before .shared-slice-known .given in
     let words : Memory (start .args .memory .now) = record { size = start .pre .0; words = λ i. omega (arith, known i) } in
-    let count = ⊎-elim (λ v. count-one _ _ (v .0 .taken) (v .1)) (λ v. count-none _ _ (v .0 .left) (v .1)) (c .before .before .before .if1 .came) in
+    let mark = c .before .before .before .if1 .came in
+    let count = ⊎-elim (λ v. count-one _ _ (v .0 .taken) (v .1)) (λ v. count-none _ _ (v .0 .left) (v .1)) mark in
     rw (c .fetch-here .ensures, c .before .step-if .ensures, c .before .before .steps-reading .ensures, count)
     (turned (l .loop .inv) words (omega arith))
 

@@ -8,10 +8,10 @@ use lib.ListN.{length}
 use Rattle.words.specs.Addresses.{word-at}
 use Rattle.control.specs.Control.{incr}
 use Rattle.block.specs.Block.{machine}
-use Rattle.block.specs.Parts.{straight-reads, ReadInto}
+use Rattle.block.specs.Parts.{ReadInto}
 use Rattle.block.proofs.Joining.{few-hollows, read-length, join-reads}
 use Rattle.block.proofs.Lent.{between, first-length, rest-starts, rest-length, both-back}
-use Rattle.block.proofs.Straight.{Straight, goes-straight}
+use Rattle.block.proofs.Straight.{Straight, reads-go-straight}
 use Rattle.block.proofs.reading.read_words.Statement.{statement}
 use Rattle.block.proofs.reading.read_words.Tie as tie
 
@@ -41,8 +41,7 @@ straight : (c : tie.Else1) →
     let a = c .before .before .before .before .args in
     Straight (incr (a .r .control)) (word-at (a .r .pointer) .0 + 1) (length (a .memory .now)) (length (a .part .now))
     (c .before .straight-reads .result)
-unfolding straight-reads
-straight c = goes-straight _ _ _ _ _ (c .before .straight-reads .ensures) (c .if1 .left)
+straight c = reads-go-straight _ _ _ _ (c .before .straight-reads .ensures) (c .if1 .left)
 
 part-read-straight-end : tie.Need-part-read-straight-end
 part-read-straight-end c =

@@ -124,7 +124,9 @@ loop-again c =
     let l = m .before .before .before .before .before .before .before .before .before in
     let fits = l .before .shared-slice-known .given (l .loop .i) in
     let more = m .before .before .before .before .before .before .before .before .loop-test .taken in
-    rw (c .step-if .ensures, c .before .set-latch .ensures, c .before .before .steps-writing .ensures, m .one-if .ensures .0, stored .fell, stored .memory, w)
+    let held = c .before .set-latch .ensures in
+    let steps = c .before .before .steps-writing .ensures in
+    rw (c .step-if .ensures, held, steps, m .one-if .ensures .0, stored .fell, stored .memory, w)
     (turned (l .loop .inv) (l .before .before .before .pre .0) more (omega (arith, fits)))
 
 same-length : tie.Need-same-length Inv-loop μ-loop

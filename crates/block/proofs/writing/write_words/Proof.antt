@@ -7,10 +7,10 @@ use lib.Seq.{length-take-le}
 use Rattle.words.specs.Addresses.{word-at}
 use Rattle.control.specs.Control.{incw}
 use Rattle.block.specs.Block.{machine}
-use Rattle.block.specs.Parts.{straight-writes, WrittenFrom}
+use Rattle.block.specs.Parts.{WrittenFrom}
 use Rattle.block.proofs.Joining.{few-empties, join-writes}
 use Rattle.block.proofs.Lent.{first-length, first-is, rest-is}
-use Rattle.block.proofs.Straight.{Straight, goes-straight}
+use Rattle.block.proofs.Straight.{Straight, writes-go-straight}
 use Rattle.block.proofs.writing.write_words.Statement.{statement}
 use Rattle.block.proofs.writing.write_words.Tie as tie
 
@@ -40,8 +40,7 @@ straight : (c : tie.Else1) →
     let a = c .before .before .before .before .args in
     Straight (incw (a .r .control)) (word-at (a .r .pointer) .0) (length (a .memory .now)) (length (a .part .now))
     (c .before .straight-writes .result)
-unfolding straight-writes
-straight c = goes-straight _ _ _ _ _ (c .before .straight-writes .ensures) (c .if1 .left)
+straight c = writes-go-straight _ _ _ _ (c .before .straight-writes .ensures) (c .if1 .left)
 
 part-write-straight-end : tie.Need-part-write-straight-end
 part-write-straight-end c =
