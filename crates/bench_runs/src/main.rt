@@ -2,10 +2,9 @@
 // memories of every kind of length. Each access prints a line: what it was, its answer, and the pointer that it left in the record. An
 // accepted read of HSTDATA prints `held` or `hollow`, any other line `-`.
 // The stored output was worked out by hand from document 01, "The four host registers", "Numbers returned" and "Checked examples".
-ghost use mathlib.Core.Bool.{cond};
-ghost use lib.Dec.{eqb};
 ghost use Rattle.port.specs.Host.{Accessed};
 ghost use Rattle.port.specs.declared.Access.the-variants.{Read, Write};
+ghost use Rattle.bench_runs.specs.Script.{access-in};
 use port::Access;
 use port::Answer;
 use port::Cycle;
@@ -108,74 +107,41 @@ fn print_words(memory: &[u16; 3]) {
     io::write_all(1, b"\n");
 }
 
-// One access of a script, which has four numbers for each: 0 for a read or 1 for a write, the register, the lanes, and the word.
-fn step(
-    r: Registers,
-    memory: &mut [u16],
-    kind: u16,
-    register: u16,
-    lanes: u16,
-    word: u16,
-) -> Outcome
-    ensures { λ o. ⌜ Accessed r (now (memory .entry)) (cond (eqb kind 0) (Read register lanes) (Write register lanes word)) o (now (memory .exit)) ⌝ }
+// One access of a script, a number of seven hexadecimal digits: 0 for a read or 1 for a write, the register, the lanes, and the word.
+fn step(r: Registers, memory: &mut [u16], access: u32) -> Outcome
+    ensures { λ o. ⌜ Accessed r (now (memory .entry)) (access-in access) o (now (memory .exit)) ⌝ }
 {
-    if kind == 0 {
-        return read(r, memory, register as u32, lanes as u32);
+    let register = access / 0x100000 % 16;
+    let lanes = access / 0x10000 % 16;
+    if access / 0x1000000 == 0 {
+        return read(r, memory, register, lanes);
     }
-    write(r, memory, register as u32, lanes as u32, word)
+    write(r, memory, register, lanes, (access % 0x10000) as u16)
 }
 
 // A script, from reset on.
-fn run(title: &[u8], memory: &mut [u16], script: &[u16]) {
+fn run(title: &[u8], memory: &mut [u16], script: &[u32]) {
     io::write_all(1, title);
     let woken = port::reset();
     let mut r = woken.registers;
-    let mut at: usize = 0;
-    while at + 3 < script.len() {
-        let o = step(
-            r,
-            memory,
-            script[at],
-            script[at + 1],
-            script[at + 2],
-            script[at + 3],
-        );
+    let mut i: usize = 0;
+    while i < script.len() {
+        let o = step(r, memory, script[i]);
         r = o.registers;
-        at += 4;
+        i += 1;
     }
 }
 
 fn run_table() {
     let mut memory = [0x1111, 0x2222, 0x3333];
     let script = [
-        1,
-        3,
-        3,
-        0x1000,
-        1,
-        0,
-        3,
-        0,
-        1,
-        1,
-        3,
-        0,
-        0,
-        2,
-        3,
-        0,
-        0,
-        2,
-        3,
-        0,
-        0,
-        2,
-        3,
-        0,
-        0,
-        2,
-        3,
-        0,
+        0x1_3_3_1000,
+        0x1_0_3_0000,
+        0x1_1_3_0000,
+        0x0_2_3_0000,
+        0x0_2_3_0000,
+        0x0_2_3_0000,
+        0x0_2_3_0000,
     ];
     run(
         b"K1 and K2: three words, and a read past them\n",
@@ -188,30 +154,12 @@ fn run_table() {
 fn run_store() {
     let mut memory = [0x1111, 0x2222, 0x3333];
     let script = [
-        1,
-        3,
-        3,
-        0x0800,
-        1,
-        0,
-        3,
-        0,
-        1,
-        1,
-        3,
-        0,
-        1,
-        2,
-        3,
-        0xaaaa,
-        0,
-        2,
-        3,
-        0,
-        0,
-        2,
-        3,
-        0,
+        0x1_3_3_0800,
+        0x1_0_3_0000,
+        0x1_1_3_0000,
+        0x1_2_3_aaaa,
+        0x0_2_3_0000,
+        0x0_2_3_0000,
     ];
     run(b"K3: a word stored, then two reads\n", &mut memory, &script);
     print_words(&memory);
@@ -220,26 +168,11 @@ fn run_store() {
 fn run_top() {
     let mut memory = [0x1111, 0x2222, 0x3333];
     let script = [
-        1,
-        3,
-        3,
-        0x1000,
-        1,
-        0,
-        3,
-        0xfff0,
-        1,
-        1,
-        3,
-        0xffff,
-        0,
-        2,
-        3,
-        0,
-        0,
-        2,
-        3,
-        0,
+        0x1_3_3_1000,
+        0x1_0_3_fff0,
+        0x1_1_3_ffff,
+        0x0_2_3_0000,
+        0x0_2_3_0000,
     ];
     run(
         b"K4: the pointer steps from the top to 0\n",
@@ -251,50 +184,17 @@ fn run_top() {
 fn run_low_byte_first() {
     let mut memory = [0x1234, 0x5678];
     let script = [
-        1,
-        3,
-        3,
-        0x1000,
-        1,
-        0,
-        1,
-        0,
-        1,
-        0,
-        2,
-        0,
-        1,
-        1,
-        1,
-        0,
-        1,
-        1,
-        2,
-        0,
-        0,
-        2,
-        1,
-        0,
-        0,
-        2,
-        2,
-        0,
-        0,
-        2,
-        1,
-        0,
-        0,
-        2,
-        2,
-        0,
-        0,
-        2,
-        1,
-        0,
-        0,
-        2,
-        2,
-        0,
+        0x1_3_3_1000,
+        0x1_0_1_0000,
+        0x1_0_2_0000,
+        0x1_1_1_0000,
+        0x1_1_2_0000,
+        0x0_2_1_0000,
+        0x0_2_2_0000,
+        0x0_2_1_0000,
+        0x0_2_2_0000,
+        0x0_2_1_0000,
+        0x0_2_2_0000,
     ];
     run(b"two words byte by byte, LBL 0\n", &mut memory, &script);
 }
@@ -302,50 +202,17 @@ fn run_low_byte_first() {
 fn run_high_byte_first() {
     let mut memory = [0x1234, 0x5678];
     let script = [
-        1,
-        3,
-        3,
-        0x3000,
-        1,
-        1,
-        2,
-        0,
-        1,
-        1,
-        1,
-        0,
-        1,
-        0,
-        2,
-        0,
-        1,
-        0,
-        1,
-        0,
-        0,
-        2,
-        2,
-        0,
-        0,
-        2,
-        1,
-        0,
-        0,
-        2,
-        2,
-        0,
-        0,
-        2,
-        1,
-        0,
-        0,
-        2,
-        2,
-        0,
-        0,
-        2,
-        1,
-        0,
+        0x1_3_3_3000,
+        0x1_1_2_0000,
+        0x1_1_1_0000,
+        0x1_0_2_0000,
+        0x1_0_1_0000,
+        0x0_2_2_0000,
+        0x0_2_1_0000,
+        0x0_2_2_0000,
+        0x0_2_1_0000,
+        0x0_2_2_0000,
+        0x0_2_1_0000,
     ];
     run(b"the same, LBL 1\n", &mut memory, &script);
 }
@@ -354,38 +221,14 @@ fn run_high_byte_first() {
 fn run_refusals() {
     let mut memory = [0x1111, 0x2222, 0x3333];
     let script = [
-        1,
-        3,
-        3,
-        0x1800,
-        1,
-        0,
-        3,
-        0x0010,
-        1,
-        1,
-        3,
-        0,
-        0,
-        4,
-        3,
-        0,
-        0,
-        2,
-        0,
-        0,
-        1,
-        2,
-        4,
-        0xaaaa,
-        1,
-        4,
-        4,
-        0xaaaa,
-        0,
-        2,
-        3,
-        0,
+        0x1_3_3_1800,
+        0x1_0_3_0010,
+        0x1_1_3_0000,
+        0x0_4_3_0000,
+        0x0_2_0_0000,
+        0x1_2_4_aaaa,
+        0x1_4_4_aaaa,
+        0x0_2_3_0000,
     ];
     run(b"refusals change nothing\n", &mut memory, &script);
     print_words(&memory);
@@ -396,29 +239,14 @@ fn run_lengths() {
     let mut longer = [0x5555u16; 32769];
     let mut none = [0u16; 0];
     let last = [
-        1,
-        3,
-        3,
-        0x1800,
-        1,
-        0,
-        3,
-        0xfff0,
-        1,
-        1,
-        3,
-        0x0007,
-        1,
-        2,
-        3,
-        0xaaaa,
-        0,
-        2,
-        3,
-        0,
+        0x1_3_3_1800,
+        0x1_0_3_fff0,
+        0x1_1_3_0007,
+        0x1_2_3_aaaa,
+        0x0_2_3_0000,
     ];
-    let refused = [0, 2, 3, 0, 1, 4, 4, 0xaaaa];
-    let missed = [0, 2, 3, 0, 0, 2, 3, 0, 1, 2, 3, 0xaaaa, 0, 2, 3, 0];
+    let refused = [0x0_2_3_0000, 0x1_4_4_aaaa];
+    let missed = [0x0_2_3_0000, 0x0_2_3_0000, 0x1_2_3_aaaa, 0x0_2_3_0000];
     run(b"the last of 32,768 words\n", &mut longest, &last);
     run(b"one word more: number 1\n", &mut longer, &refused);
     run(b"no memory, after reset\n", &mut none, &missed);

@@ -1,4 +1,4 @@
--- `bench_runs::run` stays inside its script: after each turn the next place is at most the script's end.
+-- `bench_runs::run` stays inside its script: the place that comes next is at most the script's end.
 use Prim.Native.Nat.{ℕ, _-_, _≤_}
 use native.Mathlib.Omega.{arith}
 use mathlib.Core.Path.{_≡_, refl, _∙_}
@@ -8,17 +8,17 @@ use borrow.Author.Needs.{needs}
 use Rattle.bench_runs.proofs.run.Statement.{statement}
 use Rattle.bench_runs.proofs.run.Tie as tie
 
-record Inside (memory₀ memory script : List ℕ) (at : ℕ) : Type 0 where
-  most : at ≤ length script
+record Inside (memory₀ memory script : List ℕ) (i : ℕ) : Type 0 where
+  most : i ≤ length script
   size : length memory ≡ length memory₀
 
 abbrev Inv-loop : tie.InvT-loop
-Inv-loop title memory₀ script r₀ at₀ memory r at =
-    Inside memory₀ memory script at
+Inv-loop title memory₀ script r₀ i₀ memory r i =
+    Inside memory₀ memory script i
 
 abbrev μ-loop : tie.MeasureT-loop
-μ-loop title memory₀ script r₀ at₀ memory r at =
-    length script - at
+μ-loop title memory₀ script r₀ i₀ memory r i =
+    length script - i
 
 write-all-requires : tie.Need-write-all-requires Inv-loop μ-loop
 write-all-requires c κs = tt
@@ -30,10 +30,6 @@ loop-holds : tie.Need-loop-holds Inv-loop μ-loop
 loop-holds c =
     record { most = omega arith; size = refl }
 
-add-loop : tie.Need-add-loop Inv-loop μ-loop
-add-loop c =
-    omega arith
-
 mul-step : tie.Need-mul-step Inv-loop μ-loop
 mul-step c =
     omega arith
@@ -42,48 +38,12 @@ shared-slice-read-step : tie.Need-shared-slice-read-step Inv-loop μ-loop
 shared-slice-read-step c =
     omega arith
 
-add-step : tie.Need-add-step Inv-loop μ-loop
-add-step c =
-    omega arith
-
-mul-step-2 : tie.Need-mul-step-2 Inv-loop μ-loop
-mul-step-2 c =
-    omega arith
-
-shared-slice-read-step-2 : tie.Need-shared-slice-read-step-2 Inv-loop μ-loop
-shared-slice-read-step-2 c =
-    omega arith
-
-add-step-2 : tie.Need-add-step-2 Inv-loop μ-loop
-add-step-2 c =
-    omega arith
-
-mul-step-3 : tie.Need-mul-step-3 Inv-loop μ-loop
-mul-step-3 c =
-    omega arith
-
-shared-slice-read-step-3 : tie.Need-shared-slice-read-step-3 Inv-loop μ-loop
-shared-slice-read-step-3 c =
-    omega arith
-
-add-step-3 : tie.Need-add-step-3 Inv-loop μ-loop
-add-step-3 c =
-    omega arith
-
-mul-step-4 : tie.Need-mul-step-4 Inv-loop μ-loop
-mul-step-4 c =
-    omega arith
-
-shared-slice-read-step-4 : tie.Need-shared-slice-read-step-4 Inv-loop μ-loop
-shared-slice-read-step-4 c =
-    omega arith
-
 step-requires : tie.Need-step-requires Inv-loop μ-loop
 step-requires c κs = tt
 
-add-at : tie.Need-add-at Inv-loop μ-loop
-add-at c =
-    omega (arith, c .before .before .before .before .before .before .before .before .before .before .before .before .before .before .before .before .before .good)
+add-i : tie.Need-add-i Inv-loop μ-loop
+add-i c =
+    omega (arith, c .before .before .before .before .before .before .before .before .before .before .before .before .before .before .good)
 
 loop-less : tie.Need-loop-less Inv-loop μ-loop
 loop-less c =
@@ -91,7 +51,7 @@ loop-less c =
 
 loop-again : tie.Need-loop-again Inv-loop μ-loop
 loop-again c =
-    record { most = omega arith; size = c .before .before .before .step .kept .1 .0 ∙ c .before .before .before .before .before .before .before .before .before .before .loop .inv .size }
+    record { most = omega arith; size = c .before .before .before .step .kept .1 .0 ∙ c .before .before .before .before .before .before .before .loop .inv .size }
 
 same-length : tie.Need-same-length Inv-loop μ-loop
 same-length c =
@@ -110,20 +70,10 @@ run-spec =
     write-all-requires
     reset-requires
     loop-holds
-    add-loop
     mul-step
     shared-slice-read-step
-    add-step
-    mul-step-2
-    shared-slice-read-step-2
-    add-step-2
-    mul-step-3
-    shared-slice-read-step-3
-    add-step-3
-    mul-step-4
-    shared-slice-read-step-4
     step-requires
-    add-at
+    add-i
     loop-less
     loop-again
     same-length
