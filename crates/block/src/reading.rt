@@ -100,6 +100,7 @@ pub(crate) fn read_words(r: Registers, memory: &[u16], part: &mut [u16]) -> Run
     if n == 0 {
         return read_singly(r, memory, part);
     }
+    // The first place is named: a part without one asks more of the proof.
     let start = 0;
     let first = read_straight(r, memory, &mut part[start..n]);
     let q = first.registers;

@@ -87,6 +87,7 @@ pub(crate) fn write_words(r: Registers, memory: &mut [u16], part: &[u16]) -> Run
     if n == 0 {
         return write_singly(r, memory, part);
     }
+    // The first place is named: a part without one asks more of the proof.
     let start = 0;
     let first = write_straight(r, memory, &part[start..n]);
     let q = first.registers;
