@@ -19,7 +19,7 @@ use Rattle.block.specs.InPlainWords.{Fits}
 use Rattle.block.specs.declared.BlockRead.{BlockRead}
 use Rattle.block.proofs.Numbers.{when, read-taken, list-taken}
 use Rattle.block.proofs.Lent.{laid-stretch}
-use Rattle.block.proofs.Straight.{held-then-hollow, all-held}
+use Rattle.block.proofs.HandedOut.{held-then-hollow, all-held}
 use Rattle.block.proofs.Joining.{filled-length}
 
 -- Load the pointer at a table of n words that lies in memory, with INCR set, and read a block of n: it is done, every word of the

@@ -5,6 +5,7 @@ pub mod One
 -- ---- a block in parts, as the code does it
 pub mod Joining
 pub mod OneAccess
+pub mod HandedOut
 pub mod Straight
 pub mod Lent
 pub mod Whole

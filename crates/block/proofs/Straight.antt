@@ -1,13 +1,13 @@
 -- Accesses that step from word to word inside memory, all at once: what reads hand out and leave, and what writes store and
 -- leave. Reads by what crate port says of registers that stand at an address (`Handed`); writes one after the other.
 use Prim.Native.Nat.{ℕ, zero, suc, _+_, _-_, _*_, _%_, _^_, _≤_, _<_, min}
-use native.Mathlib.Nat.{add-zero, zero-add}
+use native.Mathlib.Nat.{add-zero}
 use native.Mathlib.Omega.{arith}
 use mathlib.Core.Path.{_≡_, refl, sym, ap, _∙_, subst}
 use mathlib.Core.Bool.{Bool, true, false, cond}
-use mathlib.Core.List.{List, [], _∷_, _++_, map, append-assoc, append-nil}
+use mathlib.Core.List.{List, [], _∷_, _++_, map, append-assoc}
 use mathlib.Core.Logic.{_≢_}
-use lib.ListN.{replicate, length, getD, set, take, drop, length-set}
+use lib.ListN.{length, getD, set, take, drop, length-set}
 use lib.Seq.{drop-cons, sets, sets-eq}
 use borrow.Author.Tests.{lt-ltb}
 use Rattle.words.specs.Addresses.{word-at, step}
@@ -18,13 +18,13 @@ use Rattle.control.specs.Control.{incr, incw}
 use Rattle.port.specs.Registers.{with-latch}
 use Rattle.port.specs.Cycle.{standing, stepped}
 use Rattle.port.specs.Runs.{Machine, answers, ends}
-use Rattle.port.specs.Table.{Memory, stands, reading, on-by, table, Lies, Given, given, held, filler}
+use Rattle.port.specs.Table.{Memory, stands, reading, on-by, table, Lies, given}
 use Rattle.port.specs.declared.Registers.{Registers}
-use Rattle.port.specs.declared.Answer.{Answer}
 use Rattle.port.proofs.Handed.{on-by-gains, reads-answer, reads-end}
 use Rattle.port.proofs.TableWords.{table-handed}
-use Rattle.block.specs.Block.{machine, counted, tally, words-in, hollows-in}
+use Rattle.block.specs.Block.{machine, counted, words-in, hollows-in}
 use Rattle.block.specs.Parts.{straight-reads, straight-writes, stepped-by, ReadInto, WrittenFrom}
+use Rattle.block.proofs.HandedOut.{all-held}
 use Rattle.block.proofs.Joining.{join-reads, join-writes}
 use Rattle.block.proofs.OneAccess.{one-read, one-write}
 
@@ -53,46 +53,6 @@ pub writes-go-straight : (r : Registers) (words count n : ℕ) → n ≡ straigh
     Straight (incw (r .control)) (word-at (r .pointer) .0) words count n
 unfolding straight-writes
 writes-go-straight r words count n = goes-straight (incw (r .control)) (word-at (r .pointer) .0) words count n
-
--- ---- what answers hand out, by what is given
-words-given : (xs : List Answer) → words-in xs ≡ map (λ (g : Given). g .word) (map given xs)
-words-given [] = refl
-words-given (x ∷ xs) = ap (λ (l : List ℕ). x .word ∷ l) (words-given xs)
-
-hollows-of : List Given → ℕ
-hollows-of [] = 0
-hollows-of (g ∷ gs) = counted (g .hollow) + hollows-of gs
-
-hollows-given : (xs : List Answer) → hollows-in xs ≡ hollows-of (map given xs)
-unfolding tally hollows-of
-hollows-given [] = refl
-hollows-given (x ∷ xs) = ap (λ (n : ℕ). counted (x .hollow) + n) (hollows-given xs)
-
-words-told : (ws : List ℕ) (j : ℕ) → map (λ (g : Given). g .word) (map held ws ++ replicate j filler) ≡ ws ++ replicate j 0xffff
-words-told [] zero = refl
-words-told [] (suc j) = ap (λ (l : List ℕ). 0xffff ∷ l) (words-told [] j)
-words-told (w ∷ ws) j = ap (λ (l : List ℕ). w ∷ l) (words-told ws j)
-
-next : (j : ℕ) → 1 + j ≡ suc j
-next j = omega arith
-
-hollows-told : (ws : List ℕ) (j : ℕ) → hollows-of (map held ws ++ replicate j filler) ≡ j
-unfolding hollows-of
-hollows-told [] zero = refl
-hollows-told [] (suc j) = ap (λ (n : ℕ). 1 + n) (hollows-told [] j) ∙ next j
-hollows-told (w ∷ ws) j = ap (λ (n : ℕ). 0 + n) (hollows-told ws j) ∙ zero-add j
-
--- Answers that give words as held, and after them filler, hand out just these, and the fillers are those counted hollow.
-pub held-then-hollow : (xs : List Answer) (ws : List ℕ) (j : ℕ) → map given xs ≡ map held ws ++ replicate j filler →
-    (words-in xs ≡ ws ++ replicate j 0xffff) × (hollows-in xs ≡ j)
-held-then-hollow xs ws j e =
-    (words-given xs ∙ ap (map (λ (g : Given). g .word)) e ∙ words-told ws j, hollows-given xs ∙ ap hollows-of e ∙ hollows-told ws j)
-
--- Answers that give all words as held hand out just these, and none is hollow.
-pub all-held : (xs : List Answer) (ws : List ℕ) → map given xs ≡ map held ws → (words-in xs ≡ ws) × (hollows-in xs ≡ 0)
-all-held xs ws e =
-    let told = held-then-hollow xs ws 0 (e ∙ sym (append-nil (map held ws))) in
-    (told .0 ∙ append-nil ws, told .1)
 
 -- ---- reads
 module _ (r : Registers) (m : List ℕ) (k : Memory m) (i : incr (r .control) ≡ true) where
