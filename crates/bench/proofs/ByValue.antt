@@ -3,8 +3,8 @@
 use Prim.Native.Nat.{ℕ}
 use mathlib.Core.Path.{ap, _∙_}
 use mathlib.Core.List.{List}
+use Rattle.registers.specs.declared.Registers.{Registers}
 use Rattle.port.specs.Host.{access, Accessed}
-use Rattle.port.specs.declared.Registers.{Registers}
 use Rattle.port.specs.declared.Access.{Access}
 use Rattle.port.specs.declared.Answer.{Answer}
 use Rattle.port.specs.declared.Outcome.{Outcome}

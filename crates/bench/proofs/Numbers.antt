@@ -6,8 +6,8 @@ use mathlib.Core.Bool.{false}
 use mathlib.Core.List.{List}
 use mathlib.Core.Logic.{_≢_}
 use lib.ListN.{length}
+use Rattle.registers.specs.declared.Registers.{Registers}
 use Rattle.port.specs.Host.{register-of, lanes-of}
-use Rattle.port.specs.declared.Registers.{Registers}
 use Rattle.port.specs.declared.Access.{Access}
 use Rattle.port.specs.declared.Answer.{Answer}
 use Rattle.port.specs.declared.Cycle.the-variants.{None}

@@ -5,7 +5,7 @@ use mathlib.Core.Path.{_≡_}
 use mathlib.Core.List.{List}
 use Rattle.words.proofs.One.{one-value}
 use Rattle.bench.specs.InPlace.{AccessedInPlace}
-use Rattle.port.specs.declared.Registers.{Registers}
+use Rattle.registers.specs.declared.Registers.{Registers}
 use Rattle.port.specs.declared.Access.{Access}
 use Rattle.port.specs.declared.Answer.{Answer}
 

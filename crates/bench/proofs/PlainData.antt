@@ -14,12 +14,12 @@ use denote.Laws.{Is, shows}
 use denote.Steps.{owned, facts}
 use denote.Struct.Laws as Struct
 use denote.Enum.Laws as Enum
-use Rattle.port.specs.declared.Registers.{Registers}
+use Rattle.registers.specs.declared.Registers.{Registers}
+use Rattle.registers.proofs.Registers as registers
+use Rattle.registers.proofs.Registers.Laws as registers′
 use Rattle.port.specs.declared.Access.{Access}
 use Rattle.port.specs.declared.Answer.{Answer}
 use Rattle.port.specs.declared.Outcome.{Outcome}
-use Rattle.port.proofs.Registers as registers
-use Rattle.port.proofs.Registers.Laws as registers′
 use Rattle.port.proofs.Access as access
 use Rattle.port.proofs.Access.Laws as access′
 use Rattle.port.proofs.Answer as answer

@@ -4,10 +4,10 @@ use mathlib.Core.Path.{_≡_, refl, ap, _∙_}
 use Prim.Native.Nat.{ℕ}
 use mathlib.Core.List.{List, [], _∷_}
 use Rattle.words.proofs.One.{one-value}
+use Rattle.registers.specs.declared.Registers.{Registers}
 use Rattle.port.specs.Host.{access}
 use Rattle.port.specs.Runs.{Machine, answer-of, after, Sixteen, on, answers, ends}
 use Rattle.port.specs.Deeds.{does, ran}
-use Rattle.port.specs.declared.Registers.{Registers}
 use Rattle.port.specs.declared.Access.{Access}
 use Rattle.port.specs.declared.Answer.{Answer}
 use Rattle.bench.specs.InPlace.{AccessedInPlace}

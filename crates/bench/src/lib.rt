@@ -5,7 +5,7 @@ ghost use Rattle.port.specs.Host.{Accessed};
 use port::Access;
 use port::Answer;
 use port::Outcome;
-use port::Registers;
+use registers::Registers;
 
 // One access by the host on the lent memory, which leaves its registers in the record that is lent.
 pub fn host_access_in_place(r: &mut Registers, memory: &mut [u16], a: Access) -> Answer

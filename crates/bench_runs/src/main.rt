@@ -9,7 +9,7 @@ use port::Access;
 use port::Answer;
 use port::Cycle;
 use port::Outcome;
-use port::Registers;
+use registers::Registers;
 
 fn print_access(name: &[u8], register: u32, lanes: u32) {
     io::write_all(1, name);
@@ -122,7 +122,7 @@ fn step(r: Registers, memory: &mut [u16], access: u32) -> Outcome
 // A script, from reset on.
 fn run(title: &[u8], memory: &mut [u16], script: &[u32]) {
     io::write_all(1, title);
-    let woken = port::reset();
+    let woken = registers::reset();
     let mut r = woken.registers;
     let mut i: usize = 0;
     while i < script.len() {

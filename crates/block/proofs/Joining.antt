@@ -7,9 +7,9 @@ use mathlib.Core.Path.{_≡_, refl, sym, ap, _∙_}
 use mathlib.Core.Bool.{Bool, true, false}
 use mathlib.Core.List.{List, [], _∷_, _++_, map-append}
 use lib.ListN.{length, length-map}
+use Rattle.registers.specs.declared.Registers.{Registers}
 use Rattle.port.specs.Runs.{Machine, Sixteen, load, save, on, answer-of, after, answers, ends}
 use Rattle.port.specs.Table.{reading}
-use Rattle.port.specs.declared.Registers.{Registers}
 use Rattle.port.specs.declared.Answer.{Answer}
 use Rattle.port.specs.declared.Access.the-variants.{Read}
 use Rattle.port.proofs.DataRegister.{read-keeps-memory}

@@ -6,9 +6,9 @@ use mathlib.Core.Logic.{⊎-elim}
 use native.Mathlib.Nat.{add-zero}
 use lib.ListN.{take-append-drop}
 use Rattle.words.proofs.Choices.{same-or-not}
+use Rattle.registers.specs.declared.Registers.{Registers}
 use Rattle.port.specs.Runs.{answers, ends}
 use Rattle.port.specs.Table.{reading}
-use Rattle.port.specs.declared.Registers.{Registers}
 use Rattle.block.specs.Block.{block-number, tally, block-read, list-after, block-write, memory-left}
 use Rattle.block.proofs.Numbers.{read-taken, list-taken, write-taken, memory-taken}
 use Rattle.block.proofs.Numbers.{read-barred, list-barred, write-barred, memory-barred}

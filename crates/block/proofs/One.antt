@@ -4,8 +4,8 @@ use Prim.Native.Nat.{ℕ}
 use mathlib.Core.Path.{_≡_, ap, _∙_}
 use mathlib.Core.List.{List}
 use Rattle.words.proofs.One.{one-value}
+use Rattle.registers.specs.declared.Registers.{Registers}
 use Rattle.port.specs.Runs.{Machine}
-use Rattle.port.specs.declared.Registers.{Registers}
 use Rattle.block.specs.Block.{ReadBlock, WrittenBlock}
 use Rattle.block.specs.Parts.{ReadInto, WrittenFrom}
 use Rattle.block.specs.declared.Run.{Run}

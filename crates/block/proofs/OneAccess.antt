@@ -14,13 +14,13 @@ use Rattle.words.proofs.Choices.{either-way}
 use Rattle.words.proofs.Lanes.{shown-whole, replaced-whole}
 use Rattle.control.specs.Control.{incw}
 use Rattle.control.proofs.ClosingByte.{both-close}
-use Rattle.port.specs.Registers.{with-latch, written}
+use Rattle.registers.specs.Registers.{with-latch, written}
+use Rattle.registers.specs.declared.Registers.{Registers}
 use Rattle.port.specs.Cycle.{standing, stepped}
 use Rattle.port.specs.Deeds.{ahead, has-cycle, word-used}
 use Rattle.port.specs.Host.{access}
 use Rattle.port.specs.Runs.{answer-of, after, answers, ends}
 use Rattle.port.specs.Table.{reading}
-use Rattle.port.specs.declared.Registers.{Registers}
 use Rattle.port.specs.declared.Access.the-variants.{Read, Write}
 use Rattle.port.proofs.Numbers.{numbered}
 use Rattle.port.proofs.NoMiss.{rule, true-mark}

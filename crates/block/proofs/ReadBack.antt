@@ -11,8 +11,8 @@ use lib.Seq.{getD-take, getD-drop}
 use Rattle.words.specs.Addresses.{word-at}
 use Rattle.words.proofs.Choices.{less-or-not}
 use Rattle.control.specs.Control.{incr, incw}
+use Rattle.registers.specs.declared.Registers.{Registers}
 use Rattle.port.specs.Table.{Memory, loaded, table, Lies}
-use Rattle.port.specs.declared.Registers.{Registers}
 use Rattle.block.specs.Block.{machine, block-number, stretch, with-stretch, block-write, memory-left, block-read, list-after}
 use Rattle.block.specs.Parts.{stepped-by, WrittenFrom}
 use Rattle.block.specs.InPlainWords.{Words}

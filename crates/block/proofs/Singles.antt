@@ -8,9 +8,9 @@ use mathlib.Core.List.{List, [], _∷_}
 use lib.ListN.{length, getD, drop}
 use lib.ListN.{length-drop, length-take}
 use lib.Seq.{getD-drop, getD-take}
+use Rattle.registers.specs.declared.Registers.{Registers}
 use Rattle.port.specs.Runs.{Machine, answer-of, after, answers, ends, byte-answers, byte-ends}
 use Rattle.port.specs.Table.{reading}
-use Rattle.port.specs.declared.Registers.{Registers}
 use Rattle.port.specs.declared.Access.the-variants.{Read, Write}
 use Rattle.port.proofs.Alike.{answers-alike, ends-alike}
 use Rattle.block.specs.Block.{machine, writing, stretch, counted, tally, words-in, hollows-in, is-empty, empties-in}

@@ -15,11 +15,11 @@ use Rattle.words.specs.Memory.{fetch-at, store-at}
 use Rattle.words.specs.declared.BitAddress.{BitAddress}
 use Rattle.words.proofs.Addresses.{step-fits}
 use Rattle.control.specs.Control.{incr, incw}
-use Rattle.port.specs.Registers.{with-latch}
+use Rattle.registers.specs.Registers.{with-latch}
+use Rattle.registers.specs.declared.Registers.{Registers}
 use Rattle.port.specs.Cycle.{standing, stepped}
 use Rattle.port.specs.Runs.{Machine, answers, ends}
 use Rattle.port.specs.Table.{Memory, stands, reading, on-by, table, Lies, given}
-use Rattle.port.specs.declared.Registers.{Registers}
 use Rattle.port.proofs.Handed.{on-by-gains, reads-answer, reads-end}
 use Rattle.port.proofs.TableWords.{table-handed}
 use Rattle.block.specs.Block.{machine, counted, words-in, hollows-in}

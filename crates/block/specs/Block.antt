@@ -17,9 +17,9 @@ use mathlib.Core.Path.{_≡_}
 use lib.Dec.{eqb, ltb}
 use lib.ListN.{length, take, drop}
 use Rattle.words.specs.Memory.{over-limit}
+use Rattle.registers.specs.declared.Registers.{Registers}
 use Rattle.port.specs.Runs.{Machine, Sixteen, save, answers, ends}
 use Rattle.port.specs.Table.{reading}
-use Rattle.port.specs.declared.Registers.{Registers}
 use Rattle.port.specs.declared.Answer.{Answer}
 use Rattle.port.specs.declared.Cycle.{Cycle}
 use Rattle.port.specs.declared.Cycle.the-variants.{None, Inside, Empty}

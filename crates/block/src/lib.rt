@@ -11,7 +11,7 @@ mod writing;
 ghost use mathlib.Core.Path.{_≡_};
 ghost use Prim.Native.Nat.{_≤_};
 ghost use Rattle.block.specs.Block.{counted};
-use port::Registers;
+use registers::Registers;
 pub use reading::block_read;
 pub use writing::block_write;
 

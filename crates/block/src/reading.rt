@@ -16,9 +16,9 @@ use crate::copying::step_by;
 use crate::judging::block_number_of;
 use crate::one_if;
 use control::steps_reading;
-use port::Registers;
 use port::settle_fetch;
 use port::step_if;
+use registers::Registers;
 use words::fetch_word;
 use words::word_of;
 

@@ -3,7 +3,7 @@
 // The stored output was worked out by hand from document 01, "The four host registers" and "Blocks and the two doors".
 use block::BlockRead;
 use block::BlockWrite;
-use port::Registers;
+use registers::Registers;
 use words::BitAddress;
 
 fn print_mark(hollow: bool) {
@@ -100,7 +100,7 @@ fn run_reads() {
         control: 0x1000,
         hollow: true,
     };
-    let woken = port::reset();
+    let woken = registers::reset();
     read(
         b"a read to the end of memory and one word past it, into places 1 to 4\n",
         first,

@@ -11,8 +11,8 @@ use mathlib.Core.Logic.{_≢_}
 use lib.Dec.{eqb}
 use lib.ListN.{length}
 use borrow.Author.Tests.{eqb-false}
+use Rattle.registers.specs.declared.Registers.{Registers}
 use Rattle.port.specs.Host.{number-for, access, access-memory}
-use Rattle.port.specs.declared.Registers.{Registers}
 use Rattle.port.specs.declared.Access.{Access}
 use Rattle.port.specs.declared.Outcome.{Outcome}
 use Rattle.port.proofs.Taken.{barred, barred-memory}

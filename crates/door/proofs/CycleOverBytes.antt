@@ -7,8 +7,8 @@ use mathlib.Core.List.{List}
 use lib.ListN.{length, set}
 use Rattle.words.specs.Memory.{in-memory, store-at}
 use Rattle.words.specs.declared.WordNumber.{WordNumber}
+use Rattle.registers.specs.declared.Registers.{Registers}
 use Rattle.port.specs.Cycle.{memory-after}
-use Rattle.port.specs.declared.Registers.{Registers}
 use Rattle.port.specs.declared.Due.{Due}
 use Rattle.port.specs.declared.Due.the-variants.{Nothing, Fetch, Store}
 use Rattle.door.specs.Bytes.{words-of, bytes-of}

@@ -9,8 +9,8 @@ use Rattle.words.specs.Addresses.{address}
 use Rattle.words.specs.Bytes.{bit}
 use Rattle.words.proofs.Bits.{bit-of-high}
 use Rattle.words.proofs.Lanes.{low-of, high-of, whole-word}
-use Rattle.port.specs.Registers.{low-half, high-half}
-use Rattle.port.specs.declared.Registers.{Registers}
+use Rattle.registers.specs.Registers.{low-half, high-half}
+use Rattle.registers.specs.declared.Registers.{Registers}
 use Rattle.door.specs.Bytes.{byte}
 use Rattle.door.specs.Image.{registers-of, image-of}
 use Rattle.door.specs.InPlainWords.{AreBytes, GoodImage, FitWidths, FitsImage}

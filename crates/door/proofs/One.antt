@@ -6,7 +6,7 @@ use mathlib.Core.Bool.{Bool}
 use mathlib.Core.List.{List}
 use Rattle.words.specs.declared.WordNumber.{WordNumber}
 use Rattle.words.proofs.One.{one-value}
-use Rattle.port.specs.declared.Registers.{Registers}
+use Rattle.registers.specs.declared.Registers.{Registers}
 use Rattle.port.specs.declared.Access.{Access}
 use Rattle.port.specs.declared.Due.{Due}
 use Rattle.port.specs.declared.Begun.{Begun}

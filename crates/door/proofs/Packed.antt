@@ -10,9 +10,9 @@ use lib.Dec.{eqb}
 use borrow.Author.Tests.{eqb-true}
 use Rattle.words.specs.Bytes.{lo, hi}
 use Rattle.words.proofs.Lanes.{laid-word}
-use Rattle.port.specs.Registers.{register-word}
+use Rattle.registers.specs.Registers.{register-word}
+use Rattle.registers.specs.declared.Registers.{Registers}
 use Rattle.port.specs.Host.{begin-access, done, access}
-use Rattle.port.specs.declared.Registers.{Registers}
 use Rattle.port.specs.declared.Access.{Access}
 use Rattle.port.specs.declared.Access.the-variants.{Read, Write}
 use Rattle.port.specs.declared.Answer.{Answer}

@@ -19,10 +19,10 @@ use Rattle.words.proofs.Lanes.{laid-word, replaced-word}
 use Rattle.control.specs.Control.{bare, host-low, control-laid}
 use Rattle.control.proofs.LowByte.{host-byte}
 use Rattle.control.proofs.Written.{high-lane, ten-left-clear}
-use Rattle.port.specs.Registers.{with-pointer, with-latch, with-control, half-written, written, halves, low-half, high-half}
+use Rattle.registers.specs.Registers.{with-pointer, with-latch, with-control, half-written, written, halves, low-half, high-half}
+use Rattle.registers.specs.declared.Registers.{Registers}
 use Rattle.port.specs.Cycle.{stepped, after-fetch, after-store, carried, memory-after}
 use Rattle.port.specs.Host.{begin-access, done, access, access-memory, number-for}
-use Rattle.port.specs.declared.Registers.{Registers}
 use Rattle.port.specs.declared.Access.{Access}
 use Rattle.port.specs.declared.Access.the-variants.{Read, Write}
 use Rattle.port.specs.declared.Due.{Due}

@@ -14,10 +14,10 @@ use Rattle.words.specs.Bytes.{lo, hi}
 use Rattle.words.proofs.Choices.{either-way, same-or-not}
 use Rattle.words.proofs.MemoryWords.{stored-elsewhere}
 use Rattle.control.specs.Control.{closes, fetches}
-use Rattle.port.specs.Registers.{written}
+use Rattle.registers.specs.Registers.{written}
+use Rattle.registers.specs.declared.Registers.{Registers}
 use Rattle.port.specs.Cycle.{memory-after}
 use Rattle.port.specs.Host.{read-due, write-due, begin-access, number-for, access-memory}
-use Rattle.port.specs.declared.Registers.{Registers}
 use Rattle.port.specs.declared.Access.{Access}
 use Rattle.port.specs.declared.Access.the-variants.{Read, Write}
 use Rattle.port.specs.declared.Due.the-variants.{Nothing, Fetch, Store}

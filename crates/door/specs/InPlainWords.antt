@@ -14,7 +14,7 @@ use mathlib.Core.Logic.{_⊎_, _≢_}
 use mathlib.Core.Path.{_≡_}
 use lib.ListN.{length, getD}
 use Rattle.words.specs.Bytes.{bit}
-use Rattle.port.specs.declared.Registers.{Registers}
+use Rattle.registers.specs.declared.Registers.{Registers}
 use Rattle.door.specs.Bytes.{byte}
 use Rattle.door.specs.Image.{registers-of}
 

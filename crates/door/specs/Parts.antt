@@ -13,9 +13,9 @@ use Rattle.words.specs.Addresses.{word-at}
 use Rattle.words.specs.Bytes.{lo, hi}
 use Rattle.words.specs.Memory.{in-memory}
 use Rattle.words.specs.declared.WordNumber.{WordNumber}
+use Rattle.registers.specs.declared.Registers.{Registers}
 use Rattle.port.specs.Cycle.{carried}
 use Rattle.port.specs.Host.{done}
-use Rattle.port.specs.declared.Registers.{Registers}
 use Rattle.port.specs.declared.Due.{Due}
 use Rattle.port.specs.declared.Due.the-variants.{Nothing, Fetch, Store}
 use Rattle.port.specs.declared.Begun.{Begun}

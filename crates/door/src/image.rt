@@ -4,7 +4,7 @@ ghost use Prim.Native.Nat.{_+_, _*_};
 ghost use lib.ListN.{length};
 ghost use mathlib.Core.Bool.{cond};
 ghost use Rattle.door.specs.Image.{registers-of, image-of};
-use port::Registers;
+use registers::Registers;
 use words::BitAddress;
 use words::high_byte;
 use words::low_byte;

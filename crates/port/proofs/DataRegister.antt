@@ -9,11 +9,11 @@ use Rattle.words.specs.Addresses.{address, word-at}
 use Rattle.words.specs.Bytes.{replaced}
 use Rattle.words.specs.Memory.{store-at}
 use Rattle.control.specs.Control.{incr, incw, closes}
-use Rattle.port.specs.Registers.{with-latch, written}
+use Rattle.registers.specs.Registers.{with-latch, written}
+use Rattle.registers.specs.declared.Registers.{Registers}
 use Rattle.port.specs.Cycle.{carried, memory-after, standing}
 use Rattle.port.specs.Host.{read-due, write-due, begin-access, number-for, access, access-memory}
 use Rattle.port.specs.Deeds.{content, Says, ahead}
-use Rattle.port.specs.declared.Registers.{Registers}
 use Rattle.port.specs.declared.Access.the-variants.{Read, Write}
 use Rattle.port.specs.declared.Due.the-variants.{Nothing, Fetch}
 use Rattle.port.proofs.Taken.{as-done-memory}

@@ -19,7 +19,7 @@ use Rattle.words.proofs.Choices.{either-way}
 use Rattle.words.proofs.Lanes.{shown-whole, replaced-whole}
 use Rattle.control.specs.Control.{lbl, incr, closes, fetches}
 use Rattle.control.proofs.ClosingByte.{both-close}
-use Rattle.port.specs.Registers.{low-half, high-half, halves, register-word, half-written, written}
+use Rattle.registers.specs.Registers.{low-half, high-half, halves, register-word, half-written, written}
 use Rattle.port.specs.Cycle.{stepped, after-fetch, carried, memory-after, shows, standing}
 use Rattle.port.specs.Host.{read-due, write-due, begin-access, refusal, done, access, access-memory}
 use Rattle.port.specs.Runs.{Machine, answer-of, after, answers, ends}

@@ -5,9 +5,9 @@ use mathlib.Core.Bool.{Bool, false}
 use mathlib.Core.List.{List}
 use Rattle.words.specs.Addresses.{stepped-from}
 use Rattle.words.specs.Memory.{fetch-at}
+use Rattle.registers.specs.declared.Registers.{Registers}
 use Rattle.port.specs.Cycle.{stepped, after-fetch, after-store, carried, standing}
 use Rattle.port.specs.Host.{begin-access, done, access}
-use Rattle.port.specs.declared.Registers.{Registers}
 use Rattle.port.specs.declared.Access.{Access}
 use Rattle.port.specs.declared.Due.the-variants.{Fetch, Store}
 use Rattle.port.specs.declared.Outcome.{Outcome}

@@ -4,16 +4,13 @@ pub mod Taken
 pub mod Numbers
 pub mod One
 -- ---- the host's side, sentence by sentence
-pub mod RegisterWords
+pub mod HostTold
 pub mod Unselected
 pub mod OpenByte
 pub mod Leaves
 pub mod DataRegister
 pub mod OtherRegisters
 pub mod LowBits
--- ---- the processor's side, and reset
-pub mod ProcessorSide
-pub mod AfterReset
 -- ---- demand 3: bytes and words end alike
 pub mod Pairs
 pub mod Alike

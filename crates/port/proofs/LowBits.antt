@@ -10,11 +10,11 @@ use Rattle.words.specs.Memory.{in-memory, fetch-at}
 use Rattle.words.specs.declared.BitAddress.{BitAddress}
 use Rattle.words.specs.declared.WordNumber.{WordNumber}
 use Rattle.words.proofs.Addresses.{step-keeps-low-bits, step-of-word}
-use Rattle.port.specs.Registers.{with-pointer, register-word, written}
+use Rattle.registers.specs.Registers.{with-pointer, register-word, written}
+use Rattle.registers.specs.declared.Registers.{Registers}
 use Rattle.port.specs.Cycle.{stepped, mark, after-fetch, after-store, carried, memory-after}
 use Rattle.port.specs.Host.{begin-access, number-for, refused, done, access, access-memory}
 use Rattle.port.specs.Deeds.{Content, content}
-use Rattle.port.specs.declared.Registers.{Registers}
 use Rattle.port.specs.declared.Access.{Access}
 use Rattle.port.specs.declared.Access.the-variants.{Read, Write}
 use Rattle.port.specs.declared.Due.{Due}

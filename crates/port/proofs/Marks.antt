@@ -15,20 +15,20 @@ use Rattle.words.specs.Bytes.{replaced}
 use Rattle.words.specs.Memory.{in-memory, fetch-at}
 use Rattle.words.specs.declared.WordNumber.{WordNumber}
 use Rattle.control.specs.Control.{incw, incr, closes, fetches}
-use Rattle.port.specs.Registers.{written}
+use Rattle.registers.specs.Registers.{written}
+use Rattle.registers.specs.Processor.{processor-written, processor-writes}
+use Rattle.registers.specs.declared.Registers.{Registers}
+use Rattle.registers.specs.declared.ProcessorWrite.{ProcessorWrite}
 use Rattle.port.specs.Cycle.{stepped, mark, after-fetch, after-store, carried}
 use Rattle.port.specs.Host.{read-due, write-due, begin-access, done}
 use Rattle.port.specs.Runs.{Machine, answer-of, after}
-use Rattle.port.specs.Processor.{processor-written, processor-writes}
 use Rattle.port.specs.Deeds.{Deed, host, processor, reset, elsewhere, does, Content, content, reads-data, writes-data, has-cycle, word-used, judged, expected, Shows}
-use Rattle.port.specs.declared.Registers.{Registers}
 use Rattle.port.specs.declared.Access.{Access}
 use Rattle.port.specs.declared.Access.the-variants.{Read, Write}
 use Rattle.port.specs.declared.Due.the-variants.{Nothing, Fetch, Store}
 use Rattle.port.specs.declared.Cycle.the-variants.{None}
 use Rattle.port.specs.declared.Carried.{Carried}
 use Rattle.port.specs.declared.Outcome.{Outcome}
-use Rattle.port.specs.declared.ProcessorWrite.{ProcessorWrite}
 use Rattle.port.proofs.Taken.{either-done}
 
 -- ---- the cycle

@@ -18,20 +18,20 @@ use Rattle.words.specs.Bytes.{shown}
 use Rattle.words.specs.Memory.{in-memory}
 use Rattle.words.proofs.MemoryWords.{fetched-beyond}
 use Rattle.control.specs.Control.{closes}
-use Rattle.port.specs.Registers.{register-word}
+use Rattle.registers.specs.Registers.{register-word}
+use Rattle.registers.specs.declared.Registers.{Registers}
 use Rattle.port.specs.Cycle.{mark}
 use Rattle.port.specs.Host.{begin-access, done, access}
 use Rattle.port.specs.Runs.{Machine, answer-of}
 use Rattle.port.specs.Deeds.{Deed, woken, does, ran, Content, content, Says, writes-data, has-cycle, ahead, word-used, Agree}
 use Rattle.port.specs.Origin.{Origin, unset, missed, memory, by-processor, laid, stored, value, is-held, told, story, Came, from-memory, from-processor, from-host, under-bytes}
-use Rattle.port.specs.declared.Registers.{Registers}
 use Rattle.port.specs.declared.Access.{Access}
 use Rattle.port.specs.declared.Access.the-variants.{Read}
 use Rattle.port.specs.declared.Cycle.{Cycle}
 use Rattle.port.specs.declared.Cycle.the-variants.{None, Inside, Empty}
 use Rattle.port.specs.declared.Outcome.{Outcome}
 use Rattle.port.proofs.Taken.{either-done, as-done}
-use Rattle.port.proofs.RegisterWords.{read-answers}
+use Rattle.port.proofs.HostTold.{read-answers}
 use Rattle.port.proofs.Marks.{leaves, judges, mark-shown}
 use Rattle.port.proofs.Origins.{run-told}
 

@@ -11,8 +11,8 @@ use lib.ListN.{length}
 use borrow.Author.Tests.{ltb-true, ltb-false}
 use Rattle.words.specs.Bytes.{are-lanes}
 use Rattle.words.proofs.Lanes.{lanes-named, lanes-unnamed}
+use Rattle.registers.specs.declared.Registers.{Registers}
 use Rattle.port.specs.Host.{refusal, register-of, lanes-of, number-for, access, access-memory}
-use Rattle.port.specs.declared.Registers.{Registers}
 use Rattle.port.specs.declared.Access.{Access}
 use Rattle.port.specs.declared.Cycle.the-variants.{None}
 use Rattle.port.specs.declared.Outcome.{Outcome}

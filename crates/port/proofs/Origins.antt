@@ -9,11 +9,11 @@ use lib.ListN.{getD}
 use Rattle.words.specs.Bytes.{replaced}
 use Rattle.words.specs.Memory.{in-memory, fetch-at}
 use Rattle.words.specs.declared.WordNumber.{WordNumber}
+use Rattle.registers.specs.declared.Registers.{Registers}
 use Rattle.port.specs.Host.{begin-access, number-for, refused, done, access}
 use Rattle.port.specs.Runs.{Machine, after}
 use Rattle.port.specs.Deeds.{Deed, host, processor, reset, elsewhere, does, ran, Content, content, writes-data, has-cycle, word-used}
 use Rattle.port.specs.Origin.{Origin, missed, memory, by-processor, laid, stored, value, is-held, told, landed, looked, story-after, story}
-use Rattle.port.specs.declared.Registers.{Registers}
 use Rattle.port.specs.declared.Access.{Access}
 use Rattle.port.specs.declared.Access.the-variants.{Read, Write}
 use Rattle.port.proofs.Marks.{found, kept, leaves, data-begun, data-put}

@@ -8,10 +8,10 @@ use mathlib.Core.Logic.{_≢_}
 use lib.Dec.{eqb}
 use borrow.Author.Tests.{ne-eqb}
 use Rattle.control.specs.Control.{lbl, closes, fetches, host-low, control-laid}
-use Rattle.port.specs.Registers.{with-control, written}
+use Rattle.registers.specs.Registers.{with-control, written}
+use Rattle.registers.specs.declared.Registers.{Registers}
 use Rattle.port.specs.Cycle.{carried, memory-after, standing}
 use Rattle.port.specs.Host.{read-due, write-due, begin-access, access, access-memory}
-use Rattle.port.specs.declared.Registers.{Registers}
 use Rattle.port.specs.declared.Access.{Access}
 use Rattle.port.specs.declared.Access.the-variants.{Read, Write}
 use Rattle.port.specs.declared.Cycle.the-variants.{None}

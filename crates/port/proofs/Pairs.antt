@@ -12,10 +12,11 @@ use Rattle.words.proofs.ByBytes.{lay-both, replaced-both, shown-both}
 use Rattle.control.specs.Control.{lbl, bare, host-low, control-laid, closes, fetches, first-lane, last-lane}
 use Rattle.control.proofs.LowByte.{host-byte}
 use Rattle.control.proofs.ClosingByte.{first-is-open, last-closes, both-close}
-use Rattle.port.specs.Registers.{low-half, high-half, halves, with-pointer, with-control, register-word, half-written, written}
+use Rattle.registers.specs.Registers.{low-half, high-half, with-pointer, with-control, register-word, half-written, written}
+use Rattle.registers.specs.declared.Registers.{Registers}
+use Rattle.registers.proofs.RegisterWords.{low-of-halves, high-of-halves}
 use Rattle.port.specs.Host.{read-due, write-due, begin-access}
 use Rattle.port.specs.Runs.{Sixteen, load, save, on}
-use Rattle.port.specs.declared.Registers.{Registers}
 use Rattle.port.specs.declared.Due.{Due}
 use Rattle.port.specs.declared.Due.the-variants.{Nothing}
 use Rattle.port.specs.declared.Begun.{Begun}
@@ -37,14 +38,6 @@ abbrev pub last-of : Registers → Sixteen → Begun
 last-of r a = begin-access (first-of r a .registers) (on (last-lane (r .control)) a)
 
 -- ---- the pointer's halves
-
--- The low half of a pointer made of two halves is the first.
-pub low-of-halves : (l h : ℕ) → l < 65536 → low-half (halves l h) ≡ l
-low-of-halves l h p = omega arith
-
--- Its high half is the second.
-pub high-of-halves : (l h : ℕ) → l < 65536 → h < 65536 → high-half (halves l h) ≡ h
-high-of-halves l h p q = omega arith
 
 module _ (b : Bool) (a : BitAddress) (w : ℕ) where
   low-both : half-written (half-written a 0 (cond b 2 1) w) 0 (cond b 1 2) w ≡ half-written a 0 3 w

@@ -13,7 +13,7 @@ use Rattle.words.specs.Memory.{in-memory, fetch-at, store-at}
 use Rattle.words.specs.declared.WordNumber.{WordNumber}
 use Rattle.words.proofs.Lanes.{replaced-whole}
 use Rattle.control.specs.Control.{closes, fetches}
-use Rattle.port.specs.Registers.{register-word, half-written, written}
+use Rattle.registers.specs.Registers.{register-word, half-written, written}
 use Rattle.port.specs.Cycle.{stepped, mark, after-fetch, after-store, carried, memory-after}
 use Rattle.port.specs.Host.{read-due, write-due, begin-access, refusal, number-for, done, access, access-memory}
 use Rattle.port.specs.Runs.{Machine, answer-of, after}

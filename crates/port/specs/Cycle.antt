@@ -14,8 +14,8 @@ use Rattle.words.specs.Addresses.{word-at, stepped-from}
 use Rattle.words.specs.Memory.{in-memory, fetch-at, store-at}
 use Rattle.words.specs.declared.BitAddress.{BitAddress}
 use Rattle.words.specs.declared.Fetched.{Fetched}
-use Rattle.port.specs.Registers.{with-pointer, with-latch}
-use Rattle.port.specs.declared.Registers.{Registers}
+use Rattle.registers.specs.Registers.{with-pointer, with-latch}
+use Rattle.registers.specs.declared.Registers.{Registers}
 use Rattle.port.specs.declared.Due.{Due}
 use Rattle.port.specs.declared.Due.the-variants.{Nothing, Fetch, Store}
 use Rattle.port.specs.declared.Cycle.{Cycle}

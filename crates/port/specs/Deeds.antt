@@ -18,10 +18,10 @@ use Rattle.words.specs.Bytes.{shown}
 use Rattle.words.specs.declared.BitAddress.{BitAddress}
 use Rattle.words.specs.declared.WordNumber.{WordNumber}
 use Rattle.control.specs.Control.{incr, closes, fetches}
-use Rattle.port.specs.Registers.{written}
+use Rattle.registers.specs.Registers.{written}
+use Rattle.registers.specs.Processor.{processor-writes, at-reset}
+use Rattle.registers.specs.declared.Registers.{Registers}
 use Rattle.port.specs.Runs.{Machine, answer-of, after}
-use Rattle.port.specs.Processor.{processor-writes, at-reset}
-use Rattle.port.specs.declared.Registers.{Registers}
 use Rattle.port.specs.declared.Access.{Access}
 use Rattle.port.specs.declared.Access.the-variants.{Read, Write}
 use Rattle.port.specs.declared.Answer.{Answer}

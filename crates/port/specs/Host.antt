@@ -12,9 +12,9 @@ use lib.ListN.{length}
 use Rattle.words.specs.Bytes.{are-lanes, shown}
 use Rattle.words.specs.Memory.{over-limit}
 use Rattle.control.specs.Control.{incw, incr, closes, fetches}
-use Rattle.port.specs.Registers.{register-word, written}
+use Rattle.registers.specs.Registers.{register-word, written}
+use Rattle.registers.specs.declared.Registers.{Registers}
 use Rattle.port.specs.Cycle.{carried, memory-after}
-use Rattle.port.specs.declared.Registers.{Registers}
 use Rattle.port.specs.declared.Access.{Access}
 use Rattle.port.specs.declared.Access.the-variants.{Read, Write}
 use Rattle.port.specs.declared.Due.{Due}

@@ -1,8 +1,6 @@
 -- ---- what the contracts cite
-pub mod Registers
 pub mod Cycle
 pub mod Host
-pub mod Processor
 -- ---- the words of the laws: demand 3, the tuner's law, the keeper's law
 pub mod Runs
 pub mod Table

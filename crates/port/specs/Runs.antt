@@ -8,8 +8,8 @@
 use Prim.Native.Nat.{ℕ, _+_}
 use mathlib.Core.List.{List, [], _∷_}
 use Rattle.control.specs.Control.{first-lane, last-lane}
+use Rattle.registers.specs.declared.Registers.{Registers}
 use Rattle.port.specs.Host.{access, access-memory}
-use Rattle.port.specs.declared.Registers.{Registers}
 use Rattle.port.specs.declared.Access.{Access}
 use Rattle.port.specs.declared.Access.the-variants.{Read, Write}
 use Rattle.port.specs.declared.Answer.{Answer}

@@ -20,7 +20,7 @@ use Rattle.words.specs.Addresses.{word-at, step}
 use Rattle.words.specs.Memory.{in-memory}
 use Rattle.words.specs.declared.BitAddress.{BitAddress}
 use Rattle.control.specs.Control.{lbl}
-use Rattle.port.specs.Registers.{low-half, high-half}
+use Rattle.registers.specs.Registers.{low-half, high-half}
 use Rattle.port.specs.Cycle.{mark, shows, standing}
 use Rattle.port.specs.Runs.{Machine, Sixteen, load, save, ends, byte-ends}
 use Rattle.port.specs.declared.Answer.{Answer}

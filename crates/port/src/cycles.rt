@@ -4,9 +4,9 @@ ghost use Rattle.port.specs.Cycle.{stepped, mark, after-fetch, after-sto
 use crate::Carried;
 use crate::Cycle;
 use crate::Due;
-use crate::Registers;
-use crate::parts::set_latch;
-use crate::parts::set_pointer;
+use registers::Registers;
+use registers::set_latch;
+use registers::set_pointer;
 use words::Fetched;
 use words::fetch_word;
 use words::step_address;

@@ -44,11 +44,11 @@ use denote.Triple.Clauses.{ensured, lasts}
 use denote.Triple.Table.{entered, cited}
 use denote.Triple.Walked.{says, Stays, gave-slice, stay-none, walkOf, AllGo, goes-none, goes-gave-slice, Walks, ends-at, walked, walk-meets}
 use denote.Exit.{yes}
-use Rattle.port.specs.declared.Registers.{Registers}
+use Rattle.registers.specs.declared.Registers.{Registers}
+use Rattle.registers.proofs.Registers as registers
+use Rattle.registers.proofs.Registers.Laws as registers′
 use Rattle.port.specs.declared.Access.{Access}
 use Rattle.port.specs.declared.Answer.{Answer}
-use Rattle.port.proofs.Registers as registers
-use Rattle.port.proofs.Registers.Laws as registers′
 use Rattle.port.proofs.Access as access
 use Rattle.port.proofs.Access.Laws as access′
 use Rattle.port.proofs.Answer as answer

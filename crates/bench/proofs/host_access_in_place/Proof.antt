@@ -43,12 +43,12 @@ use denote.Triple.Walked.{says, Stays, stay-ref, stay-none, gave-slice, walkOf, 
 use denote.Triple.Walked.{Walks, ends-at, walked, walk-meets}
 use denote.Exit.{yes}
 use denote.Signature.{plain}
+use Rattle.registers.specs.declared.Registers.{Registers}
+use Rattle.registers.proofs.Registers as registers
+use Rattle.registers.proofs.Registers.Laws as registers′
 use Rattle.port.specs.Host.{Accessed}
-use Rattle.port.specs.declared.Registers.{Registers}
 use Rattle.port.specs.declared.Access.{Access}
 use Rattle.port.specs.declared.Outcome.{Outcome}
-use Rattle.port.proofs.Registers as registers
-use Rattle.port.proofs.Registers.Laws as registers′
 use Rattle.port.proofs.Access as access
 use Rattle.port.proofs.Access.Laws as access′
 use Rattle.port.proofs.Outcome as outcome

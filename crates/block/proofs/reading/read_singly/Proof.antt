@@ -8,11 +8,11 @@ use mathlib.Core.List.{List, [], _∷_, _++_}
 use lib.ListN.{length, take, set, length-set}
 use lib.Seq.{take-length, take-suc-set}
 use borrow.Author.Needs.{needs}
+use Rattle.registers.specs.declared.Registers.{Registers}
 use Rattle.port.specs.Cycle.{standing}
 use Rattle.port.specs.Deeds.{ahead}
 use Rattle.port.specs.Runs.{answers, ends}
 use Rattle.port.specs.Table.{Memory, reading}
-use Rattle.port.specs.declared.Registers.{Registers}
 use Rattle.port.proofs.Handed.{shows-word}
 use Rattle.block.specs.Block.{machine, counted, tally}
 use Rattle.block.specs.Parts.{ReadInto}

@@ -13,10 +13,10 @@ use Rattle.words.specs.Addresses.{word-at}
 use Rattle.words.specs.Memory.{in-memory, store-at}
 use Rattle.words.proofs.MemoryWords.{stored-length}
 use Rattle.control.specs.Control.{incw}
-use Rattle.port.specs.Registers.{with-latch}
+use Rattle.registers.specs.Registers.{with-latch}
+use Rattle.registers.specs.declared.Registers.{Registers}
 use Rattle.port.specs.Cycle.{stepped}
 use Rattle.port.specs.Runs.{answers, ends}
-use Rattle.port.specs.declared.Registers.{Registers}
 use Rattle.block.specs.Block.{machine, counted, tally}
 use Rattle.block.specs.Parts.{WrittenFrom}
 use Rattle.block.proofs.Joining.{join-writes, few-empties}

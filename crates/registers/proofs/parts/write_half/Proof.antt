@@ -1,8 +1,8 @@
--- `port::parts::write_half` meets its contract, by cases on the half.
+-- `registers::parts::write_half` meets its contract, by cases on the half.
 use borrow.Author.Tests.{eq-eqb, ne-eqb}
-use Rattle.port.specs.Registers.{half-written}
-use Rattle.port.proofs.parts.write_half.Statement.{statement}
-use Rattle.port.proofs.parts.write_half.Tie as tie
+use Rattle.registers.specs.Registers.{half-written}
+use Rattle.registers.proofs.parts.write_half.Statement.{statement}
+use Rattle.registers.proofs.parts.write_half.Tie as tie
 
 low-half-of-requires : tie.Need-low-half-of-requires
 low-half-of-requires c κs = tt

@@ -10,11 +10,11 @@ use Rattle.words.specs.Addresses.{address}
 use Rattle.words.specs.Bytes.{shown}
 use Rattle.bus.specs.Order.{quiet}
 use Rattle.control.specs.Control.{bare, processor-low, control-laid}
-use Rattle.port.specs.Registers.{with-latch, with-control, register-word, written}
-use Rattle.port.specs.declared.Registers.{Registers}
-use Rattle.port.specs.declared.ProcessorRead.{ProcessorRead}
-use Rattle.port.specs.declared.ProcessorWrite.{ProcessorWrite}
-use Rattle.port.specs.declared.Woken.{Woken}
+use Rattle.registers.specs.Registers.{with-latch, with-control, register-word, written}
+use Rattle.registers.specs.declared.Registers.{Registers}
+use Rattle.registers.specs.declared.ProcessorRead.{ProcessorRead}
+use Rattle.registers.specs.declared.ProcessorWrite.{ProcessorWrite}
+use Rattle.registers.specs.declared.Woken.{Woken}
 
 -- "HSTADRL 0, HSTADRH 1, HSTDATA 2, HSTCTLL 3, HSTCTLH 4, always sixteen bits": the first three are the host's own;
 -- "HSTCTLL reads as the low byte", "HSTCTLH reads with a zero low byte"

@@ -1,6 +1,6 @@
 // The processor's side of the port: five registers, always sixteen bits, and never a memory cycle; and reset.
 ghost use mathlib.Core.Path.{_≡_};
-ghost use Rattle.port.specs.Processor.{processor-word, processor-written, processor-reads, processor-writes, at-reset};
+ghost use Rattle.registers.specs.Processor.{processor-word, processor-written, processor-reads, processor-writes, at-reset};
 use crate::ProcessorRead;
 use crate::ProcessorWrite;
 use crate::Registers;

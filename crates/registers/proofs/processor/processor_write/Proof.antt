@@ -1,8 +1,8 @@
--- `port::processor::processor_write` meets its contract, by cases on the register's number.
+-- `registers::processor::processor_write` meets its contract, by cases on the register's number.
 use borrow.Author.Tests.{lt-ltb, le-ltb}
-use Rattle.port.specs.Processor.{processor-writes}
-use Rattle.port.proofs.processor.processor_write.Statement.{statement}
-use Rattle.port.proofs.processor.processor_write.Tie as tie
+use Rattle.registers.specs.Processor.{processor-writes}
+use Rattle.registers.proofs.processor.processor_write.Statement.{statement}
+use Rattle.registers.proofs.processor.processor_write.Tie as tie
 
 returns : tie.Need-returns
 unfolding processor-writes

@@ -11,7 +11,7 @@ use Rattle.words.specs.Addresses.{address}
 use Rattle.words.specs.Bytes.{replaced}
 use Rattle.words.specs.declared.BitAddress.{BitAddress}
 use Rattle.control.specs.Control.{bare, host-low, control-laid}
-use Rattle.port.specs.declared.Registers.{Registers}
+use Rattle.registers.specs.declared.Registers.{Registers}
 
 -- "0 HSTADRL, low half of the pointer; 1 HSTADRH, high half"
 abbrev pub low-half : BitAddress → ℕ

@@ -6,7 +6,7 @@ use Rattle.words.specs.Addresses.{address}
 use Rattle.words.specs.Bytes.{bit}
 use Rattle.bus.specs.Order.{waits}
 use Rattle.bus.proofs.Sources.{quiet-waits}
-use Rattle.port.specs.Processor.{at-reset}
+use Rattle.registers.specs.Processor.{at-reset}
 
 pub record AfterReset : Type 0 where
   pub pointer : at-reset .registers .pointer ≡ address 0

@@ -1,8 +1,8 @@
--- `port::parts::read_register` meets its contract, by cases on the register.
+-- `registers::parts::read_register` meets its contract, by cases on the register.
 use borrow.Author.Tests.{eq-eqb, ne-eqb}
-use Rattle.port.specs.Registers.{register-word}
-use Rattle.port.proofs.parts.read_register.Statement.{statement}
-use Rattle.port.proofs.parts.read_register.Tie as tie
+use Rattle.registers.specs.Registers.{register-word}
+use Rattle.registers.proofs.parts.read_register.Statement.{statement}
+use Rattle.registers.proofs.parts.read_register.Tie as tie
 
 low-half-of-requires : tie.Need-low-half-of-requires
 low-half-of-requires c κs = tt

@@ -1,6 +1,6 @@
 // The register record: one part of it replaced, a register read, a register written.
 ghost use mathlib.Core.Path.{_≡_};
-ghost use Rattle.port.specs.Registers.{low-half, high-half, halves, with-pointer, with-latch, with-control, register-word, half-written, written};
+ghost use Rattle.registers.specs.Registers.{low-half, high-half, halves, with-pointer, with-latch, with-control, register-word, half-written, written};
 use crate::Registers;
 use control::hide_bit_10;
 use words::BitAddress;
@@ -28,7 +28,7 @@ fn join_halves(l: u16, h: u16) -> BitAddress
 }
 
 // The registers with another pointer.
-pub(crate) fn set_pointer(r: Registers, a: BitAddress) -> Registers
+pub fn set_pointer(r: Registers, a: BitAddress) -> Registers
     ensures { λ x. ⌜ x ≡ with-pointer r a ⌝ }
 {
     Registers {
@@ -66,7 +66,7 @@ pub(crate) fn set_control(r: Registers, c: u16) -> Registers
 }
 
 // What a register of the four reads as.
-pub(crate) fn read_register(r: Registers, register: u32) -> u16
+pub fn read_register(r: Registers, register: u32) -> u16
     ensures { λ x. ⌜ x ≡ register-word r register ⌝ }
 {
     let a = r.pointer;
@@ -95,7 +95,7 @@ fn write_half(a: BitAddress, register: u32, lanes: u32, w: u16) -> BitAddress
 }
 
 // The registers with the selected bytes of one of the four written by the host.
-pub(crate) fn write_register(r: Registers, register: u32, lanes: u32, w: u16) -> Registers
+pub fn write_register(r: Registers, register: u32, lanes: u32, w: u16) -> Registers
     ensures { λ x. ⌜ x ≡ written r register lanes w ⌝ }
 {
     if register < 2 {

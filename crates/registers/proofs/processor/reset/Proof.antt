@@ -1,6 +1,6 @@
--- `port::processor::reset` meets its contract: the bus record is the quiet one.
-use Rattle.port.proofs.processor.reset.Statement.{statement}
-use Rattle.port.proofs.processor.reset.Tie as tie
+-- `registers::processor::reset` meets its contract: the bus record is the quiet one.
+use Rattle.registers.proofs.processor.reset.Statement.{statement}
+use Rattle.registers.proofs.processor.reset.Tie as tie
 
 idle-requires : tie.Need-idle-requires
 idle-requires c κs = tt

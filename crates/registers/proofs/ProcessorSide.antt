@@ -11,11 +11,11 @@ use borrow.Author.Tests.{ltb-true, ltb-false, le-ltb}
 use Rattle.words.specs.Bytes.{lo, hi, takes-low, takes-high, lay}
 use Rattle.words.proofs.Lanes.{replaced-whole}
 use Rattle.control.specs.Control.{bare, processor-low, control-laid}
-use Rattle.port.specs.Registers.{low-half, high-half, halves, with-pointer, with-latch, with-control, register-word, half-written, written}
-use Rattle.port.specs.Processor.{processor-word, processor-written, processor-reads, processor-writes}
-use Rattle.port.specs.declared.Registers.{Registers}
-use Rattle.port.specs.declared.ProcessorRead.{ProcessorRead}
-use Rattle.port.specs.declared.ProcessorWrite.{ProcessorWrite}
+use Rattle.registers.specs.Registers.{low-half, high-half, halves, with-pointer, with-latch, with-control, register-word, half-written, written}
+use Rattle.registers.specs.Processor.{processor-word, processor-written, processor-reads, processor-writes}
+use Rattle.registers.specs.declared.Registers.{Registers}
+use Rattle.registers.specs.declared.ProcessorRead.{ProcessorRead}
+use Rattle.registers.specs.declared.ProcessorWrite.{ProcessorWrite}
 
 -- ---- demand 1
 -- n is the number of a call that names register k

@@ -1,8 +1,8 @@
--- `port::processor::write_of_five` meets its contract, by cases on the register.
+-- `registers::processor::write_of_five` meets its contract, by cases on the register.
 use borrow.Author.Tests.{eq-eqb, ne-eqb, lt-ltb, le-ltb}
-use Rattle.port.specs.Processor.{processor-written}
-use Rattle.port.proofs.processor.write_of_five.Statement.{statement}
-use Rattle.port.proofs.processor.write_of_five.Tie as tie
+use Rattle.registers.specs.Processor.{processor-written}
+use Rattle.registers.proofs.processor.write_of_five.Statement.{statement}
+use Rattle.registers.proofs.processor.write_of_five.Tie as tie
 
 write-register-requires : tie.Need-write-register-requires
 write-register-requires c κs = tt

@@ -1,8 +1,8 @@
--- `port::parts::write_register` meets its contract, by cases on the register.
+-- `registers::parts::write_register` meets its contract, by cases on the register.
 use borrow.Author.Tests.{eq-eqb, ne-eqb, lt-ltb, le-ltb}
-use Rattle.port.specs.Registers.{written}
-use Rattle.port.proofs.parts.write_register.Statement.{statement}
-use Rattle.port.proofs.parts.write_register.Tie as tie
+use Rattle.registers.specs.Registers.{written}
+use Rattle.registers.proofs.parts.write_register.Statement.{statement}
+use Rattle.registers.proofs.parts.write_register.Tie as tie
 
 write-half-requires : tie.Need-write-half-requires
 write-half-requires c κs = tt

@@ -1,8 +1,8 @@
--- `port::processor::processor_read` meets its contract, by cases on the register's number.
+-- `registers::processor::processor_read` meets its contract, by cases on the register's number.
 use borrow.Author.Tests.{lt-ltb, le-ltb}
-use Rattle.port.specs.Processor.{processor-reads}
-use Rattle.port.proofs.processor.processor_read.Statement.{statement}
-use Rattle.port.proofs.processor.processor_read.Tie as tie
+use Rattle.registers.specs.Processor.{processor-reads}
+use Rattle.registers.proofs.processor.processor_read.Statement.{statement}
+use Rattle.registers.proofs.processor.processor_read.Tie as tie
 
 returns : tie.Need-returns
 unfolding processor-reads

@@ -1,8 +1,8 @@
--- `port::processor::read_of_five` meets its contract, by cases on the register.
+-- `registers::processor::read_of_five` meets its contract, by cases on the register.
 use borrow.Author.Tests.{eq-eqb, ne-eqb, lt-ltb, le-ltb}
-use Rattle.port.specs.Processor.{processor-word}
-use Rattle.port.proofs.processor.read_of_five.Statement.{statement}
-use Rattle.port.proofs.processor.read_of_five.Tie as tie
+use Rattle.registers.specs.Processor.{processor-word}
+use Rattle.registers.proofs.processor.read_of_five.Statement.{statement}
+use Rattle.registers.proofs.processor.read_of_five.Tie as tie
 
 read-register-requires : tie.Need-read-register-requires
 read-register-requires c κs = tt
