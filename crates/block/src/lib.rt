@@ -11,8 +11,8 @@ mod writing;
 ghost use mathlib.Core.Path.{_≡_};
 ghost use Prim.Native.Nat.{_≤_};
 ghost use Rattle.block.specs.Block.{counted};
-use registers::Registers;
 pub use reading::block_read;
+use registers::Registers;
 pub use writing::block_write;
 
 // What a block read leaves, besides the list. `hollows` counts the hollow words handed out.
