@@ -9,13 +9,13 @@ use mathlib.Core.Logic.{⊎-elim}
 use lib.ListN.{length, getD, drop, length-take, length-drop, List·getD-eq-default}
 use lib.Seq.{getD-take, getD-drop}
 use Rattle.words.specs.Addresses.{word-at}
+use Rattle.words.specs.Memory.{AreWords}
 use Rattle.words.proofs.Choices.{less-or-not}
 use Rattle.control.specs.Control.{incr, incw}
 use Rattle.registers.specs.declared.Registers.{Registers}
 use Rattle.port.specs.Table.{Memory, loaded, table, Lies}
 use Rattle.block.specs.Block.{machine, block-number, stretch, with-stretch, block-write, memory-left, block-read, list-after}
 use Rattle.block.specs.Parts.{stepped-by, WrittenFrom}
-use Rattle.block.specs.InPlainWords.{Words}
 use Rattle.block.specs.declared.BlockWrite.{BlockWrite}
 use Rattle.block.proofs.Numbers.{when, write-taken, memory-taken}
 use Rattle.block.proofs.Lent.{laid-length, laid-inside, laid-stretch, laid-before, laid-behind}
@@ -40,7 +40,7 @@ pub record ReadBack (l : List ℕ) (place n : ℕ) (l′ : List ℕ) (place′ :
   pub words : stretch (list-after q m′ l′ place′ n) place′ n ≡ stretch l place n
   pub hollows : block-read q m′ l′ place′ n .hollows ≡ 0
 
-stretch-words : (l : List ℕ) (place n : ℕ) → Words l → Words (stretch l place n)
+stretch-words : (l : List ℕ) (place n : ℕ) → AreWords l → AreWords (stretch l place n)
 stretch-words l place n w j =
     let none : n ≤ j → length (stretch l place n) ≤ j = λ h. simp (length-take, length-drop) (omega arith) in
     ⊎-elim
@@ -48,7 +48,7 @@ stretch-words l place n w j =
     (λ h. rw (List·getD-eq-default (stretch l place n) 0 (none h)) (omega arith))
     (less-or-not j n)
 
-module _ (r : Registers) (m l : List ℕ) (place n : ℕ) (k : Memory m) (i : incw (r .control) ≡ true) (w : Words l)
+module _ (r : Registers) (m l : List ℕ) (place n : ℕ) (k : Memory m) (i : incw (r .control) ≡ true) (w : AreWords l)
     (some : 0 < n) (most : n ≤ 4096) (room : place + n ≤ length l) (there : Lies m (r .pointer) n) where
   abbrev ws : List ℕ
   ws = stretch l place n
@@ -88,7 +88,7 @@ module _ (r : Registers) (m l : List ℕ) (place n : ℕ) (k : Memory m) (i : in
         size = rw memory-is (laid-length x n m ws there size-of);
       }
 
-  words-there : (j : ℕ) → getD (memory-left r m l place n) j 0 < 65536
+  words-there : AreWords (memory-left r m l place n)
   words-there j =
       let inside : (d : ℕ) → d < n → getD (memory-left r m l place n) (x + d) 0 < 65536 =
       λ d q. rw (memory-is, laid-inside x n m ws there size-of d q) (stretch-words l place n w d) in

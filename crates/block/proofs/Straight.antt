@@ -11,7 +11,7 @@ use lib.ListN.{length, getD, set, take, drop, length-set}
 use lib.Seq.{drop-cons, sets, sets-eq}
 use borrow.Author.Tests.{lt-ltb}
 use Rattle.words.specs.Addresses.{word-at, step}
-use Rattle.words.specs.Memory.{fetch-at, store-at}
+use Rattle.words.specs.Memory.{AreWords, fetch-at, store-at}
 use Rattle.words.specs.declared.BitAddress.{BitAddress}
 use Rattle.words.proofs.Addresses.{step-fits}
 use Rattle.control.specs.Control.{incr, incw}
@@ -130,7 +130,7 @@ one-straight r m w few i f h = rw (i, lt-ltb (word-at (r .pointer) .0) (length m
 
 -- The words lie in memory from the pointer's word on, and the last is held.
 pub straight-write : (ws : List ℕ) (w : ℕ) (r : Registers) (m : List ℕ) → length m ≤ 32768 → incw (r .control) ≡ true →
-    ((j : ℕ) → getD (w ∷ ws) j 0 < 65536) → word-at (r .pointer) .0 + suc (length ws) ≤ length m →
+    AreWords (w ∷ ws) → word-at (r .pointer) .0 + suc (length ws) ≤ length m →
     WrittenFrom (machine r m) (w ∷ ws) (record { registers = wrote r (suc (length ws)) (getD (w ∷ ws) (length ws) 0); marked = 0 })
     (sets m (word-at (r .pointer) .0) (w ∷ ws))
 straight-write [] w r m few i f h = one-straight r m w few i (f 0) (omega arith)
@@ -146,7 +146,7 @@ straight-write (v ∷ vs) w r m few i f h =
 
 -- The same by a copy to the pointer's word and on.
 pub copied-write : (ws : List ℕ) (r : Registers) (m : List ℕ) → 0 < length ws → length m ≤ 32768 → incw (r .control) ≡ true →
-    ((j : ℕ) → getD ws j 0 < 65536) → word-at (r .pointer) .0 + length ws ≤ length m →
+    AreWords ws → word-at (r .pointer) .0 + length ws ≤ length m →
     WrittenFrom (machine r m) ws (record { registers = wrote r (length ws) (getD ws (length ws - 1) 0); marked = 0 })
     (take (word-at (r .pointer) .0) m ++ (ws ++ drop (word-at (r .pointer) .0 + length ws) m))
 copied-write [] r m p few i f h = absurd (omega (arith, p))

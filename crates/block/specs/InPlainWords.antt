@@ -2,9 +2,8 @@
 --   kth-read s k        what the k-th single read answers, counted from 0
 --   kth-write s ws k    what the k-th single write answers, of the words ws
 --   number-below n f    for how many k below n f says yes
---   Words l             a list of words
 --   Fits l place n      a block of n words that its list does not refuse
-use Prim.Native.Nat.{ℕ, zero, suc, _+_, _<_, _≤_}
+use Prim.Native.Nat.{ℕ, zero, suc, _+_, _≤_}
 use mathlib.Core.Bool.{Bool}
 use mathlib.Core.List.{List}
 use lib.ListN.{length, getD, take}
@@ -25,9 +24,6 @@ kth-write s ws k = answer-of (ends s (writing (take k ws))) (Write 2 3 (getD ws 
 unfoldable pub number-below : ℕ → (ℕ → Bool) → ℕ
 number-below zero f = 0
 number-below (suc n) f = counted (f 0) + number-below n (λ k. f (suc k))
-
-abbrev pub Words : List ℕ → Type 0
-Words l = (j : ℕ) → getD l j 0 < 65536
 
 abbrev pub Fits : List ℕ → ℕ → ℕ → Type 0
 Fits l place n = (n ≤ 4096) × (place + n ≤ length l)

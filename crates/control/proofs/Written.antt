@@ -4,9 +4,11 @@ use Prim.Native.Nat.{ℕ, _+_, _<_}
 use native.Mathlib.Omega.{arith}
 use mathlib.Core.Path.{_≡_, sym, ap, _∙_}
 use mathlib.Core.Bool.{Bool, true, false, cond, _&&_, _||_}
+use mathlib.Core.Logic.{⊎-elim}
 use Rattle.words.specs.Bytes.{lo, hi, bit, takes-low, takes-high}
 use Rattle.words.proofs.Bits.{bit-of-low, bit-of-high}
-use Rattle.words.proofs.Lanes.{laid-low, laid-high}
+use Rattle.words.proofs.Choices.{either-way}
+use Rattle.words.proofs.Lanes.{laid-word, laid-low, laid-high}
 use Rattle.control.specs.Control.{msgin, intin, msgout, intout, bare, host-low, processor-low, control-laid}
 use Rattle.control.proofs.LowByte.{Parts, host-parts, host-byte, processor-parts, processor-byte}
 use Rattle.control.proofs.BitTen.{ten-hidden}
@@ -34,6 +36,20 @@ module _ (low : ℕ → ℕ → ℕ) (byte : (x y : ℕ) → low x y < 256) (lan
   -- A write of the high byte leaves bit 10 clear.
   pub ten-left-clear : takes-high lanes ≡ true → bit (control-laid low lanes c w) 10 ≡ false
   ten-left-clear e = high-bit-written e 2 (omega arith) ∙ ten-hidden w
+
+  -- Where bit 10 is clear, every write leaves it so.
+  pub ten-stays-clear : bit c 10 ≡ false → bit (control-laid low lanes c w) 10 ≡ false
+  ten-stays-clear h = ⊎-elim ten-left-clear kept (either-way (takes-high lanes))
+    where
+      kept : takes-high lanes ≡ false → bit (control-laid low lanes c w) 10 ≡ false
+      kept e =
+          sym (bit-of-high (control-laid low lanes c w) 2 (omega arith)) ∙
+          ap (λ (b : ℕ). bit b 2) (high-lane ∙ ap (λ (t : Bool). cond t (hi (bare w)) (hi c)) e) ∙
+          bit-of-high c 2 (omega arith) ∙ h
+
+  -- What a write leaves has 16 bits.
+  pub control-fits : control-laid low lanes c w < 65536
+  control-fits = laid-word lanes c _ _ (byte _ _) (high-below _)
 
 -- ---- the parts of the low byte, in the register and not in a byte taken out of it
 message-in-low : (v : ℕ) → msgin (lo v) ≡ msgin v

@@ -16,6 +16,7 @@ use Rattle.port.specs.Host.{number-for, access, access-memory}
 use Rattle.port.specs.declared.Access.{Access}
 use Rattle.port.specs.declared.Outcome.{Outcome}
 use Rattle.port.proofs.Taken.{barred, barred-memory}
+use Rattle.port.proofs.Widths.{access-fits, access-memory-fits, access-ten-clear}
 use Rattle.door.specs.Bytes.{words-of, bytes-of}
 use Rattle.door.specs.Image.{registers-of, image-of}
 use Rattle.door.specs.Answer.{refusing}
@@ -24,7 +25,6 @@ use Rattle.door.specs.InPlainWords.{AreBytes, GoodImage, Fitting, FitsIm
 use Rattle.door.proofs.WordsAndBytes.{bytes-length, bytes-of-words, words-of-bytes, words-fit, bytes-fit}
 use Rattle.door.proofs.ImageAndRecord.{registers-of-image, image-of-registers, image-fits, image-bytes, good-image}
 use Rattle.door.proofs.Numbers.{fit-number}
-use Rattle.door.proofs.StaysGood.{access-fits, access-memory-fits}
 
 -- what holds of a call that is done, and is the same for one that is refused
 done-or-same : {A : Type 0} (n : ℕ) (x y : A) → (n ≢ 0 → y ≡ x) → cond (eqb n 0) x y ≡ x
@@ -76,8 +76,15 @@ module _ (image memory : List ℕ) (f : Fitting image memory) (s : AreBytes imag
       (λ n. sym (ap bytes-of (barred-memory r m a (barred-words n)) ∙ bytes-of-words memory (f .even-memory) t))
 
   -- ---- what that stands for
+  given : FitsImage r
+  given = image-fits image (f .good-image) s
+
   fits : FitsImage (access r m a .registers)
-  fits = access-fits r m a (image-fits image (f .good-image) s) (words-fit memory t)
+  fits =
+      record {
+        widths = access-fits r m a (given .widths) (words-fit memory t);
+        ten-clear = access-ten-clear r m a (given .ten-clear);
+      }
 
   -- The image stands for the registers that the access leaves.
   pub registers-left : registers-of (call-image image memory a) ≡ access r m a .registers
@@ -87,7 +94,7 @@ module _ (image memory : List ℕ) (f : Fitting image memory) (s : AreBytes imag
   pub words-left : words-of (call-memory image memory a) ≡ access-memory r m a
   words-left =
       rw memory-as-access
-      (words-of-bytes (access-memory r m a) (access-memory-fits r m a (image-fits image (f .good-image) s) (words-fit memory t)))
+      (words-of-bytes (access-memory r m a) (access-memory-fits r m a (given .widths) (words-fit memory t)))
 
   -- ---- another call can follow
   -- The image that a call leaves is a good one.

@@ -11,7 +11,6 @@ pub mod One
 pub mod CycleOverBytes
 pub mod Calls
 -- ---- a call is the access by value
-pub mod StaysGood
 pub mod AsByValue
 pub mod TwoBytes
 -- ---- demand 3: bytes and words end alike

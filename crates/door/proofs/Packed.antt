@@ -8,18 +8,12 @@ use mathlib.Core.List.{List}
 use mathlib.Core.Logic.{_↔_, ⊎-elim}
 use lib.Dec.{eqb}
 use borrow.Author.Tests.{eqb-true}
-use Rattle.words.specs.Bytes.{lo, hi}
-use Rattle.words.proofs.Lanes.{laid-word}
-use Rattle.registers.specs.Registers.{register-word}
-use Rattle.registers.specs.declared.Registers.{Registers}
-use Rattle.port.specs.Host.{begin-access, done, access}
 use Rattle.port.specs.declared.Access.{Access}
-use Rattle.port.specs.declared.Access.the-variants.{Read, Write}
 use Rattle.port.specs.declared.Answer.{Answer}
 use Rattle.port.specs.declared.Cycle.{Cycle}
 use Rattle.port.specs.declared.Cycle.the-variants.{None, Inside, Empty}
-use Rattle.port.specs.declared.Outcome.{Outcome}
-use Rattle.port.proofs.Taken.{either-done, number-is}
+use Rattle.port.proofs.Taken.{number-is}
+use Rattle.port.proofs.Widths.{access-word}
 use Rattle.door.specs.Answer.{cycle-number, packed, refusing}
 use Rattle.door.specs.Door.{call-number, outcome-of, call-tells, call-answer}
 use Rattle.door.specs.InPlainWords.{word-in, number-in, hollow-in, cycle-in, rest-in}
@@ -103,21 +97,6 @@ unpacks a p q =
     }
 
 -- ---- the answer of a call
-low-below : (v : ℕ) → lo v < 256
-low-below v = omega arith
-
-high-below : (v : ℕ) → hi v < 256
-high-below v = omega arith
-
-begun-word : (r : Registers) (a : Access) → begin-access r a .word < 65536
-unfolding begin-access
-begun-word r (Read k lanes) = laid-word lanes 0 _ _ (low-below (register-word r k)) (high-below (register-word r k))
-begun-word r (Write k lanes w) = omega arith
-
-access-word : (r : Registers) (m : List ℕ) (a : Access) → access r m a .answer .word < 65536
-unfolding done
-access-word r m a = either-done r m a (λ (o : Outcome). o .answer .word < 65536) (begun-word r a) (λ n. omega arith)
-
 module _ (image memory : List ℕ) (a : Access) where
   -- The number answered is the number that applies.
   pub number-told : call-tells image memory a .number ≡ call-number image memory a

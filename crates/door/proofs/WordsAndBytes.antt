@@ -6,10 +6,11 @@ use mathlib.Core.Path.{_≡_, refl, sym, ap, _∙_}
 use mathlib.Core.List.{List, [], _∷_}
 use lib.ListN.{length, getD, set}
 use Rattle.words.specs.Bytes.{lo, hi}
+use Rattle.words.specs.Memory.{AreWords}
 use Rattle.words.proofs.Lanes.{low-of, high-of, whole-word}
 use Rattle.door.specs.Bytes.{words-of, bytes-of, byte}
 use Rattle.door.specs.Parts.{put-word}
-use Rattle.door.specs.InPlainWords.{AreBytes, AreWords}
+use Rattle.door.specs.InPlainWords.{AreBytes}
 
 half : (k : ℕ) → suc (suc k) / 2 ≡ suc (k / 2)
 half k = omega arith
@@ -64,7 +65,7 @@ bytes-of-words (l ∷ h ∷ rest) e s =
     rw (low-of l h (s 0), high-of l h (s 0) (s 1), bytes-of-words rest (omega arith) (λ k. s (suc (suc k))))
 
 -- Words, taken as bytes, are the words of those bytes.
-pub words-of-bytes : (m : List ℕ) → ((k : ℕ) → getD m k 0 < 65536) → words-of (bytes-of m) ≡ m
+pub words-of-bytes : (m : List ℕ) → AreWords m → words-of (bytes-of m) ≡ m
 unfolding words-of bytes-of
 words-of-bytes [] s = refl
 words-of-bytes (w ∷ rest) s = rw (whole-word w (s 0), words-of-bytes rest (λ k. s (suc k)))

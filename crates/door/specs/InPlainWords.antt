@@ -3,17 +3,16 @@
 --   GoodImage i                   nine bytes, hollow byte 0 or 1, bit 10 clear
 --   Fitting image memory          a call that number 11 does not refuse
 --   Misfit image memory           one of the four faults that number 11 tells
---   FitWidths r                   registers of 32 and 16 bits
---   FitsImage r                   such registers, with bit 10 clear
---   AreWords m                    every number of the list is one of 16 bits
+--   FitsImage r                   registers of 32 and 16 bits, with bit 10 clear
 --   word-in, number-in, hollow-in, cycle-in, rest-in   what lies in the bits of a packed answer
 use Prim.Native.Nat.{ℕ, _/_, _%_, _^_, _<_, _≤_}
 use mathlib.Core.Bool.{true, false}
 use mathlib.Core.List.{List}
 use mathlib.Core.Logic.{_⊎_, _≢_}
 use mathlib.Core.Path.{_≡_}
-use lib.ListN.{length, getD}
+use lib.ListN.{length}
 use Rattle.words.specs.Bytes.{bit}
+use Rattle.registers.specs.InPlainWords.{FitWidths, TenClear}
 use Rattle.registers.specs.declared.Registers.{Registers}
 use Rattle.door.specs.Bytes.{byte}
 use Rattle.door.specs.Image.{registers-of}
@@ -38,17 +37,9 @@ Misfit image memory =
     ((bit (registers-of image .control) 10 ≡ true) ⊎
     (length memory % 2 ≡ 1)))
 
-pub record FitWidths (r : Registers) : Type 0 where
-  pub pointer-width : r .pointer .0 < 2 ^ 32
-  pub data-width : r .latch < 65536
-  pub control-width : r .control < 65536
-
 pub record FitsImage (r : Registers) : Type 0 where
   pub widths : FitWidths r
-  pub ten-clear : bit (r .control) 10 ≡ false
-
-abbrev pub AreWords : List ℕ → Type 0
-AreWords m = (k : ℕ) → getD m k 0 < 65536
+  pub ten-clear : TenClear r
 
 -- bits 0-15, 16-23, 24, 25-26 and all above, as shifts and masks take them out
 abbrev pub word-in : ℕ → ℕ

@@ -7,12 +7,13 @@ use mathlib.Core.Logic.{⊎-elim, _≢_}
 use lib.ListN.{length}
 use Rattle.words.specs.Addresses.{address}
 use Rattle.words.specs.Bytes.{bit}
+use Rattle.words.specs.Memory.{AreWords}
 use Rattle.words.specs.declared.BitAddress.{BitAddress}
 use Rattle.words.proofs.Choices.{same-or-not}
 use Rattle.fields.specs.Field.{memory-bit}
 use Rattle.fields.specs.Count.{take-cycles}
 use Rattle.fields.specs.Answers.{refusal, taken, PutIn}
-use Rattle.fields.specs.InPlainWords.{Covers, Words}
+use Rattle.fields.specs.InPlainWords.{Covers}
 use Rattle.fields.specs.declared.Put.{Put}
 use Rattle.fields.proofs.Accepted.{none-applies}
 use Rattle.fields.proofs.Answered.{memory-done, memory-refused}
@@ -39,7 +40,7 @@ module _ {m m′ : List ℕ} {a : BitAddress} {n v : ℕ} {r : Put} (p : PutIn m
       (same-or-not (refusal (length m) a n) 0)
 
   -- Words of sixteen bits stay so, and there are as many as before.
-  pub then-words : Words m → Words m′ × (length m′ ≡ length m)
+  pub then-words : AreWords m → AreWords m′ × (length m′ ≡ length m)
   then-words w =
       ⊎-elim
       (λ z. rw (p .memory, memory-done m a n z v) (put-words m a n v w, put-length m a n v))

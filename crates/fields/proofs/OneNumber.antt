@@ -9,18 +9,19 @@ use mathlib.Core.Logic.{⊎-elim}
 use lib.Pow.{high, low}
 use Rattle.words.specs.Addresses.{address}
 use Rattle.words.specs.Bytes.{bit}
+use Rattle.words.specs.Memory.{AreWords}
 use Rattle.words.specs.declared.BitAddress.{BitAddress}
 use Rattle.words.proofs.Choices.{less-or-not}
 use Rattle.words.proofs.Bits.{bit-above, bit-of-quotient, bit-of-remainder}
 use Rattle.fields.specs.Field.{memory-bit, field-at}
-use Rattle.fields.specs.InPlainWords.{Words, number-of}
+use Rattle.fields.specs.InPlainWords.{number-of}
 use Rattle.fields.proofs.Readings.{bit-in, field-from-bits}
 
 no-bit : (i : ℕ) → bit 0 i ≡ false
 no-bit i = bit-above 0 {w = 0} {i = i} (omega arith) (omega arith)
 
 -- Bit b of that number is memory bit b.
-pub number-bit : (m : List ℕ) (b : ℕ) → Words m → bit (number-of m) b ≡ memory-bit m (address b)
+pub number-bit : (m : List ℕ) (b : ℕ) → AreWords m → bit (number-of m) b ≡ memory-bit m (address b)
 unfolding number-of memory-bit
 number-bit [] b h = no-bit b ∙ sym (no-bit (b % 16))
 number-bit (w ∷ m) b h =
@@ -39,7 +40,7 @@ number-bit (w ∷ m) b h =
     (less-or-not b 16)
 
 -- The field is that number without its a low bits, modulo 2^n.
-pub field-of-number : (m : List ℕ) (a : BitAddress) (n : ℕ) → Words m → field-at m a n ≡ number-of m / 2 ^ a .0 % 2 ^ n
+pub field-of-number : (m : List ℕ) (a : BitAddress) (n : ℕ) → AreWords m → field-at m a n ≡ number-of m / 2 ^ a .0 % 2 ^ n
 field-of-number m a n h =
     field-from-bits m a n (number-of m / 2 ^ a .0)
     (λ i l. sym (number-bit m (a .0 + i) h) ∙ sym (bit-of-quotient (number-of m) (a .0) i))

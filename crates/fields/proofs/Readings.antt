@@ -12,11 +12,12 @@ use lib.ListN.{length, getD, set, length-set}
 use lib.Seq.{set-out, getD-set-same, getD-set-other, set-getD}
 use Rattle.words.specs.Addresses.{address, word-at}
 use Rattle.words.specs.Bytes.{bit}
+use Rattle.words.specs.Memory.{AreWords}
 use Rattle.words.specs.declared.BitAddress.{BitAddress}
 use Rattle.words.proofs.Choices.{less-or-not, same-or-not}
 use Rattle.words.proofs.Bits.{bit-above, bit-of-remainder}
 use Rattle.fields.specs.Field.{ahead, memory-bit, with-bit, set-memory-bit, field-at, with-field}
-use Rattle.fields.specs.InPlainWords.{Covers, Words}
+use Rattle.fields.specs.InPlainWords.{Covers}
 use Rattle.fields.proofs.OneBit.{top-is, rest-is, bit-made, bit-kept, bit-as-it-is, bit-fits}
 use Rattle.fields.proofs.WordBits.{one-bit-more}
 
@@ -145,7 +146,7 @@ put-elsewhere m a (suc n) v b d =
 
 -- ---- words stay words
 
-set-words : (m : List ℕ) (b : BitAddress) (v : Bool) → Words m → Words (set-memory-bit m b v)
+set-words : (m : List ℕ) (b : BitAddress) (v : Bool) → AreWords m → AreWords (set-memory-bit m b v)
 unfolding set-memory-bit
 set-words m b v h i =
     let w : ℕ = b .0 / 16 in
@@ -159,7 +160,7 @@ set-words m b v h i =
     (same-or-not i w)
 
 -- Putting in leaves words of sixteen bits, and as many as there were (`put-length`).
-pub put-words : (m : List ℕ) (a : BitAddress) (n v : ℕ) → Words m → Words (with-field m a n v)
+pub put-words : (m : List ℕ) (a : BitAddress) (n v : ℕ) → AreWords m → AreWords (with-field m a n v)
 unfolding with-field
 put-words m a zero v h = h
 put-words m a (suc n) v h = set-words (with-field m a n v) (ahead a n) (bit v n) (put-words m a n v h)

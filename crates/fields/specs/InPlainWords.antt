@@ -4,7 +4,6 @@
 --   Counted a n w      word w is one of those that the cycles are added up over
 --   Missing words a n  a touched word isn't in a memory of so many words
 --   partly a n w       1 for a word that is only partly covered, else 0
---   Words m            every word of the memory has sixteen bits
 --   number-of m        the whole memory as one number, its first word lowest
 --   InRange n z        z is one of -2^(n - 1) to 2^(n - 1) - 1
 --   same-bits z        the unsigned number of 32 bits with the bits of the signed number z
@@ -13,7 +12,6 @@ use mathlib.Core.Bool.{cond}
 use mathlib.Core.List.{List, [], _∷_}
 use mathlib.Core.Path.{_≡_}
 use lib.IntN.{ℤ, pos, negsuc}
-use lib.ListN.{getD}
 use Rattle.words.specs.Addresses.{word-at}
 use Rattle.words.specs.declared.BitAddress.{BitAddress}
 use Rattle.words.specs.declared.WordNumber.{WordNumber}
@@ -43,9 +41,6 @@ pub record Missing (words : ℕ) (a : BitAddress) (n : ℕ) : Type 0 where
   pub beyond : words ≤ word .0
 
 -- ---- memory
-
-abbrev pub Words : List ℕ → Type 0
-Words m = (i : ℕ) → getD m i 0 < 2 ^ 16
 
 unfoldable pub number-of : List ℕ → ℕ
 number-of [] = 0

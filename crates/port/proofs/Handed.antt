@@ -5,18 +5,19 @@
 use Prim.Native.Nat.{ℕ, zero, suc, _+_, _*_, _%_, _^_, _<_}
 use native.Mathlib.Omega.{arith}
 use mathlib.Core.Path.{_≡_, refl, ap, _∙_}
-use mathlib.Core.Bool.{Bool, true, false, cond}
+use mathlib.Core.Bool.{true, false}
 use mathlib.Core.Logic.{⊎-elim}
 use lib.Dec.{ltb}
-use lib.ListN.{length, getD}
+use lib.ListN.{length}
 use borrow.Author.Tests.{le-ltb}
 use Rattle.words.specs.Addresses.{word-at, step}
 use Rattle.words.specs.Bytes.{takes-low, takes-high, are-lanes, replaced}
-use Rattle.words.specs.Memory.{in-memory, fetch-at}
+use Rattle.words.specs.Memory.{fetch-at}
 use Rattle.words.specs.declared.BitAddress.{BitAddress}
 use Rattle.words.proofs.Addresses.{step-fits}
 use Rattle.words.proofs.Choices.{either-way}
 use Rattle.words.proofs.Lanes.{shown-whole, replaced-whole}
+use Rattle.words.proofs.MemoryWords.{fetched-word}
 use Rattle.control.specs.Control.{lbl, incr, closes, fetches}
 use Rattle.control.proofs.ClosingByte.{both-close}
 use Rattle.registers.specs.Registers.{low-half, high-half, halves, register-word, half-written, written}
@@ -65,12 +66,7 @@ module _ (s : Machine) (k : Memory (s .memory)) where
   -- ---- reading
   -- What a fetch brings is a word.
   pub shows-word : (a : BitAddress) → shows (s .memory) a < 65536
-  unfolding fetch-at
-  shows-word a = go (in-memory (s .memory) (word-at a))
-    where
-      go : (b : Bool) → cond b (getD (s .memory) (word-at a .0) 0) 0xffff < 65536
-      go true = k .words (word-at a .0)
-      go false = omega arith
+  shows-word a = fetched-word (s .memory) (word-at a) (k .words)
 
   module _ (i : incr (s .registers .control) ≡ true) where
     one-read : (a : BitAddress) →

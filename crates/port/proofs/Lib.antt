@@ -11,6 +11,7 @@ pub mod Leaves
 pub mod DataRegister
 pub mod OtherRegisters
 pub mod LowBits
+pub mod Widths
 -- ---- demand 3: bytes and words end alike
 pub mod Pairs
 pub mod Alike

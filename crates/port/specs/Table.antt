@@ -12,12 +12,12 @@
 --   Lies m a n       all of them are in memory
 --   Given, given     what an answer says of the word that it hands out
 --   held w, filler   the word w, handed out as held; FFFFh, handed out as hollow
-use Prim.Native.Nat.{ℕ, zero, suc, _+_, _<_, _≤_}
+use Prim.Native.Nat.{ℕ, zero, suc, _+_, _≤_}
 use mathlib.Core.Bool.{Bool, true, false, cond, not}
 use mathlib.Core.List.{List, [], _∷_}
-use lib.ListN.{length, getD, take, drop}
+use lib.ListN.{length, take, drop}
 use Rattle.words.specs.Addresses.{word-at, step}
-use Rattle.words.specs.Memory.{in-memory}
+use Rattle.words.specs.Memory.{AreWords, in-memory}
 use Rattle.words.specs.declared.BitAddress.{BitAddress}
 use Rattle.control.specs.Control.{lbl}
 use Rattle.registers.specs.Registers.{low-half, high-half}
@@ -28,7 +28,7 @@ use Rattle.port.specs.declared.Answer.{Answer}
 -- "a lent slice of 16-bit words, at most 32,768"
 pub record Memory (m : List ℕ) : Type 0 where
   pub size : length m ≤ 32768
-  pub words : (i : ℕ) → getD m i 0 < 65536
+  pub words : AreWords m
 
 -- ---- the accesses
 

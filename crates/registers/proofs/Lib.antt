@@ -5,3 +5,5 @@ pub mod Unselected
 -- ---- the processor's side, and reset
 pub mod ProcessorSide
 pub mod AfterReset
+-- ---- both sides
+pub mod Widths

@@ -2,7 +2,7 @@
 use Prim.Native.Nat.{ℕ, suc, _+_, _*_, _%_, _^_, _<_}
 use native.Mathlib.Omega.{arith}
 use mathlib.Core.Path.{_≡_, refl}
-use mathlib.Core.Bool.{true, false}
+use mathlib.Core.Bool.{Bool, true, false}
 use Rattle.words.specs.Addresses.{address, word-at, step, stepped-from}
 use Rattle.words.specs.declared.BitAddress.{BitAddress}
 
@@ -33,6 +33,11 @@ step-wraps = refl
 -- The stepped address has 32 bits.
 pub step-fits : (a : BitAddress) → step a .0 < 2 ^ 32
 step-fits a = omega arith
+
+-- So has an address that is stepped or stays, where it had 32 before.
+pub stepped-fits : (s : Bool) (a : BitAddress) → a .0 < 2 ^ 32 → stepped-from s a .0 < 2 ^ 32
+stepped-fits true a h = step-fits a
+stepped-fits false a h = h
 
 -- A step that is taken goes one word on; where none is taken the address stays.
 pub step-or-stay : (a : BitAddress) → (stepped-from true a ≡ step a) × (stepped-from false a ≡ a)

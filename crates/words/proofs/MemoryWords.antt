@@ -1,14 +1,16 @@
--- What the definitions of one word of memory say: found again where it was stored, filler and nothing beyond the end.
+-- What the definitions of one word of memory say: found again where it was stored, filler and nothing beyond the end;
+-- and words of 16 bits stay so.
 -- Each law goes by cases on whether the word is in memory.
-use Prim.Native.Nat.{ℕ, _<_}
+use Prim.Native.Nat.{ℕ, zero, suc, _<_}
+use native.Mathlib.Omega.{arith}
 use mathlib.Core.Path.{_≡_, refl}
 use mathlib.Core.Bool.{Bool, true, false, cond}
-use mathlib.Core.List.{List}
+use mathlib.Core.List.{List, [], _∷_}
 use mathlib.Core.Logic.{_↔_, _≢_}
 use lib.ListN.{length, getD, set, length-set}
 use lib.Seq.{getD-set-same, getD-set-other, set-getD}
 use borrow.Author.Tests.{ltb-true, lt-ltb}
-use Rattle.words.specs.Memory.{over-limit, in-memory, fetch-at, store-at}
+use Rattle.words.specs.Memory.{over-limit, AreWords, in-memory, fetch-at, store-at}
 use Rattle.words.specs.declared.WordNumber.{WordNumber}
 
 -- A memory is too long exactly if it has more than 32,768 words.
@@ -71,3 +73,30 @@ module _ (m : List ℕ) (n : WordNumber) where
       go : (t : Bool) → cond t (set m (n .0) (cond t (getD m (n .0) 0) 65535)) m ≡ m
       go true = set-getD m (n .0) 0
       go false = refl
+
+-- ---- words of 16 bits
+set-words : (m : List ℕ) (i w k : ℕ) → AreWords m → w < 65536 → getD (set m i w) k 0 < 65536
+set-words [] i w k h p = h k
+set-words (v ∷ rest) zero w zero h p = p
+set-words (v ∷ rest) zero w (suc k) h p = h (suc k)
+set-words (v ∷ rest) (suc i) w zero h p = h 0
+set-words (v ∷ rest) (suc i) w (suc k) h p = set-words rest i w k (λ j. h (suc j)) p
+
+module _ (m : List ℕ) (n : WordNumber) (h : AreWords m) where
+  -- What a fetch brings has 16 bits, inside memory and beyond it.
+  pub fetched-word : fetch-at m n .word < 65536
+  unfolding fetch-at
+  fetched-word = go (in-memory m n)
+    where
+      go : (t : Bool) → cond t (getD m (n .0) 0) 0xffff < 65536
+      go true = h (n .0)
+      go false = omega arith
+
+  -- A store of 16 bits leaves words of 16 bits.
+  pub stored-words : (w : ℕ) → w < 65536 → AreWords (store-at m n w)
+  unfolding store-at
+  stored-words w p k = go (in-memory m n)
+    where
+      go : (t : Bool) → getD (cond t (set m (n .0) w) m) k 0 < 65536
+      go true = set-words m (n .0) w k h p
+      go false = h k
