@@ -8,7 +8,7 @@ use lib.Dec.{ltb, leb}
 use borrow.Author.Tests.{ltb-true, ltb-false, leb-true, leb-false}
 use Rattle.words.proofs.Choices.{both-false}
 use Rattle.words.specs.declared.BitAddress.{BitAddress}
-use Rattle.fields.specs.Count.{last-word, touched}
+use Rattle.field_bits.specs.Count.{last-word, touched}
 use Rattle.fields.specs.Answers.{no-size, refusal}
 use Rattle.fields.specs.Parts.{Accepted}
 

@@ -10,15 +10,15 @@ use Rattle.words.specs.Bytes.{bit}
 use Rattle.words.specs.Memory.{AreWords}
 use Rattle.words.specs.declared.BitAddress.{BitAddress}
 use Rattle.words.proofs.Choices.{same-or-not}
-use Rattle.fields.specs.Field.{memory-bit}
-use Rattle.fields.specs.Count.{take-cycles}
+use Rattle.field_bits.specs.Field.{memory-bit}
+use Rattle.field_bits.specs.Count.{take-cycles}
+use Rattle.field_bits.specs.InPlainWords.{Covers}
+use Rattle.field_bits.proofs.Readings.{put-length, put-bit, put-elsewhere, put-words}
 use Rattle.fields.specs.Answers.{refusal, taken, PutIn}
-use Rattle.fields.specs.InPlainWords.{Covers}
 use Rattle.fields.specs.declared.Put.{Put}
 use Rattle.fields.proofs.Accepted.{none-applies}
 use Rattle.fields.proofs.Answered.{memory-done, memory-refused}
 use Rattle.fields.proofs.Numbers.{put-number, refused-put}
-use Rattle.fields.proofs.Readings.{put-length, put-bit, put-elsewhere, put-words}
 use Rattle.fields.proofs.RoundTrips.{taken-after-put}
 
 module _ {m m′ : List ℕ} {a : BitAddress} {n v : ℕ} {r : Put} (p : PutIn m a n v r m′) where

@@ -7,8 +7,8 @@ use lib.IntN.{pos}
 use lib.ListN.{length}
 use borrow.Author.Tests.{ne-eqb}
 use Rattle.words.specs.declared.BitAddress.{BitAddress}
-use Rattle.fields.specs.Field.{field-at, with-field, signed}
-use Rattle.fields.specs.Count.{take-cycles, put-cycles}
+use Rattle.field_bits.specs.Field.{field-at, with-field, signed}
+use Rattle.field_bits.specs.Count.{take-cycles, put-cycles}
 use Rattle.fields.specs.Answers.{refusal, taken, taken-signed, put-answer, put-memory}
 
 module _ (m : List ℕ) (a : BitAddress) (n : ℕ) where

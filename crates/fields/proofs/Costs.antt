@@ -10,7 +10,7 @@ use borrow.Author.Tests.{le-leb, lt-leb, leb-true, eqb-true, eqb-false}
 use Rattle.words.specs.Addresses.{word-at}
 use Rattle.words.specs.declared.BitAddress.{BitAddress}
 use Rattle.words.specs.declared.WordNumber.{WordNumber}
-use Rattle.fields.specs.Count.{wholly-covered, sum-over, take-cost, put-cost}
+use Rattle.field_bits.specs.Count.{wholly-covered, sum-over, take-cost, put-cost}
 use Rattle.fields.specs.declared.places.Place.{Place}
 use Rattle.fields.proofs.WordByWord.{Reached, Turn}
 

@@ -1,14 +1,4 @@
 -- The laws of fields, in reading order. Proofs of single functions are in the folders beside them.
--- ---- the definitions bit by bit
-pub mod WordBits
-pub mod OneBit
-pub mod Readings
-pub mod Signs
-pub mod OneNumber
--- ---- a field's words, and what they cost
-pub mod Counted
-pub mod Sums
-pub mod Grants
 -- ---- accepted and refused; demand 1
 pub mod Accepted
 pub mod Answered
@@ -18,6 +8,5 @@ pub mod One
 pub mod RoundTrips
 pub mod AfterPut
 -- ---- the definitions word by word, as the code's loops go
-pub mod Steps
 pub mod WordByWord
 pub mod Costs

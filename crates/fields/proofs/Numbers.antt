@@ -11,10 +11,10 @@ use Rattle.words.proofs.Choices.{less-or-not, same-or-not}
 use Rattle.words.specs.Addresses.{word-at}
 use Rattle.words.specs.declared.BitAddress.{BitAddress}
 use Rattle.words.specs.declared.WordNumber.{WordNumber}
-use Rattle.fields.specs.Field.{ahead}
-use Rattle.fields.specs.Count.{last-word, touched}
+use Rattle.field_bits.specs.Field.{ahead}
+use Rattle.field_bits.specs.Count.{last-word, touched}
+use Rattle.field_bits.specs.InPlainWords.{Missing}
 use Rattle.fields.specs.Answers.{no-size, refusal, taken, taken-signed, put-answer, put-memory}
-use Rattle.fields.specs.InPlainWords.{Missing}
 use Rattle.fields.specs.declared.Taken.{Taken}
 use Rattle.fields.specs.declared.SignedTaken.{SignedTaken}
 use Rattle.fields.specs.declared.Put.{Put}

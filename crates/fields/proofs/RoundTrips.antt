@@ -10,14 +10,14 @@ use Rattle.words.specs.Bytes.{bit}
 use Rattle.words.specs.declared.BitAddress.{BitAddress}
 use Rattle.words.proofs.Choices.{same-or-not}
 use Rattle.words.proofs.Bits.{bit-of-remainder}
-use Rattle.fields.specs.Field.{ahead, memory-bit, field-at, with-field, signed}
-use Rattle.fields.specs.Count.{last-word, take-cycles}
+use Rattle.field_bits.specs.Field.{ahead, memory-bit, field-at, with-field, signed}
+use Rattle.field_bits.specs.Count.{last-word, take-cycles}
+use Rattle.field_bits.specs.InPlainWords.{same-bits}
+use Rattle.field_bits.proofs.Readings.{as-it-is, put-length, field-fits, field-bit, field-from-bits, put-bit}
+use Rattle.field_bits.proofs.Signs.{same-low-bits}
 use Rattle.fields.specs.Answers.{refusal, taken, taken-signed, put-memory}
-use Rattle.fields.specs.InPlainWords.{same-bits}
 use Rattle.fields.proofs.Accepted.{none-applies}
 use Rattle.fields.proofs.Answered.{taken-done, signed-done, memory-done, memory-refused}
-use Rattle.fields.proofs.Readings.{as-it-is, put-length, field-fits, field-bit, field-from-bits, put-bit}
-use Rattle.fields.proofs.Signs.{same-low-bits}
 
 -- ---- of the definitions
 

@@ -6,7 +6,7 @@ use native.Mathlib.Omega.{arith}
 use mathlib.Core.Path.{_≡_, ap, _∙_}
 use Rattle.words.specs.Addresses.{address, word-at}
 use Rattle.words.specs.declared.BitAddress.{BitAddress}
-use Rattle.fields.specs.Count.{last-word, touched}
+use Rattle.field_bits.specs.Count.{last-word, touched}
 use Rattle.fields.specs.Parts.{first-place, count-at, place-after}
 use Rattle.fields.specs.declared.places.Place.{Place}
 

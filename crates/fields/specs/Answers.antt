@@ -15,8 +15,8 @@ use lib.IntN.{pos}
 use lib.ListN.{length}
 use Rattle.words.specs.Memory.{over-limit}
 use Rattle.words.specs.declared.BitAddress.{BitAddress}
-use Rattle.fields.specs.Field.{field-at, with-field, signed}
-use Rattle.fields.specs.Count.{last-word, touched, take-cycles, put-cycles}
+use Rattle.field_bits.specs.Field.{field-at, with-field, signed}
+use Rattle.field_bits.specs.Count.{last-word, touched, take-cycles, put-cycles}
 use Rattle.fields.specs.declared.Taken.{Taken}
 use Rattle.fields.specs.declared.SignedTaken.{SignedTaken}
 use Rattle.fields.specs.declared.Put.{Put}

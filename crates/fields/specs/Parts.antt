@@ -1,17 +1,16 @@
 -- An accepted field word by word: what the private functions state.
 --   Accepted words a n   a field that is accepted by a memory of so many words
---   with-bits w o n b    the word w with its n bits from bit o on made b
 --   first-place a        where a field at a begins
 --   count-at p n         how many bits of a field of n bits lie in the word that comes next
 --   place-after p k      the place when these k bits are done
 --   Scattered            what putting in an accepted field leaves
-use Prim.Native.Nat.{ℕ, _+_, _-_, _*_, _/_, _%_, _^_, _≤_, _<_, min}
+use Prim.Native.Nat.{ℕ, _+_, _-_, _%_, _≤_, _<_, min}
 use mathlib.Core.List.{List}
 use mathlib.Core.Path.{_≡_}
 use Rattle.words.specs.Addresses.{word-at}
 use Rattle.words.specs.declared.BitAddress.{BitAddress}
-use Rattle.fields.specs.Field.{with-field}
-use Rattle.fields.specs.Count.{last-word, put-cycles}
+use Rattle.field_bits.specs.Field.{with-field}
+use Rattle.field_bits.specs.Count.{last-word, put-cycles}
 use Rattle.fields.specs.declared.places.Place.{Place}
 
 pub record Accepted (words : ℕ) (a : BitAddress) (n : ℕ) : Type 0 where
@@ -19,10 +18,6 @@ pub record Accepted (words : ℕ) (a : BitAddress) (n : ℕ) : Type 0 where
   pub some : 1 ≤ n
   pub most : n ≤ 32
   pub there : last-word a n .0 < words
-
--- what lies above them, the new bits at their weight, and what lies below
-unfoldable pub with-bits : ℕ → ℕ → ℕ → ℕ → ℕ
-with-bits w o n b = w / 2 ^ (o + n) * 2 ^ (o + n) + b * 2 ^ o + w % 2 ^ o
 
 abbrev pub first-place : BitAddress → Place
 first-place a = record { word = word-at a; from = a .0 % 16; done = 0 }

@@ -1,7 +1,7 @@
 // Some bits of a number, one after the other, taken out and replaced at once.
 ghost use mathlib.Core.Path.{_≡_};
 ghost use Prim.Native.Nat.{_+_, _/_, _%_, _^_, _≤_, _<_};
-ghost use Rattle.fields.specs.Parts.{with-bits};
+ghost use Rattle.field_bits.specs.WithBits.{with-bits};
 
 // Two to the n. (A quotient, a remainder or a product by it is compiled to a shift or a mask.)
 pub(crate) fn pow2(n: u32) -> u32

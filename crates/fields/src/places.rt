@@ -1,7 +1,7 @@
 // The words that a field touches, and how far it is done, word by word.
 ghost use mathlib.Core.Path.{_≡_};
 ghost use Prim.Native.Nat.{_+_, _^_, _≤_, _<_, min};
-ghost use Rattle.fields.specs.Count.{touched};
+ghost use Rattle.field_bits.specs.Count.{touched};
 ghost use Rattle.fields.specs.Parts.{first-place, count-at, place-after};
 use words::BitAddress;
 use words::WordNumber;

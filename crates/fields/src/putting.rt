@@ -2,7 +2,7 @@
 ghost use mathlib.Core.Path.{_≡_};
 ghost use lib.Dec.{eqb};
 ghost use lib.ListN.{length};
-ghost use Rattle.fields.specs.Count.{put-cost};
+ghost use Rattle.field_bits.specs.Count.{put-cost};
 ghost use Rattle.fields.specs.Answers.{PutIn};
 ghost use Rattle.fields.specs.Parts.{Accepted, Scattered};
 use crate::Put;

@@ -1,7 +1,7 @@
 // Taking a field out, as a signed number.
 ghost use mathlib.Core.Path.{_≡_};
 ghost use Prim.Native.Nat.{_^_, _≤_, _<_};
-ghost use Rattle.fields.specs.Field.{signed};
+ghost use Rattle.field_bits.specs.Field.{signed};
 ghost use Rattle.fields.specs.Answers.{taken-signed};
 use crate::SignedTaken;
 use crate::bits::pow2;

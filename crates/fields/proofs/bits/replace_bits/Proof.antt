@@ -4,8 +4,8 @@ use native.Mathlib.Nat.{div-mul-le-self, mod-le, lt-of-lt-of-le}
 use native.Mathlib.Omega.{arith}
 use Prim.Native.Nat.{_+_, _*_, _/_, _%_, _^_, _≤_, _<_}
 use lib.Pow.{pow-pos, pow-mono}
-use Rattle.fields.specs.Parts.{with-bits}
-use Rattle.fields.proofs.WordBits.{new-fit, bits-fit}
+use Rattle.field_bits.specs.WithBits.{with-bits}
+use Rattle.field_bits.proofs.WordBits.{new-fit, bits-fit}
 use Rattle.fields.proofs.bits.replace_bits.Statement.{statement}
 use Rattle.fields.proofs.bits.replace_bits.Tie as tie
 

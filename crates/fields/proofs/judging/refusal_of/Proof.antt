@@ -5,9 +5,9 @@ use mathlib.Core.Bool.{false}
 use native.Mathlib.Omega.{arith}
 use borrow.Author.Tests.{lt-ltb, le-ltb, le-leb, lt-leb}
 use Rattle.words.specs.Memory.{over-limit}
+use Rattle.field_bits.proofs.Counted.{touched-is, last-is}
 use Rattle.fields.specs.Answers.{no-size, refusal}
 use Rattle.fields.proofs.Accepted.{sized}
-use Rattle.fields.proofs.Counted.{touched-is, last-is}
 use Rattle.fields.proofs.judging.refusal_of.Statement.{statement}
 use Rattle.fields.proofs.judging.refusal_of.Tie as tie
 

@@ -2,7 +2,7 @@
 use borrow.Author.Needs.{needs}
 use mathlib.Core.Path.{sym}
 use native.Mathlib.Omega.{arith}
-use Rattle.fields.proofs.Counted.{touched-is}
+use Rattle.field_bits.proofs.Counted.{touched-is}
 use Rattle.fields.proofs.places.touched_by.Statement.{statement}
 use Rattle.fields.proofs.places.touched_by.Tie as tie
 

@@ -1,6 +1,6 @@
 -- `fields::putting::cost_of` meets its contract: its test is the definition's.
 use borrow.Author.Tests.{eq-eqb, ne-eqb}
-use Rattle.fields.specs.Count.{put-cost}
+use Rattle.field_bits.specs.Count.{put-cost}
 use Rattle.fields.proofs.putting.cost_of.Statement.{statement}
 use Rattle.fields.proofs.putting.cost_of.Tie as tie
 

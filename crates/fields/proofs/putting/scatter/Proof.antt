@@ -11,13 +11,13 @@ use lib.ListN.{length}
 use lib.Pow.{pow-pos}
 use Rattle.words.specs.declared.BitAddress.{BitAddress}
 use Rattle.words.specs.declared.WordNumber.{WordNumber}
-use Rattle.fields.specs.Field.{with-field}
-use Rattle.fields.specs.Count.{wholly-covered, put-cost, put-cycles}
+use Rattle.field_bits.specs.Field.{with-field}
+use Rattle.field_bits.specs.Count.{wholly-covered, put-cost, put-cycles}
+use Rattle.field_bits.proofs.Steps.{put-part}
+use Rattle.field_bits.proofs.Readings.{put-length}
+use Rattle.field_bits.proofs.Counted.{no-fourth-word}
 use Rattle.fields.specs.Parts.{first-place}
 use Rattle.fields.specs.declared.places.Place.{Place}
-use Rattle.fields.proofs.Steps.{put-part}
-use Rattle.fields.proofs.Readings.{put-length}
-use Rattle.fields.proofs.Counted.{no-fourth-word}
 use Rattle.fields.proofs.WordByWord.{Reached, address-of, address-is, reached-start, reached-end, Turn, turn}
 use Rattle.fields.proofs.Costs.{Spent, spent-start, spent-next, few-cycles, put-little, whole-count}
 use Rattle.fields.proofs.putting.scatter.Statement.{statement}

@@ -8,13 +8,13 @@ use mathlib.Core.List.{List}
 use lib.ListN.{length}
 use lib.Pow.{pow-mono}
 use Rattle.words.specs.declared.BitAddress.{BitAddress}
-use Rattle.fields.specs.Field.{field-at}
-use Rattle.fields.specs.Count.{take-cost, take-cycles}
+use Rattle.field_bits.specs.Field.{field-at}
+use Rattle.field_bits.specs.Count.{take-cost, take-cycles}
+use Rattle.field_bits.proofs.Steps.{take-part}
+use Rattle.field_bits.proofs.Readings.{field-fits}
+use Rattle.field_bits.proofs.Counted.{no-fourth-word}
 use Rattle.fields.specs.Parts.{first-place}
 use Rattle.fields.specs.declared.places.Place.{Place}
-use Rattle.fields.proofs.Steps.{take-part}
-use Rattle.fields.proofs.Readings.{field-fits}
-use Rattle.fields.proofs.Counted.{no-fourth-word}
 use Rattle.fields.proofs.WordByWord.{Reached, address-of, address-is, reached-start, reached-end, Turn, turn}
 use Rattle.fields.proofs.Costs.{Spent, spent-start, spent-next, few-cycles, take-little}
 use Rattle.fields.proofs.taking.gather.Statement.{statement}

@@ -10,7 +10,7 @@ use Prim.Native.Nat.{ℕ, zero, suc, _+_, _-_, _^_, _≤_, _<_}
 use mathlib.Core.Path.{_≡_, refl, sym, ap, _∙_}
 use lib.IntN.{pos, negsuc, _-ℤ_}
 use lib.Pow.{pow-pos, pow-mono}
-use Rattle.fields.proofs.Signs.{twice, reads-low, reads-high}
+use Rattle.field_bits.proofs.Signs.{twice, reads-low, reads-high}
 use Rattle.fields.proofs.taking_signed.signed_of.Statement.{statement}
 use Rattle.fields.proofs.taking_signed.signed_of.Tie as tie
 

@@ -6,9 +6,9 @@ use mir.Facts.{toZ-ofZ}
 use mir.Syntax.{w32}
 use native.Mathlib.Omega.{arith}
 use mathlib.Core.Path.{sym, _∙_}
+use Rattle.field_bits.proofs.Readings.{field-fits}
 use Rattle.fields.specs.Answers.{taken-signed}
 use Rattle.fields.proofs.Accepted.{none-applies}
-use Rattle.fields.proofs.Readings.{field-fits}
 use Rattle.fields.proofs.taking_signed.take_out_signed.Statement.{statement}
 use Rattle.fields.proofs.taking_signed.take_out_signed.Tie as tie
 

@@ -13,9 +13,9 @@ use Rattle.words.specs.Memory.{AreWords}
 use Rattle.words.specs.declared.BitAddress.{BitAddress}
 use Rattle.words.proofs.Choices.{less-or-not}
 use Rattle.words.proofs.Bits.{bit-above, bit-of-quotient, bit-of-remainder}
-use Rattle.fields.specs.Field.{memory-bit, field-at}
-use Rattle.fields.specs.InPlainWords.{number-of}
-use Rattle.fields.proofs.Readings.{bit-in, field-from-bits}
+use Rattle.field_bits.specs.Field.{memory-bit, field-at}
+use Rattle.field_bits.specs.InPlainWords.{number-of}
+use Rattle.field_bits.proofs.Readings.{bit-in, field-from-bits}
 
 no-bit : (i : ℕ) → bit 0 i ≡ false
 no-bit i = bit-above 0 {w = 0} {i = i} (omega arith) (omega arith)

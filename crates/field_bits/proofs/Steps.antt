@@ -12,10 +12,10 @@ use lib.Seq.{getD-set-same, set-set, set-getD}
 use Rattle.words.specs.Bytes.{bit}
 use Rattle.words.specs.declared.BitAddress.{BitAddress}
 use Rattle.words.proofs.Bits.{bit-of-quotient}
-use Rattle.fields.specs.Field.{ahead, memory-bit, field-at, with-field}
-use Rattle.fields.specs.Parts.{with-bits}
-use Rattle.fields.proofs.Readings.{bit-in, set-bit-in, put-length}
-use Rattle.fields.proofs.WordBits.{weight-up, one-bit-more, no-bits, next-bit}
+use Rattle.field_bits.specs.Field.{ahead, memory-bit, field-at, with-field}
+use Rattle.field_bits.specs.WithBits.{with-bits}
+use Rattle.field_bits.proofs.Readings.{bit-in, set-bit-in, put-length}
+use Rattle.field_bits.proofs.WordBits.{weight-up, one-bit-more, no-bits, next-bit}
 
 module _ (m : List ℕ) (a : BitAddress) (d w o : ℕ) (e : a .0 + d ≡ w * 16 + o) where
   pub take-part : (n : ℕ) → o + n ≤ 16 → field-at m a (d + n) ≡ field-at m a d + getD m w 0 / 2 ^ o % 2 ^ n * 2 ^ d

@@ -10,9 +10,9 @@ use lib.Pow.{pow-pos, high, low}
 use Rattle.words.specs.Bytes.{bit}
 use Rattle.words.proofs.Bits.{bit-above, split-at-bit, bit-of-quotient, bit-of-remainder}
 use Rattle.words.proofs.Choices.{less-or-not}
-use Rattle.fields.specs.Field.{with-bit}
-use Rattle.fields.specs.Parts.{with-bits}
-use Rattle.fields.proofs.WordBits.{bits-above, bits-below, bits-fit}
+use Rattle.field_bits.specs.Field.{with-bit}
+use Rattle.field_bits.specs.WithBits.{with-bits}
+use Rattle.field_bits.proofs.WordBits.{bits-above, bits-below, bits-fit}
 
 -- ---- a bit above a number of i bits
 

@@ -9,8 +9,8 @@ use lib.Arith.{digits-lt}
 use lib.Pow.{pow-pos, pow-add, split, high, low, shr-shr, shr-lt, mod-mod-pow}
 use Rattle.words.specs.Bytes.{bit}
 use Rattle.words.proofs.Bits.{split-at-bit, bit-of-remainder}
-use Rattle.fields.specs.Field.{with-bit}
-use Rattle.fields.specs.Parts.{with-bits}
+use Rattle.field_bits.specs.Field.{with-bit}
+use Rattle.field_bits.specs.WithBits.{with-bits}
 
 -- ---- weights
 

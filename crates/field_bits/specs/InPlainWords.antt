@@ -15,7 +15,7 @@ use lib.IntN.{ℤ, pos, negsuc}
 use Rattle.words.specs.Addresses.{word-at}
 use Rattle.words.specs.declared.BitAddress.{BitAddress}
 use Rattle.words.specs.declared.WordNumber.{WordNumber}
-use Rattle.fields.specs.Count.{touched, wholly-covered}
+use Rattle.field_bits.specs.Count.{touched, wholly-covered}
 
 -- ---- bits and words of a field
 

@@ -5,9 +5,9 @@ use mathlib.Core.Path.{_≡_, refl, _∙_}
 use mathlib.Core.Bool.{Bool, true, false, cond}
 use Rattle.words.specs.Addresses.{word-at}
 use Rattle.words.specs.declared.BitAddress.{BitAddress}
-use Rattle.fields.specs.Count.{touched, wholly-covered, sum-over, take-cost, take-cycles, put-cost, put-cycles, put-grants}
-use Rattle.fields.specs.InPlainWords.{partly}
-use Rattle.fields.proofs.Sums.{sum-counted, sum-of-sums, at-most, sum-ones}
+use Rattle.field_bits.specs.Count.{touched, wholly-covered, sum-over, take-cost, take-cycles, put-cost, put-cycles, put-grants}
+use Rattle.field_bits.specs.InPlainWords.{partly}
+use Rattle.field_bits.proofs.Sums.{sum-counted, sum-of-sums, at-most, sum-ones}
 
 -- Taking out has one cycle for each word touched.
 pub cycle-each : (a : BitAddress) (n : ℕ) → take-cycles a n ≡ touched a n

@@ -14,7 +14,7 @@ use lib.Dec.{leb}
 use Rattle.words.specs.Addresses.{address, word-at}
 use Rattle.words.specs.declared.BitAddress.{BitAddress}
 use Rattle.words.specs.declared.WordNumber.{WordNumber}
-use Rattle.fields.specs.Field.{ahead}
+use Rattle.field_bits.specs.Field.{ahead}
 
 -- ---- the words
 

@@ -7,8 +7,8 @@ use mathlib.Core.Path.{_≡_, refl, ap, _∙_}
 use Rattle.words.specs.Addresses.{word-at}
 use Rattle.words.specs.declared.BitAddress.{BitAddress}
 use Rattle.words.specs.declared.WordNumber.{WordNumber}
-use Rattle.fields.specs.Count.{touched, sum-over}
-use Rattle.fields.specs.InPlainWords.{Counted}
+use Rattle.field_bits.specs.Count.{touched, sum-over}
+use Rattle.field_bits.specs.InPlainWords.{Counted}
 
 module _ (f : WordNumber → ℕ) (w : WordNumber) where
   -- The sum over a word is that word's.

@@ -11,8 +11,8 @@ use Rattle.words.proofs.Choices.{both-true}
 use Rattle.words.specs.Addresses.{address, word-at}
 use Rattle.words.specs.declared.BitAddress.{BitAddress}
 use Rattle.words.specs.declared.WordNumber.{WordNumber}
-use Rattle.fields.specs.Count.{last-word, touched, wholly-covered}
-use Rattle.fields.specs.InPlainWords.{Covers, Holds, Counted}
+use Rattle.field_bits.specs.Count.{last-word, touched, wholly-covered}
+use Rattle.field_bits.specs.InPlainWords.{Covers, Holds, Counted}
 
 -- ---- how many
 
