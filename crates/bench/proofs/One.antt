@@ -1,4 +1,4 @@
--- Any two outcomes that a statement allows are one. For `host_access_by_lending`, which states what `port::host_access` does,
+-- Any two outcomes that a statement allows are one. For `host_access_by_lending`, which states what `host::host_access` does,
 -- `one-accessed` of crate port is that law.
 use Prim.Native.Nat.{ℕ}
 use mathlib.Core.Path.{_≡_}

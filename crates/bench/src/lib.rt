@@ -11,13 +11,13 @@ use registers::Registers;
 pub fn host_access_in_place(r: &mut Registers, memory: &mut [u16], a: Access) -> Answer
     ensures { λ x. ⌜ AccessedInPlace (now (r .entry)) (now (memory .entry)) a x (now (r .exit)) (now (memory .exit)) ⌝ }
 {
-    let done = port::host_access(*r, memory, a);
+    let done = host::host_access(*r, memory, a);
     *r = done.registers;
     done.answer
 }
 
 // The access in place on a record of its own, for callers who have theirs by value: code that lends a record is proved by hand, and
-// whoever calls this lends none. It states what `port::host_access` states.
+// whoever calls this lends none. It states what `host::host_access` states.
 pub fn host_access_by_lending(r: Registers, memory: &mut [u16], a: Access) -> Outcome
     ensures { λ o. ⌜ Accessed r (now (memory .entry)) a o (now (memory .exit)) ⌝ }
 {

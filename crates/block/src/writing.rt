@@ -15,7 +15,7 @@ use crate::copying::step_by;
 use crate::judging::block_number_of;
 use crate::one_if;
 use control::steps_writing;
-use port::step_if;
+use host::step_if;
 use registers::Registers;
 use registers::set_latch;
 use words::store_word;

@@ -23,8 +23,8 @@ use image::save;
 use memory::carry_bytes;
 use port::Access;
 use port::Begun;
-use port::begin_read;
-use port::begin_write;
+use host::begin_read;
+use host::begin_write;
 use words::bit_of;
 
 // What is lent does not fit the door: number 11.
@@ -50,7 +50,7 @@ fn number_of_call(image: &[u8], memory: &[u8], a: Access) -> u8
     if is_misfit(image, memory) {
         return 11;
     }
-    port::number_of(memory.len() / 2, a)
+    host::number_of(memory.len() / 2, a)
 }
 
 // What is left of an accepted call once its access is begun: the cycle that is due, the image, the answer.
@@ -60,7 +60,7 @@ fn close_call(image: &mut [u8], memory: &mut [u8], b: Begun) -> u64
 {
     let q = b.registers;
     let due = b.due;
-    let done = port::finish(b, carry_bytes(q, due, memory));
+    let done = host::finish(b, carry_bytes(q, due, memory));
     let left = done.registers;
     let answer = done.answer;
     save(image, left);

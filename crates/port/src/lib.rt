@@ -1,24 +1,5 @@
-// The host port of the TMS34010: an access by the host, with its memory cycle. Document 01, "The four host registers".
-//
-// An access goes in two steps. `begin` works on the registers alone: it answers, lands the written
-// bytes and says which memory cycle is due. `carry` does that cycle on the lent memory.
-mod cycles;
-mod host;
-
-// The call of a bench: it refuses by number what it does not do.
-pub use host::host_access;
-
-// The parts that another way to the port is made of: they judge nothing.
-pub use cycles::carry;
-pub use cycles::settle_fetch;
-pub use cycles::settle_store;
-pub use cycles::step_if;
-pub use host::begin;
-pub use host::begin_read;
-pub use host::begin_write;
-pub use host::finish;
-pub use host::number_of;
-pub use host::refuse;
+// The host port of the TMS34010: an access by the host, what it is made of and what it answers. Document 01, "The four host registers".
+// Here stand its types, what it means (specs/) and the laws of that (proofs/); the code is crate `host`.
 use registers::Registers;
 
 // An access by the host, of register 0 to 3 on lanes 1 to 3; any other number is refused.

@@ -53,10 +53,10 @@ use Rattle.port.proofs.Access as access
 use Rattle.port.proofs.Access.Laws as access′
 use Rattle.port.proofs.Outcome as outcome
 use Rattle.port.proofs.Outcome.Laws as outcome′
-use Rattle.port.proofs.host_access as host
-use Rattle.port.proofs.host_access.Symbol as host-def
-use Rattle.port.proofs.host_access.Symbol.{name as #port·host-access}
-use Rattle.port.proofs.host_access.Met as host-thm
+use Rattle.host.proofs.host_access as host
+use Rattle.host.proofs.host_access.Symbol as host-def
+use Rattle.host.proofs.host_access.Symbol.{name as #host·host-access}
+use Rattle.host.proofs.host_access.Met as host-thm
 use Rattle.bench.proofs.ByValue.{by-value-in-place}
 use Rattle.bench.proofs.PlainData.{registers-val, access-val, answer-val, IsRegisters, IsAccess, IsAnswer}
 use Rattle.bench.proofs.PlainData.{registers-fit, access-fits, answer-fits, outcome-fits}
@@ -149,7 +149,7 @@ module _ {M : Type 1} (𝓤 : URA M) (H : Heap 𝓤) (A : Atoms 𝓤) (W : Given
       have-answer ! (d .answer) answer-is $ move ! (1 ∷ 0 ∷ []) $ done !
 
   -- ---- the walk. A local is a cell and what frees it, two places each; `_n` is local n, and a comment gives the places.
-  module _ (K : Calls 𝓤 H) (Λ : Loops 𝓤 H) (fm : FmC 𝓤 H (W .laws) K) (known : Triple 𝓤 (K #port·host-access) (Host 𝓤 H A at-mem run)) where
+  module _ (K : Calls 𝓤 H) (Λ : Loops 𝓤 H) (fm : FmC 𝓤 H (W .laws) K) (known : Triple 𝓤 (K #host·host-access) (Host 𝓤 H A at-mem run)) where
     walk : Room u16 (length m) →
         ent 𝓤 (onEntry 𝓤 H A in-place.signature (κ, (κ′, tt)) (q, (q′, tt)) passed vals)
         (WpFn 𝓤 H K Λ code.function (vptr b o ∷ slice ∷ access-val a ∷ []) Post)
@@ -233,7 +233,7 @@ module _ {M : Type 1} (𝓤 : URA M) (H : Heap 𝓤) (A : Atoms 𝓤) (W : Given
 
 -- ---- from the walk to the contract
 module _ {M : Type 1} (𝓤 : URA M) (H : Heap 𝓤) (A : Atoms 𝓤) (W : Given 𝓤 H A) (at-mem : Memory → SProp 𝓤) (run : Routine → Fun 𝓤) where
-  in-place-walks : (K : Calls 𝓤 H) (Λ : Loops 𝓤 H) → FmC 𝓤 H (W .laws) K → Triple 𝓤 (K #port·host-access) (Host 𝓤 H A at-mem run) →
+  in-place-walks : (K : Calls 𝓤 H) (Λ : Loops 𝓤 H) → FmC 𝓤 H (W .laws) K → Triple 𝓤 (K #host·host-access) (Host 𝓤 H A at-mem run) →
       Walks 𝓤 H A in-place.ended stayed (WpFn 𝓤 H K Λ code.function) (in-place.clauses 𝓤 H A at-mem run)
   in-place-walks K Λ fm known =
       walked 𝓤 H A in-place.ended stayed (in-place.clauses 𝓤 H A at-mem run) (WpFn 𝓤 H K Λ code.function)
@@ -260,7 +260,7 @@ module _ {M : Type 1} (𝓤 : URA M) (H : Heap 𝓤) (A : Atoms 𝓤) (W : Given
   )
 
 in-place-meets : {M : Type 1} (𝓤 : URA M) (H : Heap 𝓤) (A : Atoms 𝓤) → Given 𝓤 H A →
-    (at-mem : Memory → SProp 𝓤) (run : Routine → Fun 𝓤) (𝓣 : Tables 𝓤 H) → Triple 𝓤 (𝓣 .C #port·host-access) (Host 𝓤 H A at-mem run) →
+    (at-mem : Memory → SProp 𝓤) (run : Routine → Fun 𝓤) (𝓣 : Tables 𝓤 H) → Triple 𝓤 (𝓣 .C #host·host-access) (Host 𝓤 H A at-mem run) →
     Meets 𝓤 H A in-place.signature (WpFn 𝓤 H (𝓣 .C) (𝓣 .Λ) code.function) (in-place.spec 𝓤 H A at-mem run)
 in-place-meets 𝓤 H A W at-mem run 𝓣 known =
     walk-meets 𝓤 H A in-place.ended stayed W (goes 𝓤 H A W at-mem run) (in-place.clauses 𝓤 H A at-mem run)
@@ -273,5 +273,5 @@ host-access-in-place-spec 𝓤 H 𝓜 𝓖 𝓡 =
     entered 𝓤 H (tripleOf 𝓤 H (𝓖 .A) in-place.signature (in-place.spec 𝓤 H (𝓖 .A) (𝓜 .mem) (𝓡 .run)))
     (tables 𝓤 H 𝓜 𝓡 code.env .C) (tables 𝓤 H 𝓜 𝓡 code.env .Λ) #bench·host-access-in-place code.function (code.unfolded 𝓤 H 𝓜 𝓡)
     (in-place-meets 𝓤 H (𝓖 .A) (givenOf 𝓤 H 𝓜 𝓖) (𝓜 .mem) (𝓡 .run) (tablesOf 𝓤 H 𝓜 (tables 𝓤 H 𝓜 𝓡 code.env))
-    (cited 𝓤 H (Host 𝓤 H (𝓖 .A) (𝓜 .mem) (𝓡 .run)) 𝓜 𝓡 code.env #port·host-access host-def.routine code.calls-port·host-access
+    (cited 𝓤 H (Host 𝓤 H (𝓖 .A) (𝓜 .mem) (𝓡 .run)) 𝓜 𝓡 code.env #host·host-access host-def.routine code.calls-port·host-access
     (host-thm.met 𝓤 H 𝓜 𝓖 𝓡)))
