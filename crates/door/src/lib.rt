@@ -17,14 +17,14 @@ ghost use Rattle.door.specs.Door.{misfit, call-number, Called};
 ghost use Rattle.door.specs.Parts.{Closed};
 use answer::pack;
 use answer::refuse;
+use host::begin_read;
+use host::begin_write;
 use image::join_bytes;
 use image::load;
 use image::save;
 use memory::carry_bytes;
 use port::Access;
 use port::Begun;
-use host::begin_read;
-use host::begin_write;
 use words::bit_of;
 
 // What is lent does not fit the door: number 11.
