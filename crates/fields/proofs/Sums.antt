@@ -11,16 +11,16 @@ use Rattle.fields.specs.Count.{touched, sum-over}
 use Rattle.fields.specs.InPlainWords.{Counted}
 
 module _ (f : WordNumber → ℕ) (w : WordNumber) where
-  -- The sum over a word is that word's.
-  pub sum-of-one : sum-over f w 1 ≡ f w
-  unfolding sum-over
-  sum-of-one = rw (add-zero (w .0), zero-add (f w))
-
   -- The sum over a stretch of words and the stretch after it is that over both.
   pub sum-of-two : (j k : ℕ) → sum-over f w (j + k) ≡ sum-over f w j + sum-over f (record { 0 = w .0 + j }) k
   unfolding sum-over
   sum-of-two j zero = rw (add-zero j, add-zero (sum-over f w j))
   sum-of-two j (suc k) = rw (add-suc j k, sum-of-two j k, add-assoc (w .0) j k, add-assoc (sum-over f w j))
+
+  -- The sum over a word is that word's.
+  pub sum-of-one : sum-over f w 1 ≡ f w
+  unfolding sum-over
+  sum-of-one = rw (add-zero (w .0), zero-add (f w))
 
   -- Two sums over the same words, added up.
   pub sum-of-sums : (g : WordNumber → ℕ) (k : ℕ) → sum-over (λ v. f v + g v) w k ≡ sum-over f w k + sum-over g w k
