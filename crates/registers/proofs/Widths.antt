@@ -77,7 +77,7 @@ module _ (r : Registers) (k w : ℕ) where
   processor-fits p f =
       either FitWidths f
       (chosen FitWidths (ltb k 2) (written-fits r k 3 w f)
-      (chosen FitWidths (eqb k 2) (latch-fits r f w false p)
+      (chosen FitWidths (eqb k 2) (latch-fits r f w _ p)
       (chosen FitWidths (eqb k 3) (with-control-fits r f _ (control-fits processor-low processor-byte 1 (r .control) w))
       (with-control-fits r f _ (control-fits processor-low processor-byte 2 (r .control) w)))))
 
