@@ -1,0 +1,112 @@
+// `portlist`: lists what the port answers to the accesses that standard input asks for, a line each. Document 01, "Blocks and the two
+// doors", its last part. It "starts from reset with 32,768 zero words".
+//
+// All that has a meaning is in crate `listing`; here are the reads, the writes and the loop.
+ghost use Prim.Native.Nat.{_+_, _≤_, _<_};
+ghost use lib.ListN.{length};
+use port::Registers;
+
+// What a turn leaves for the next one.
+pub struct Turn {
+    pub registers: Registers,
+    // How many bytes of a line begun are at the input's front.
+    pub have: usize,
+    pub go_on: bool,
+}
+
+// The input's end: what is left is "a last one without its line feed".
+fn end(r: Registers, have: usize) -> Turn
+    ensures { λ t. ⌜ t .have ≤ 0 ⌝ }
+{
+    if have > 0 {
+        io::write_all(1, b"bad line\n");
+    }
+    Turn {
+        registers: r,
+        have: 0,
+        go_on: false,
+    }
+}
+
+// Moves the bytes from `from` up to `to` to the front, and answers how many they are.
+fn move_to_front(s: &mut [u8], from: usize, to: usize) -> usize
+    requires { ⌜ (from ≤ to) × (to ≤ length (now s)) ⌝ }
+    ensures { λ r. ⌜ r + from ≤ to ⌝ }
+{
+    let mut i = 0;
+    while i < to - from {
+        s[i] = s[from + i];
+        i += 1;
+    }
+    to - from
+}
+
+// One read behind the first `have` bytes: how many bytes there are then.
+fn fill(input: &mut [u8], have: usize) -> usize
+    requires { ⌜ have ≤ length (now input) ⌝ }
+    ensures { λ r. ⌜ (have ≤ r) × (r ≤ length (now (input .exit))) ⌝ }
+{
+    let got = libc::read(0, &mut input[have..]);
+    let n = io::count(got, &input[have..]);
+    have + n
+}
+
+// One read, the whole lines of what came, one write.
+fn take_turn(
+    r: Registers,
+    memory: &mut [u16],
+    input: &mut [u8],
+    output: &mut [u8],
+    have: usize,
+) -> Turn
+    requires { ⌜ have ≤ length (now input) ⌝ }
+    ensures { λ t. ⌜ t .have ≤ length (now (input .exit)) ⌝ }
+{
+    let all = fill(input, have);
+    if all == have {
+        return end(r, have);
+    }
+    let start = 0;
+    let listed = listing::list_stretch(r, memory, &input[start..all], output);
+    let wrote = listed.wrote;
+    let used = listed.used;
+    let registers = listed.registers;
+    let written = io::write_all(1, &output[start..wrote]);
+    if listed.ended {
+        return Turn {
+            registers,
+            have: 0,
+            go_on: false,
+        };
+    }
+    let left = move_to_front(input, used, all);
+    Turn {
+        registers,
+        have: left,
+        go_on: written,
+    }
+}
+
+// A proved loop has to end, and nothing says that the input does: it counts its turns down, from a number that no run uses up.
+fn list(memory: &mut [u16], input: &mut [u8], output: &mut [u8]) {
+    let woken = port::reset();
+    let mut registers = woken.registers;
+    let mut have = 0;
+    let mut turns = u64::MAX;
+    while turns > 0 {
+        let turn = take_turn(registers, memory, input, output, have);
+        registers = turn.registers;
+        have = turn.have;
+        turns -= 1;
+        if !turn.go_on {
+            return;
+        }
+    }
+}
+
+fn main() {
+    let mut memory = [0u16; 32768];
+    let mut input = [0u8; 16384];
+    let mut output = [0u8; 65536];
+    list(&mut memory, &mut input, &mut output);
+}
