@@ -1,0 +1,4 @@
+pub mod DigitValues
+pub mod Feeds
+pub mod FixedPlaces
+pub mod FrontLine

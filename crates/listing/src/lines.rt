@@ -4,9 +4,10 @@
 // A good line has each byte at a fixed place, and is judged there. Only a text that begins with no good line is searched
 // for its line feed.
 ghost use mathlib.Core.Path.{_≡_};
+ghost use mathlib.Core.Bool.{true};
 ghost use Prim.Native.Nat.{_≤_};
 ghost use lib.ListN.{length};
-ghost use Rattle.listing.specs.Line.{headed, tailed, front-line};
+ghost use Rattle.listing.specs.Line.{headed, tailed, read-in, write-in, front-line};
 ghost use Rattle.listing.specs.Parts.{reads, writes, other-front};
 use crate::Front;
 use crate::digits::decimal_of;
@@ -70,6 +71,34 @@ fn begins_with_write(s: &[u8]) -> bool
     both(s[10] == 10, both(is_headed(s, 87), is_tailed(s)))
 }
 
+// What a line `R reg lanes` asks for.
+fn read_at(s: &[u8]) -> Access
+    requires { ⌜ reads (now s) ≡ true ⌝ }
+    ensures { λ r. ⌜ r ≡ read-in (now (s .entry)) ⌝ }
+{
+    Access::Read {
+        register: decimal_of(s[2]),
+        lanes: decimal_of(s[4]),
+    }
+}
+
+// What a line `W reg lanes hhhh` asks for.
+fn write_at(s: &[u8]) -> Access
+    requires { ⌜ writes (now s) ≡ true ⌝ }
+    ensures { λ r. ⌜ r ≡ write-in (now (s .entry)) ⌝ }
+{
+    Access::Write {
+        register: decimal_of(s[2]),
+        lanes: decimal_of(s[4]),
+        word: word_from(
+            hex_value(s[6]),
+            hex_value(s[7]),
+            hex_value(s[8]),
+            hex_value(s[9]),
+        ),
+    }
+}
+
 // A text that begins with no good line: its first line is bad if it ends, or if it is too long already.
 fn judge_other(s: &[u8]) -> Front
     ensures { λ r. ⌜ r ≡ other-front (now (s .entry)) ⌝ }
@@ -92,27 +121,10 @@ pub fn front_line(s: &[u8]) -> Front
     ensures { λ r. ⌜ r ≡ front-line (now (s .entry)) ⌝ }
 {
     if begins_with_read(s) {
-        let register = decimal_of(s[2]);
-        let lanes = decimal_of(s[4]);
-        return Front::Good(Access::Read { register, lanes }, 6);
+        return Front::Good(read_at(s), 6);
     }
     if begins_with_write(s) {
-        let register = decimal_of(s[2]);
-        let lanes = decimal_of(s[4]);
-        let word = word_from(
-            hex_value(s[6]),
-            hex_value(s[7]),
-            hex_value(s[8]),
-            hex_value(s[9]),
-        );
-        return Front::Good(
-            Access::Write {
-                register,
-                lanes,
-                word,
-            },
-            11,
-        );
+        return Front::Good(write_at(s), 11);
     }
     judge_other(s)
 }

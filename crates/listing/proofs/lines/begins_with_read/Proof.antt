@@ -1,31 +1,32 @@
+-- `listing::lines::begins_with_read` meets its contract: its tests are those of `reads`.
+use mathlib.Core.Path.{_≡_, refl}
+use borrow.Author.Tests.{lt-ltb, le-ltb, eq-eqb, ne-eqb}
+use Rattle.listing.specs.Parts.{reads}
 use borrow.Author.Needs.{needs}
 use Rattle.listing.proofs.lines.begins_with_read.Statement.{statement}
 use Rattle.listing.proofs.lines.begins_with_read.Tie as tie
-use Rattle.listing.proofs.lines.begins_with_read.Reads as reads
-use Rattle.listing.proofs.lines.begins_with_read.Lts as lts
-use Rattle.listing.proofs.lines.is_headed.Reads as is-headed-reads
-use Rattle.words.proofs.both.Reads as both-reads
 
--- src/lines.rt:47:9
 returns : tie.Need-returns
-returns c = ?
+unfolding reads
+returns c =
+    rw (lt-ltb _ _ (c .if1 .taken)) refl
 
--- src/lines.rt:49:10
-shared-slice-read-both : tie.Need-shared-slice-read-both
-shared-slice-read-both c = search needs
+shared-slice-read-if2 : tie.Need-shared-slice-read-if2
+shared-slice-read-if2 c = search needs
 
--- src/lines.rt:49:22
 is-headed-requires : tie.Need-is-headed-requires
 is-headed-requires c κs = search needs
 
--- src/lines.rt:49:5
-both-requires : tie.Need-both-requires
-both-requires c κs = search needs
-
--- src/lines.rt:43:1
 returns-2 : tie.Need-returns-2
-returns-2 c = ?
+unfolding reads
+returns-2 c =
+    rw (le-ltb _ _ (c .before .before .before .if1 .left), eq-eqb _ _ (c .before .if2 .taken)) (c .is-headed .ensures)
+
+returns-3 : tie.Need-returns-3
+unfolding reads
+returns-3 c =
+    rw (le-ltb _ _ (c .before .before .if1 .left), ne-eqb _ _ (c .if2 .left)) refl
 
 pub begins-with-read-spec : {M : Type 1} → statement M
 begins-with-read-spec =
-    tie.close (tie.spec returns shared-slice-read-both is-headed-requires both-requires returns-2)
+    tie.close (tie.spec returns shared-slice-read-if2 is-headed-requires returns-2 returns-3)

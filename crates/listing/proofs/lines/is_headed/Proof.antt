@@ -1,58 +1,47 @@
+-- `listing::lines::is_headed` meets its contract: test by test, as the definition has them.
+use mathlib.Core.Path.{_≡_, refl}
+use Rattle.listing.specs.Line.{headed}
 use borrow.Author.Needs.{needs}
 use Rattle.listing.proofs.lines.is_headed.Statement.{statement}
 use Rattle.listing.proofs.lines.is_headed.Tie as tie
-use Rattle.listing.proofs.lines.is_headed.Reads as reads
-use Rattle.listing.proofs.lines.is_headed.Lts as lts
-use Rattle.listing.proofs.digits.digit_value.Reads as digit-value-reads
-use Rattle.words.proofs.both.Reads as both-reads
 
--- src/lines.rt:23:14
 shared-slice-read-both : tie.Need-shared-slice-read-both
 shared-slice-read-both c = search needs
 
--- src/lines.rt:23:35
 shared-slice-read-both-2 : tie.Need-shared-slice-read-both-2
 shared-slice-read-both-2 c = search needs
 
--- src/lines.rt:23:47
+shared-slice-read-is-decimal : tie.Need-shared-slice-read-is-decimal
+shared-slice-read-is-decimal c = search needs
+
+is-decimal-requires : tie.Need-is-decimal-requires
+is-decimal-requires c κs = tt
+
 shared-slice-read-both-3 : tie.Need-shared-slice-read-both-3
 shared-slice-read-both-3 c = search needs
 
--- src/lines.rt:23:30
+shared-slice-read-is-decimal-2 : tie.Need-shared-slice-read-is-decimal-2
+shared-slice-read-is-decimal-2 c = search needs
+
+is-decimal-requires-2 : tie.Need-is-decimal-requires-2
+is-decimal-requires-2 c κs = tt
+
 both-requires : tie.Need-both-requires
-both-requires c κs = search needs
+both-requires c κs = tt
 
--- src/lines.rt:23:9
 both-requires-2 : tie.Need-both-requires-2
-both-requires-2 c κs = search needs
+both-requires-2 c κs = tt
 
--- src/lines.rt:24:26
-shared-slice-read-digit-value : tie.Need-shared-slice-read-digit-value
-shared-slice-read-digit-value c = search needs
-
--- src/lines.rt:24:14
-digit-value-requires : tie.Need-digit-value-requires
-digit-value-requires c κs = search needs
-
--- src/lines.rt:24:50
-shared-slice-read-digit-value-2 : tie.Need-shared-slice-read-digit-value-2
-shared-slice-read-digit-value-2 c = search needs
-
--- src/lines.rt:24:38
-digit-value-requires-2 : tie.Need-digit-value-requires-2
-digit-value-requires-2 c κs = search needs
-
--- src/lines.rt:24:9
 both-requires-3 : tie.Need-both-requires-3
-both-requires-3 c κs = search needs
+both-requires-3 c κs = tt
 
--- src/lines.rt:22:5
 both-requires-4 : tie.Need-both-requires-4
-both-requires-4 c κs = search needs
+both-requires-4 c κs = tt
 
--- src/lines.rt:18:1
 returns : tie.Need-returns
-returns c = ?
+unfolding headed
+returns c =
+    rw (c .both4 .ensures, c .before .both3 .ensures, c .before .before .both2 .ensures, c .before .before .before .both .ensures, c .before .before .before .before .before .before .before .is-decimal .ensures, c .before .before .before .before .is-decimal2 .ensures) refl
 
 pub is-headed-spec : {M : Type 1} → statement M
 is-headed-spec =
@@ -60,13 +49,13 @@ is-headed-spec =
     (tie.spec
     shared-slice-read-both
     shared-slice-read-both-2
+    shared-slice-read-is-decimal
+    is-decimal-requires
     shared-slice-read-both-3
+    shared-slice-read-is-decimal-2
+    is-decimal-requires-2
     both-requires
     both-requires-2
-    shared-slice-read-digit-value
-    digit-value-requires
-    shared-slice-read-digit-value-2
-    digit-value-requires-2
     both-requires-3
     both-requires-4
     returns)

@@ -1,45 +1,62 @@
+-- `listing::lines::judge_other` meets its contract. The invariant: the text has a line feed if the bytes from i on have one.
+use Prim.Native.Nat.{ℕ, _-_, _≤_}
+use native.Mathlib.Omega.{arith}
+use mathlib.Core.Path.{_≡_, refl, _∙_}
+use mathlib.Core.List.{List}
+use lib.ListN.{length, drop}
+use borrow.Author.Tests.{lt-ltb, le-ltb}
+use Rattle.listing.specs.Line.{has-feed}
+use Rattle.listing.specs.Parts.{other-front}
+use Rattle.listing.proofs.Feeds.{found-at, passed-over, none-past}
 use Rattle.listing.proofs.lines.judge_other.Statement.{statement}
 use Rattle.listing.proofs.lines.judge_other.Tie as tie
-use Rattle.listing.proofs.lines.judge_other.Reads as reads
-use Rattle.listing.proofs.lines.judge_other.Lts as lts
+
+record Kept (s : List ℕ) (i : ℕ) : Type 0 where
+  most : i ≤ length s
+  feeds : has-feed s ≡ has-feed (drop i s)
 
 abbrev Inv-loop : tie.InvT-loop
-Inv-loop s i₀ i = ?
+Inv-loop s i₀ i =
+    Kept s i
 
 abbrev μ-loop : tie.MeasureT-loop
-μ-loop s i₀ i = ?
+μ-loop s i₀ i =
+    length s - i
 
--- src/lines.rt:67:9
 returns : tie.Need-returns Inv-loop μ-loop
-returns c = ?
+unfolding other-front
+returns c =
+    rw (lt-ltb _ _ (c .if1 .taken)) refl
 
--- src/lines.rt:70:5
 loop-holds : tie.Need-loop-holds Inv-loop μ-loop
-loop-holds c = ?
+loop-holds c =
+    record { most = omega arith; feeds = refl }
 
--- src/lines.rt:71:12
 shared-slice-read-if2 : tie.Need-shared-slice-read-if2 Inv-loop μ-loop
-shared-slice-read-if2 c = ?
+shared-slice-read-if2 c =
+    omega arith
 
--- src/lines.rt:72:13
 returns-2 : tie.Need-returns-2 Inv-loop μ-loop
-returns-2 c = ?
+unfolding other-front
+returns-2 c =
+    rw (le-ltb 31 _ (c .before .before .before .before .if1 .left), c .before .before .before .loop .inv .feeds ∙ found-at (c .before .before .before .before .before .args .s .now) (c .before .before .before .loop .i) (omega arith) (c .if2 .taken)) refl
 
--- src/lines.rt:74:9
 add-i : tie.Need-add-i Inv-loop μ-loop
-add-i c = ?
+add-i c =
+    omega arith
 
--- src/lines.rt:70:5
 loop-less : tie.Need-loop-less Inv-loop μ-loop
-loop-less c = ?
+loop-less c =
+    omega arith
 
--- src/lines.rt:70:5
 loop-again : tie.Need-loop-again Inv-loop μ-loop
-loop-again c = ?
+loop-again c =
+    record { most = omega arith; feeds = c .before .before .before .loop .inv .feeds ∙ passed-over (c .before .before .before .before .before .args .s .now) (c .before .before .before .loop .i) (omega arith) (c .if2 .left) }
 
--- src/lines.rt:63:1
 returns-3 : tie.Need-returns-3 Inv-loop μ-loop
-returns-3 c = ?
+unfolding other-front
+returns-3 c =
+    rw (le-ltb 31 _ (c .before .before .if1 .left), c .before .loop .inv .feeds ∙ none-past (c .before .before .before .args .s .now) (c .before .loop .i) (omega arith)) refl
 
 pub judge-other-spec : {M : Type 1} → statement M
 judge-other-spec =
