@@ -2,3 +2,5 @@ pub mod DigitValues
 pub mod Feeds
 pub mod FixedPlaces
 pub mod FrontLine
+pub mod Laying
+pub mod AnswerTexts

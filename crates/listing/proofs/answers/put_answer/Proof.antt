@@ -1,36 +1,63 @@
+-- `listing::answers::put_answer` meets its contract: the three parts, one behind the other.
+use Prim.Native.Nat.{ℕ, _+_, _≤_}
+use native.Mathlib.Omega.{arith}
+use mathlib.Core.Path.{_≡_, sym, ap, _∙_}
+use mathlib.Core.List.{_++_}
+use lib.ListN.{length, length-append}
+use Rattle.listing.specs.Answer.{head-text, mark-text, cycle-text, answer-text}
+use Rattle.listing.proofs.AnswerTexts.{head-length, mark-length, cycle-length}
+use Rattle.listing.proofs.Laying.{put-behind, put-length}
 use borrow.Author.Needs.{needs}
 use Rattle.listing.proofs.answers.put_answer.Statement.{statement}
 use Rattle.listing.proofs.answers.put_answer.Tie as tie
-use Rattle.listing.proofs.answers.put_answer.Reads as reads
-use Rattle.listing.proofs.answers.put_answer.Lts as lts
-use Rattle.listing.proofs.answers.put_cycle.Reads as put-cycle-reads
-use Rattle.listing.proofs.answers.put_head.Reads as put-head-reads
-use Rattle.listing.proofs.answers.put_mark.Reads as put-mark-reads
-use Rattle.listing.proofs.answers.shows_mark.Reads as shows-mark-reads
 
--- src/answers.rt:86:9
 shows-mark-requires : tie.Need-shows-mark-requires
-shows-mark-requires c κs = search needs
+shows-mark-requires c κs = tt
 
--- src/answers.rt:87:9
 put-head-requires : tie.Need-put-head-requires
 put-head-requires c κs = search needs
 
--- src/answers.rt:88:9
 put-mark-requires : tie.Need-put-mark-requires
-put-mark-requires c κs = ?
+put-mark-requires c κs =
+    let start = c .before .before .before .before .before .before .before in
+    let a = start .args in
+    let head = c .before .before .before .put-head .ensures in
+    let six = head-length (a .answer .number) (a .answer .word) in
+    let room = put-length (omega (arith, start .pre .0, six)) head in
+    omega (arith, start .pre .0, head .end, six, room)
 
--- src/answers.rt:89:5
 put-cycle-requires : tie.Need-put-cycle-requires
-put-cycle-requires c κs = ?
+put-cycle-requires c κs =
+    let mid = c .before .before .before .before in
+    let start = mid .before .before .before .before .before .before .before in
+    let a = start .args in
+    let head = mid .before .before .before .put-head .ensures in
+    let mark = c .before .before .before .put-mark .ensures in
+    let six = head-length (a .answer .number) (a .answer .word) in
+    let eight = mark-length (mid .before .before .before .before .before .shows-mark .result) (a .answer .hollow) in
+    let room = put-length (omega (arith, start .pre .0, six)) head in
+    let room2 = put-length (omega (arith, start .pre .0, head .end, six, eight, room)) mark in
+    omega (arith, start .pre .0, head .end, mark .end, six, eight, room, room2)
 
--- src/answers.rt:80:1
 same-length : tie.Need-same-length
 same-length c = search needs
 
--- src/answers.rt:80:1
 returns : tie.Need-returns
-returns c = ?
+unfolding answer-text
+returns c =
+    let a = c .before .before .before .before .before .before .before .before .before .before .before .before .before .before .args in
+    let shown = c .before .before .before .before .before .before .before .before .before .before .before .before .shows-mark .result in
+    let six = head-length (a .answer .number) (a .answer .word) in
+    let eight = mark-length shown (a .answer .hollow) in
+    let less = cycle-length (a .answer .cycle) in
+    let room = put-length (omega (arith, c .before .before .before .before .before .before .before .before .before .before .before .before .before .before .pre .0, six)) (c .before .before .before .before .before .before .before .before .before .before .put-head .ensures) in
+    let rest = length-append (mark-text shown (a .answer .hollow)) (cycle-text (a .answer .cycle)) in
+    rw
+    (sym (c .before .before .before .before .before .before .before .before .before .before .before .before .shows-mark .ensures))
+    (put-behind
+    (omega (arith, c .before .before .before .before .before .before .before .before .before .before .before .before .before .before .pre .0, six, eight, less, rest))
+    (c .before .before .before .before .before .before .before .before .before .before .put-head .ensures)
+    (put-behind (omega (arith, c .before .before .before .before .before .before .before .before .before .before .before .before .before .before .pre .0, six, eight, less, room, c .before .before .before .before .before .before .before .before .before .before .put-head .ensures .end)) (c .before .before .before .before .before .before .put-mark .ensures) (c .before .before .put-cycle .ensures)))
 
 pub put-answer-spec : {M : Type 1} → statement M
 put-answer-spec =

@@ -1,85 +1,83 @@
+-- `listing::answers::put_head` meets its contract: six bytes, each in its place.
+use native.Mathlib.Omega.{arith}
+use mathlib.Core.Path.{_≡_, refl, sym, ap, _∙_}
+use lib.ListN.{length-set}
+use Rattle.listing.specs.Answer.{head-text}
+use Rattle.listing.proofs.Laying.{six-laid}
 use borrow.Author.Needs.{needs}
 use Rattle.listing.proofs.answers.put_head.Statement.{statement}
 use Rattle.listing.proofs.answers.put_head.Tie as tie
-use Rattle.listing.proofs.answers.put_head.Reads as reads
-use Rattle.listing.proofs.answers.put_head.Lts as lts
-use Rattle.listing.proofs.digits.digit_for.Reads as digit-for-reads
 
--- src/answers.rt:44:18
 add-output : tie.Need-add-output
 add-output c = search needs
 
--- src/answers.rt:44:5
 slice-write-output : tie.Need-slice-write-output
 slice-write-output c = search needs
 
--- src/answers.rt:45:12
 add-output-2 : tie.Need-add-output-2
 add-output-2 c = search needs
 
--- src/answers.rt:45:5
 slice-write-output-2 : tie.Need-slice-write-output-2
-slice-write-output-2 c = ?
+slice-write-output-2 c =
+    simp length-set (omega (arith, c .before .pre .0))
 
--- src/answers.rt:46:22
 digit-for-requires : tie.Need-digit-for-requires
-digit-for-requires c κs = search needs
+digit-for-requires c κs = tt
 
--- src/answers.rt:46:12
 add-output-3 : tie.Need-add-output-3
 add-output-3 c = search needs
 
--- src/answers.rt:46:5
 slice-write-output-3 : tie.Need-slice-write-output-3
-slice-write-output-3 c = ?
+slice-write-output-3 c =
+    simp length-set (omega (arith, c .before .before .pre .0))
 
--- src/answers.rt:47:22
 digit-for-requires-2 : tie.Need-digit-for-requires-2
-digit-for-requires-2 c κs = search needs
+digit-for-requires-2 c κs = tt
 
--- src/answers.rt:47:12
 add-output-4 : tie.Need-add-output-4
 add-output-4 c = search needs
 
--- src/answers.rt:47:5
 slice-write-output-4 : tie.Need-slice-write-output-4
-slice-write-output-4 c = ?
+slice-write-output-4 c =
+    simp length-set (omega (arith, c .before .before .before .pre .0))
 
--- src/answers.rt:48:22
 digit-for-requires-3 : tie.Need-digit-for-requires-3
-digit-for-requires-3 c κs = search needs
+digit-for-requires-3 c κs = tt
 
--- src/answers.rt:48:12
 add-output-5 : tie.Need-add-output-5
 add-output-5 c = search needs
 
--- src/answers.rt:48:5
 slice-write-output-5 : tie.Need-slice-write-output-5
-slice-write-output-5 c = ?
+slice-write-output-5 c =
+    simp length-set (omega (arith, c .before .before .before .before .pre .0))
 
--- src/answers.rt:49:22
 digit-for-requires-4 : tie.Need-digit-for-requires-4
-digit-for-requires-4 c κs = search needs
+digit-for-requires-4 c κs = tt
 
--- src/answers.rt:49:12
 add-output-6 : tie.Need-add-output-6
 add-output-6 c = search needs
 
--- src/answers.rt:49:5
 slice-write-output-6 : tie.Need-slice-write-output-6
-slice-write-output-6 c = ?
+slice-write-output-6 c =
+    simp length-set (omega (arith, c .before .before .before .before .before .pre .0))
 
--- src/answers.rt:50:5
 add-result : tie.Need-add-result
 add-result c = search needs
 
--- src/answers.rt:40:1
 same-length : tie.Need-same-length
-same-length c = search needs
+same-length c =
+    simp length-set refl
 
--- src/answers.rt:40:1
 returns : tie.Need-returns
-returns c = ?
+unfolding head-text
+returns c =
+    let a = c .before .before .before .before .before .args in
+    record {
+      end = refl;
+      output =
+          rw (c .before .before .before .digit-for .ensures, c .before .before .digit-for2 .ensures, c .before .digit-for3 .ensures, c .digit-for4 .ensures)
+          (six-laid (a .output .now) (a .at) _ _ _ _ _ _ (c .before .before .before .before .before .pre .0));
+    }
 
 pub put-head-spec : {M : Type 1} → statement M
 put-head-spec =

@@ -1,57 +1,51 @@
+-- `listing::answers::put_mark` meets its contract, by cases on the two marks.
+use borrow.Author.Tests.{not-true, not-false}
+use Rattle.listing.specs.Answer.{mark-text}
 use borrow.Author.Needs.{needs}
 use Rattle.listing.proofs.answers.put_mark.Statement.{statement}
 use Rattle.listing.proofs.answers.put_mark.Tie as tie
-use Rattle.listing.proofs.answers.put_mark.Reads as reads
-use Rattle.listing.proofs.answers.put_mark.Lts as lts
-use Rattle.listing.proofs.answers.put.Reads as put-reads
 
--- src/answers.rt:59:32
 slice-aggregate-put : tie.Need-slice-aggregate-put
 slice-aggregate-put c = search needs
 
--- src/answers.rt:59:9
 put-requires : tie.Need-put-requires
 put-requires c κs = search needs
 
--- src/answers.rt:59:9
 same-length : tie.Need-same-length
 same-length c = search needs
 
--- src/answers.rt:59:9
 returns : tie.Need-returns
-returns c = ?
+unfolding mark-text
+returns c =
+    rw (not-true (c .before .before .before .before .before .before .before .args .shown) (c .before .before .before .before .before .if1 .taken)) (c .before .before .put .ensures)
 
--- src/answers.rt:62:32
 slice-aggregate-put-2 : tie.Need-slice-aggregate-put-2
 slice-aggregate-put-2 c = search needs
 
--- src/answers.rt:62:9
 put-requires-2 : tie.Need-put-requires-2
 put-requires-2 c κs = search needs
 
--- src/answers.rt:62:9
 same-length-2 : tie.Need-same-length-2
 same-length-2 c = search needs
 
--- src/answers.rt:62:9
 returns-2 : tie.Need-returns-2
-returns-2 c = ?
+unfolding mark-text
+returns-2 c =
+    rw (not-false (c .before .before .before .before .before .before .before .before .args .shown) (c .before .before .before .before .before .before .if1 .left), c .before .before .before .before .before .if2 .taken) (c .before .before .put2 .ensures)
 
--- src/answers.rt:64:21
 slice-aggregate-put-3 : tie.Need-slice-aggregate-put-3
 slice-aggregate-put-3 c = search needs
 
--- src/answers.rt:64:5
 put-requires-3 : tie.Need-put-requires-3
 put-requires-3 c κs = search needs
 
--- src/answers.rt:54:1
 same-length-3 : tie.Need-same-length-3
 same-length-3 c = search needs
 
--- src/answers.rt:54:1
 returns-3 : tie.Need-returns-3
-returns-3 c = ?
+unfolding mark-text
+returns-3 c =
+    rw (not-false (c .before .before .before .before .before .before .before .before .args .shown) (c .before .before .before .before .before .before .if1 .left), c .before .before .before .before .before .if2 .left) (c .before .before .put3 .ensures)
 
 pub put-mark-spec : {M : Type 1} → statement M
 put-mark-spec =

@@ -1,45 +1,39 @@
-use borrow.Author.Needs.{needs}
+-- `listing::lines::front_line` meets its contract: each way through it is one of the three cases.
+use mathlib.Core.Path.{_≡_, sym, ap, _∙_}
+use Rattle.port.specs.declared.Access.{Access}
+use Rattle.listing.specs.declared.Front.the-variants.{Good}
+use Rattle.listing.proofs.FrontLine.{reads-front, writes-front, others-front}
 use Rattle.listing.proofs.lines.front_line.Statement.{statement}
 use Rattle.listing.proofs.lines.front_line.Tie as tie
-use Rattle.listing.proofs.lines.front_line.Reads as reads
-use Rattle.listing.proofs.lines.front_line.Lts as lts
-use Rattle.listing.proofs.lines.begins_with_read.Reads as begins-with-read-reads
-use Rattle.listing.proofs.lines.begins_with_write.Reads as begins-with-write-reads
-use Rattle.listing.proofs.lines.judge_other.Reads as judge-other-reads
-use Rattle.listing.proofs.lines.read_at.Reads as read-at-reads
-use Rattle.listing.proofs.lines.write_at.Reads as write-at-reads
 
--- src/lines.rt:123:8
 begins-with-read-requires : tie.Need-begins-with-read-requires
-begins-with-read-requires c κs = search needs
+begins-with-read-requires c κs = tt
 
--- src/lines.rt:124:28
 read-at-requires : tie.Need-read-at-requires
-read-at-requires c κs = ?
+read-at-requires c κs =
+    sym (c .before .begins-with-read .ensures) ∙ c .if1 .taken
 
--- src/lines.rt:124:9
 returns : tie.Need-returns
-returns c = ?
+returns c =
+    ap (λ (a : Access). Good a 6) (c .read-at .ensures) ∙ sym (reads-front _ (sym (c .before .before .begins-with-read .ensures) ∙ c .before .if1 .taken))
 
--- src/lines.rt:126:8
 begins-with-write-requires : tie.Need-begins-with-write-requires
-begins-with-write-requires c κs = search needs
+begins-with-write-requires c κs = tt
 
--- src/lines.rt:127:28
 write-at-requires : tie.Need-write-at-requires
-write-at-requires c κs = ?
+write-at-requires c κs =
+    sym (c .before .begins-with-write .ensures) ∙ c .if2 .taken
 
--- src/lines.rt:127:9
 returns-2 : tie.Need-returns-2
-returns-2 c = ?
+returns-2 c =
+    ap (λ (a : Access). Good a 11) (c .write-at .ensures) ∙ sym (writes-front _ (sym (c .before .before .begins-with-write .ensures) ∙ c .before .if2 .taken))
 
--- src/lines.rt:129:5
 judge-other-requires : tie.Need-judge-other-requires
-judge-other-requires c κs = search needs
+judge-other-requires c κs = tt
 
--- src/lines.rt:120:1
 returns-3 : tie.Need-returns-3
-returns-3 c = ?
+returns-3 c =
+    c .judge-other .ensures ∙ sym (others-front _ (sym (c .before .before .before .before .begins-with-read .ensures) ∙ c .before .before .before .if1 .left) (sym (c .before .before .begins-with-write .ensures) ∙ c .before .if2 .left))
 
 pub front-line-spec : {M : Type 1} → statement M
 front-line-spec =
