@@ -4,3 +4,5 @@ pub mod FixedPlaces
 pub mod FrontLine
 pub mod Laying
 pub mod AnswerTexts
+pub mod LineByLine
+pub mod Fitting

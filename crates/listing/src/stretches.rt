@@ -3,7 +3,7 @@ ghost use mathlib.Core.Path.{_≡_};
 ghost use Prim.Native.Nat.{_+_, _*_, _-_, _≤_};
 ghost use lib.ListN.{length};
 ghost use Rattle.listing.specs.Listing.{fitting, ListedStretch};
-ghost use Rattle.listing.specs.Parts.{ListedLines, AnsweredLine};
+ghost use Rattle.listing.specs.Parts.{smaller, AnsweredLine, ListedLines};
 use crate::Answered;
 use crate::Front;
 use crate::Listed;
@@ -86,24 +86,22 @@ fn list_lines(r: Registers, memory: &mut [u16], input: &[u8], output: &mut [u8])
     }
 }
 
-// How many bytes of input surely have room for their answers: a good line has 6 bytes or more and its answer at most 20,
+// How many bytes of an input surely have room for their answers: a good line has 6 bytes or more and its answer at most 20,
 // and after the last of them `bad line` may come, with 9.
-fn count_fitting(room: usize) -> usize
-    ensures { λ r. ⌜ r ≡ fitting room ⌝ }
+fn count_fitting(bytes: usize, room: usize) -> usize
+    ensures { λ r. ⌜ r ≡ smaller (fitting room) bytes ⌝ }
 {
     if room < 9 {
         return 0;
     }
-    (room - 9) / 10 * 3
+    let fits = (room - 9) / 10 * 3;
+    if fits < bytes { fits } else { bytes }
 }
 
 // The whole lines of a stretch of input, as far as their answers fit the output.
 pub fn list_stretch(r: Registers, memory: &mut [u16], input: &[u8], output: &mut [u8]) -> Listed
     ensures { λ o. ⌜ ListedStretch r (now (memory .entry)) (now (input .entry)) (now (output .entry)) o (now (memory .exit)) (now (output .exit)) ⌝ }
 {
-    let fits = count_fitting(output.len());
-    if fits < input.len() {
-        return list_lines(r, memory, &input[..fits], output);
-    }
-    list_lines(r, memory, input, output)
+    let n = count_fitting(input.len(), output.len());
+    list_lines(r, memory, &input[..n], output)
 }

@@ -1,30 +1,48 @@
+-- `listing::stretches::answer_line` meets its contract: the access, then the text of its answer, whose number has one digit.
+use Prim.Native.Nat.{ℕ, _≤_, _<_}
+use native.Mathlib.Omega.{arith}
+use mathlib.Core.Path.{_≡_, sym, ap, _∙_, subst}
+use Rattle.port.specs.declared.Answer.{Answer}
+use Rattle.port.specs.declared.Outcome.{Outcome}
+use Rattle.port.proofs.Numbers.{numbered}
+use Rattle.listing.specs.Answer.{answer-text}
+use Rattle.listing.specs.Parts.{Put}
 use borrow.Author.Needs.{needs}
 use Rattle.listing.proofs.stretches.answer_line.Statement.{statement}
 use Rattle.listing.proofs.stretches.answer_line.Tie as tie
-use Rattle.listing.proofs.stretches.answer_line.Reads as reads
-use Rattle.listing.proofs.stretches.answer_line.Lts as lts
-use Rattle.listing.proofs.answers.put_answer.Reads as put-answer-reads
-use Rattle.port.proofs.host_access.Reads as host-access-reads
 
--- src/stretches.rt:28:9
 host-access-requires : tie.Need-host-access-requires
-host-access-requires c κs = search needs
+host-access-requires c κs = tt
 
--- src/stretches.rt:33:9
 put-answer-requires : tie.Need-put-answer-requires
-put-answer-requires c κs = ?
+put-answer-requires c κs =
+    let start = c .before .before .before .before .before .before .before .before .before .before in
+    let a = start .args in
+    let access = c .before .before .before .before .before .before .host-access in
+    let listed = numbered (a .r) (a .memory .now) (a .a) .listed in
+    let same = ap (λ (o : Outcome). o .answer .number) (access .ensures .outcome) in
+    (start .pre, omega (arith, listed, same))
 
--- src/stretches.rt:18:1
 same-length : tie.Need-same-length
 same-length c = search needs
 
--- src/stretches.rt:18:1
 same-length-2 : tie.Need-same-length-2
 same-length-2 c = search needs
 
--- src/stretches.rt:18:1
 returns : tie.Need-returns
-returns c = ?
+returns c =
+    let a = c .before .before .before .before .before .before .before .before .before .before .before .before .before .args in
+    let outcome = c .before .before .before .before .before .before .before .before .before .host-access .ensures .outcome in
+    let put = c .before .before .put-answer in
+    record {
+      registers = ap (λ (o : Outcome). o .registers) outcome;
+      memory = c .before .before .before .before .before .before .before .before .before .host-access .ensures .memory;
+      text =
+          subst
+          (λ (x : Answer). Put (a .output .now) (a .wrote) (answer-text (a .a) x) (put .result) (put .last .0))
+          (ap (λ (o : Outcome). o .answer) outcome)
+          (put .ensures);
+    }
 
 pub answer-line-spec : {M : Type 1} → statement M
 answer-line-spec =

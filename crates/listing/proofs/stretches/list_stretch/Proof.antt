@@ -6,45 +6,29 @@ use Rattle.listing.proofs.stretches.list_stretch.Lts as lts
 use Rattle.listing.proofs.stretches.count_fitting.Reads as count-fitting-reads
 use Rattle.listing.proofs.stretches.list_lines.Reads as list-lines-reads
 
--- src/stretches.rt:104:9
+-- src/stretches.rt:107:9
 count-fitting-requires : tie.Need-count-fitting-requires
 count-fitting-requires c κs = search needs
 
--- src/stretches.rt:106:38
+-- src/stretches.rt:108:27
 slice-aggregate-list-lines : tie.Need-slice-aggregate-list-lines
 slice-aggregate-list-lines c = ?
 
--- src/stretches.rt:106:9
+-- src/stretches.rt:108:5
 list-lines-requires : tie.Need-list-lines-requires
 list-lines-requires c κs = ?
 
--- src/stretches.rt:106:9
+-- src/stretches.rt:104:1
 same-length : tie.Need-same-length
 same-length c = search needs
 
--- src/stretches.rt:106:9
+-- src/stretches.rt:104:1
 same-length-2 : tie.Need-same-length-2
 same-length-2 c = search needs
 
--- src/stretches.rt:106:9
+-- src/stretches.rt:104:1
 returns : tie.Need-returns
 returns c = ?
-
--- src/stretches.rt:108:5
-list-lines-requires-2 : tie.Need-list-lines-requires-2
-list-lines-requires-2 c κs = search needs
-
--- src/stretches.rt:101:1
-same-length-3 : tie.Need-same-length-3
-same-length-3 c = search needs
-
--- src/stretches.rt:101:1
-same-length-4 : tie.Need-same-length-4
-same-length-4 c = search needs
-
--- src/stretches.rt:101:1
-returns-2 : tie.Need-returns-2
-returns-2 c = ?
 
 pub list-stretch-spec : {M : Type 1} → statement M
 list-stretch-spec =
@@ -55,8 +39,4 @@ list-stretch-spec =
     list-lines-requires
     same-length
     same-length-2
-    returns
-    list-lines-requires-2
-    same-length-3
-    same-length-4
-    returns-2)
+    returns)
