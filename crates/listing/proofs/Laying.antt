@@ -1,11 +1,12 @@
 -- Texts laid into an output, one behind another.
 use Prim.Native.Nat.{ℕ, suc, _+_, _≤_}
-use native.Mathlib.Nat.{add-assoc}
+use native.Mathlib.Nat.{add-assoc, zero-add}
 use native.Mathlib.Omega.{arith}
 use mathlib.Core.Path.{_≡_, refl, sym, ap, _∙_}
 use mathlib.Core.List.{List, [], _∷_, _++_, append-assoc, append-nil}
 use lib.ListN.{length, take, drop, set, length-append, length-take, length-drop}
 use lib.Seq.{length-take-le, take-at, drop-append-add, drop-drop, sets, sets-eq, paste, take-length}
+use Rattle.listing.specs.Listing.{with-text}
 use Rattle.listing.specs.Parts.{laid, Put}
 
 -- The output is as long as it was.
@@ -71,3 +72,12 @@ pasted o at t =
 
 pub put-length : {o o′ t : List ℕ} {at e : ℕ} → at + length t ≤ length o → Put o at t e o′ → length o′ ≡ length o
 put-length {o = o} {t = t} {at = at} h x = ap length (x .output) ∙ laid-length o at t h
+
+-- A text laid behind the one at the output's beginning lengthens it.
+pub with-more : (o t u : List ℕ) → length t + length u ≤ length o → laid (with-text o t) (length t) u ≡ with-text o (t ++ u)
+with-more o t u h =
+    let same : (x : List ℕ) → laid o 0 x ≡ with-text o x = λ x. ap (λ (n : ℕ). x ++ drop n o) (zero-add (length x)) in
+    ap (λ (l : List ℕ). laid l (length t) u) (sym (same t)) ∙
+    ap (λ (n : ℕ). laid (laid o 0 t) n u) (sym (zero-add (length t))) ∙
+    laid-behind o 0 t u (omega (arith, h)) ∙
+    same (t ++ u)

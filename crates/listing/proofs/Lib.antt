@@ -6,3 +6,4 @@ pub mod Laying
 pub mod AnswerTexts
 pub mod LineByLine
 pub mod Fitting
+pub mod Turns

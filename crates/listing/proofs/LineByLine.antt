@@ -157,3 +157,32 @@ fronts t = go (either-way (has-feed t)) (either-way (ltb 31 (length t))) (line-o
         (λ s text used. ap (listing (between s text used)) (p .is) ∙ whole-bad s text used (before-feed t) (p .rest) (none-before t) f)
     go (inr e) (inl k) l f = rw (e, k) (λ s text used. never-good s text used t e (ltb-true 31 (length t) k))
     go (inr e) (inr k) l f = rw (e, k) (e, ltb-false 31 (length t) k)
+
+-- ---- how long a good line is
+
+is-good : Line → Bool
+is-good (good a) = true
+is-good bad = false
+
+good-length : (u : List ℕ) → is-good (line-of u) ≡ true → (5 ≤ length u) × (length u ≤ 10)
+unfolding line-of is-good
+good-length u = go (either-way (eqb (length u) 5 && headed 82 u)) (either-way (eqb (length u) 10 && (headed 87 u && tailed u)))
+  where
+    go : (eqb (length u) 5 && headed 82 u ≡ true) ⊎ (eqb (length u) 5 && headed 82 u ≡ false) →
+        (eqb (length u) 10 && (headed 87 u && tailed u) ≡ true) ⊎ (eqb (length u) 10 && (headed 87 u && tailed u) ≡ false) →
+        is-good (cond (eqb (length u) 5 && headed 82 u) (good (read-in u)) (cond (eqb (length u) 10 && (headed 87 u && tailed u)) (good (write-in u)) bad)) ≡ true →
+        (5 ≤ length u) × (length u ≤ 10)
+    go (inl e) k h =
+        let five = eqb-true (length u) 5 (both-true (eqb (length u) 5) (headed 82 u) e .0) in
+        (omega (arith, five), omega (arith, five))
+    go (inr e) (inl k) h =
+        let ten = eqb-true (length u) 10 (both-true (eqb (length u) 10) (headed 87 u && tailed u) k .0) in
+        (omega (arith, ten), omega (arith, ten))
+    go (inr e) (inr k) h =
+        let no : false ≡ true = rw (e, k) at h in
+        absurd (eqb-false 0 1 refl (eqb-true 0 1 no))
+
+-- A good line has at least 5 bytes before its line feed, and at most 10.
+pub good-size : (u : List ℕ) (a : Access) → line-of u ≡ good a → (5 ≤ length u) × (length u ≤ 10)
+unfolding is-good
+good-size u a e = good-length u (ap is-good e)
