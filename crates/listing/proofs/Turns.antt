@@ -4,8 +4,8 @@ use native.Mathlib.Omega.{arith}
 use mathlib.Core.Path.{_≡_, refl, sym, ap, _∙_, subst}
 use mathlib.Core.Bool.{true, false}
 use mathlib.Core.List.{List, [], _∷_, _++_}
-use lib.ListN.{length, drop, length-append, length-drop, drop-of-length-le}
-use lib.Seq.{drop-append-add, drop-drop}
+use lib.ListN.{length, take, drop, length-append, length-drop, drop-of-length-le}
+use lib.Seq.{take-all, drop-append-add, drop-drop}
 use Rattle.port.specs.Host.{access, access-memory}
 use Rattle.port.specs.Runs.{Machine, after, answer-of}
 use Rattle.port.specs.declared.Registers.{Registers}
@@ -16,6 +16,7 @@ use Rattle.listing.specs.Listing.{Listing, start, stopped, listing, list
 use Rattle.listing.specs.Parts.{laid, Put, AnsweredLine, ListedLines}
 use Rattle.listing.specs.declared.Answered.{Answered}
 use Rattle.listing.specs.declared.Listed.{Listed}
+use Rattle.listing.specs.declared.Front.{Front}
 use Rattle.listing.specs.declared.Front.the-variants.{Good, Bad, Open}
 use Rattle.listing.proofs.AnswerTexts.{answer-length}
 use Rattle.listing.proofs.Laying.{with-more, put-length}
@@ -160,3 +161,9 @@ module _ {r₀ r : Registers} {m₀ input out₀ m out : List ℕ} {used wrote :
   pub ends-even : length input ≤ used → ListedLines r₀ m₀ input out₀ (record { registers = r; used = used; wrote = wrote; ended = false }) m out
   unfolding listing
   ends-even h = leaves [] (k .come ∙ ap (listing (between (machine r m) (k .text) used)) (drop-of-length-le input h))
+
+-- The part of a text from a place on, as it is lent, begins with the line that the text has there.
+pub part-front : (l : List ℕ) (n : ℕ) {f : Front} → f ≡ front-line (take (length l - n) (drop n l)) → front-line (drop n l) ≡ f
+part-front l n e =
+    let all : take (length l - n) (drop n l) ≡ drop n l = take-all (length l - n) (drop n l) (simp length-drop (omega arith)) in
+    sym (e ∙ ap front-line all)

@@ -1,108 +1,118 @@
+-- `listing::stretches::list_lines` meets its contract: each turn is one of those of `Turns`.
+use Prim.Native.Nat.{ℕ, _-_}
+use native.Mathlib.Omega.{arith}
+use mathlib.Core.Path.{_≡_, sym, ap, _∙_}
+use lib.ListN.{length}
+use Rattle.listing.proofs.Laying.{put-length}
+use Rattle.listing.proofs.Turns.{Kept, at-start, part-front, good-lies, room-for-answer, room-for-bad, turned, ends-bad, ends-open, ends-even}
+use borrow.Author.Needs.{needs}
 use Rattle.listing.proofs.stretches.list_lines.Statement.{statement}
 use Rattle.listing.proofs.stretches.list_lines.Tie as tie
-use Rattle.listing.proofs.stretches.list_lines.Reads as reads
-use Rattle.listing.proofs.stretches.list_lines.Lts as lts
-use Rattle.listing.proofs.answers.put.Reads as put-reads
-use Rattle.listing.proofs.lines.front_line.Reads as front-line-reads
-use Rattle.listing.proofs.stretches.answer_line.Reads as answer-line-reads
 
 abbrev Inv-loop : tie.InvT-loop
-Inv-loop memory₀ input output₀ registers₀ used₀ wrote₀ t13 memory output registers used wrote = ?
+Inv-loop memory₀ input output₀ registers₀ used₀ wrote₀ t13 memory output registers used wrote =
+    Kept registers₀ memory₀ input output₀ memory output registers used wrote
 
 abbrev μ-loop : tie.MeasureT-loop
-μ-loop memory₀ input output₀ registers₀ used₀ wrote₀ t13 memory output registers used wrote = ?
+μ-loop memory₀ input output₀ registers₀ used₀ wrote₀ t13 memory output registers used wrote =
+    length input - used
 
--- src/stretches.rt:53:5
 loop-holds : tie.Need-loop-holds Inv-loop μ-loop
-loop-holds c = ?
+loop-holds c =
+    at-start (c .before .before .before .args .r) (c .before .before .before .args .memory .now) (c .before .before .before .args .input .now) (c .before .before .before .args .output .now)
 
--- src/stretches.rt:54:31
 sub-front-line : tie.Need-sub-front-line Inv-loop μ-loop
-sub-front-line c = ?
+sub-front-line c =
+    c .before .loop .inv .most
 
--- src/stretches.rt:54:31
 part-front-line-start : tie.Need-part-front-line-start Inv-loop μ-loop
-part-front-line-start c = ?
+part-front-line-start c = search needs
 
--- src/stretches.rt:54:31
 part-front-line-end : tie.Need-part-front-line-end Inv-loop μ-loop
-part-front-line-end c = ?
+part-front-line-end c = search needs
 
--- src/stretches.rt:54:13
 front-line-requires : tie.Need-front-line-requires Inv-loop μ-loop
-front-line-requires c κs = ?
+front-line-requires c κs = tt
 
--- src/stretches.rt:56:25
 enum-known-line : tie.Need-enum-known-line Inv-loop μ-loop
-enum-known-line c = ?
+enum-known-line c = search needs
 
--- src/stretches.rt:57:21
 answer-line-requires : tie.Need-answer-line-requires Inv-loop μ-loop
-answer-line-requires c κs = ?
+answer-line-requires c κs =
+    let l = c .before .before .before .before .before .before .before .before in
+    let start = l .before .before .before .before in
+    let front = part-front (start .args .input .now) (l .loop .used) (c .before .before .before .before .before .front-line .ensures) in
+    room-for-answer (l .loop .inv) (start .pre) (front ∙ c .before .before .before .line .given .1)
 
--- src/stretches.rt:60:17
 add-used : tie.Need-add-used Inv-loop μ-loop
-add-used c = ?
+add-used c =
+    let front = part-front (c .before .before .before .before .before .before .before .before .before .before .before .before .before .before .before .before .before .before .args .input .now) (c .before .before .before .before .before .before .before .before .before .before .before .before .before .before .loop .used) (c .before .before .before .before .before .before .before .before .before .before .before .front-line .ensures) in
+    let lies = good-lies (c .before .before .before .before .before .before .before .before .before .before .before .before .before .before .loop .inv) (c .before .before .before .before .before .before .before .before .before .before .before .before .before .before .before .before .before .before .pre) (front ∙ c .before .before .before .before .before .before .before .before .before .line .given .1) in
+    omega (arith, lies .1, c .before .before .before .before .before .before .before .before .before .before .before .before .before .before .before .before .before .before .good)
 
--- src/stretches.rt:53:5
 loop-less : tie.Need-loop-less Inv-loop μ-loop
-loop-less c = ?
+loop-less c =
+    let front = part-front (c .before .before .before .before .before .before .before .before .before .before .before .before .before .before .before .before .before .before .args .input .now) (c .before .before .before .before .before .before .before .before .before .before .before .before .before .before .loop .used) (c .before .before .before .before .before .before .before .before .before .before .before .front-line .ensures) in
+    let lies = good-lies (c .before .before .before .before .before .before .before .before .before .before .before .before .before .before .loop .inv) (c .before .before .before .before .before .before .before .before .before .before .before .before .before .before .before .before .before .before .pre) (front ∙ c .before .before .before .before .before .before .before .before .before .line .given .1) in
+    omega (arith, lies .0, lies .1)
 
--- src/stretches.rt:53:5
 loop-again : tie.Need-loop-again Inv-loop μ-loop
-loop-again c = ?
+loop-again c =
+    let front = part-front (c .before .before .before .before .before .before .before .before .before .before .before .before .before .before .before .before .before .before .args .input .now) (c .before .before .before .before .before .before .before .before .before .before .before .before .before .before .loop .used) (c .before .before .before .before .before .before .before .before .before .before .before .front-line .ensures) in
+    turned (c .before .before .before .before .before .before .before .before .before .before .before .before .before .before .loop .inv) (c .before .before .before .before .before .before .before .before .before .before .before .before .before .before .before .before .before .before .pre) (front ∙ c .before .before .before .before .before .before .before .before .before .line .given .1) (c .before .before .before .before .before .answer-line .ensures) (c .before .before .before .before .before .answer-line .kept .1 .0)
 
--- src/stretches.rt:63:31
 enum-told : tie.Need-enum-told Inv-loop μ-loop
-enum-told c = ?
+enum-told c = search needs
 
--- src/stretches.rt:63:46
 slice-aggregate-put : tie.Need-slice-aggregate-put Inv-loop μ-loop
-slice-aggregate-put c = ?
+slice-aggregate-put c = search needs
 
--- src/stretches.rt:63:21
 put-requires : tie.Need-put-requires Inv-loop μ-loop
-put-requires c κs = ?
+put-requires c κs =
+    let l = c .before .before .before .before .before .before .before in
+    let start = l .before .before .before .before in
+    room-for-bad (l .loop .inv) (start .pre) (c .before .before .before .before .before .before .loop-test .taken)
 
--- src/stretches.rt:64:17
 same-length : tie.Need-same-length Inv-loop μ-loop
-same-length c = ?
+same-length c =
+    c .before .before .before .before .before .before .before .before .before .before .loop .inv .size
 
--- src/stretches.rt:64:17
 same-length-2 : tie.Need-same-length-2 Inv-loop μ-loop
-same-length-2 c = ?
+same-length-2 c =
+    put-length (room-for-bad (c .before .before .before .before .before .before .before .before .before .before .loop .inv) (c .before .before .before .before .before .before .before .before .before .before .before .before .before .before .pre) (c .before .before .before .before .before .before .before .before .before .loop-test .taken)) (c .before .before .put .ensures) ∙ c .before .before .before .before .before .before .before .before .before .before .loop .inv .room
 
--- src/stretches.rt:64:17
 returns : tie.Need-returns Inv-loop μ-loop
-returns c = ?
+returns c =
+    let front = part-front (c .before .before .before .before .before .before .before .before .before .before .before .before .before .before .args .input .now) (c .before .before .before .before .before .before .before .before .before .before .loop .used) (c .before .before .before .before .before .before .before .front-line .ensures) in
+    ends-bad (c .before .before .before .before .before .before .before .before .before .before .loop .inv) (c .before .before .before .before .before .before .before .before .before .before .before .before .before .before .pre) (c .before .before .before .before .before .before .before .before .before .loop-test .taken) (front ∙ c .before .before .before .before .before .enum-told .given .1) (c .before .before .put .ensures)
 
--- src/stretches.rt:72:17
 enum-told-2 : tie.Need-enum-told-2 Inv-loop μ-loop
-enum-told-2 c = ?
+enum-told-2 c = search needs
 
--- src/stretches.rt:72:17
 same-length-3 : tie.Need-same-length-3 Inv-loop μ-loop
-same-length-3 c = ?
+same-length-3 c =
+    c .before .before .before .before .before .loop .inv .size
 
--- src/stretches.rt:72:17
 same-length-4 : tie.Need-same-length-4 Inv-loop μ-loop
-same-length-4 c = ?
+same-length-4 c =
+    c .before .before .before .before .before .loop .inv .room
 
--- src/stretches.rt:72:17
 returns-2 : tie.Need-returns-2 Inv-loop μ-loop
-returns-2 c = ?
+returns-2 c =
+    let front = part-front (c .before .before .before .before .before .before .before .before .before .args .input .now) (c .before .before .before .before .before .loop .used) (c .before .before .front-line .ensures) in
+    ends-open (c .before .before .before .before .before .loop .inv) (c .before .before .before .before .before .before .before .before .before .pre) (front ∙ c .enum-told2 .given .1)
 
--- src/stretches.rt:46:1
 same-length-5 : tie.Need-same-length-5 Inv-loop μ-loop
-same-length-5 c = ?
+same-length-5 c =
+    c .before .loop .inv .size
 
--- src/stretches.rt:46:1
 same-length-6 : tie.Need-same-length-6 Inv-loop μ-loop
-same-length-6 c = ?
+same-length-6 c =
+    c .before .loop .inv .room
 
--- src/stretches.rt:46:1
 returns-3 : tie.Need-returns-3 Inv-loop μ-loop
-returns-3 c = ?
+returns-3 c =
+    ends-even (c .before .loop .inv) (c .before .before .before .before .before .pre) (c .loop-test .left)
 
 pub list-lines-spec : {M : Type 1} → statement M
 list-lines-spec =
