@@ -4,7 +4,7 @@ use native.Mathlib.Numerals.{add-one}
 use mathlib.Core.Path.{_≡_, refl, sym, ap, _∙_}
 use mathlib.Core.Bool.{Bool, true, false, cond, _||_}
 use mathlib.Core.List.{List, [], _∷_, _++_}
-use mathlib.Core.Logic.{_⊎_, inl, inr}
+use mathlib.Core.Logic.{_⊎_, inl, inr, _≢_}
 use lib.Dec.{eqb}
 use lib.ListN.{length, getD, drop, drop-of-length-le}
 use lib.Seq.{drop-cons}
@@ -46,6 +46,14 @@ none-before (b ∷ rest) = go (either-way (eqb b 10)) (none-before rest)
         has-feed (cond (eqb b 10) [] (b ∷ before-feed rest)) ≡ false
     go (inl e) h = rw e refl
     go (inr e) h = rw (e, e) h
+
+-- Nor is there one when a byte is added that is none.
+pub none-joined : (u : List ℕ) (b : ℕ) → No-feed u → b ≢ 10 → No-feed (u ++ (b ∷ []))
+unfolding has-feed
+none-joined [] b h f = rw (ne-eqb b 10 f) refl
+none-joined (x ∷ u) b h f =
+    let p = both-false (eqb x 10) (has-feed u) h in
+    rw (p .0) (none-joined u b (p .1) f)
 
 -- A text with a line feed is the bytes before the first, the line feed, and the rest.
 pub record Split (t : List ℕ) : Type 0 where

@@ -18,7 +18,7 @@ use Rattle.listing.specs.Pieces.{No-feed}
 use Rattle.listing.specs.declared.Front.{Front}
 use Rattle.listing.specs.declared.Front.the-variants.{Good, Bad, Open}
 use Rattle.listing.proofs.DigitValues.{decimal-is, hex-apart}
-use Rattle.listing.proofs.Feeds.{none-before, split-feed, laid-before, has-laid}
+use Rattle.listing.proofs.Feeds.{none-before, none-joined, split-feed, laid-before, has-laid}
 use Rattle.listing.proofs.FixedPlaces.{Head, Tail, head-is, tail-is, read-line, write-line}
 
 -- A whole line at the front is judged as a line.
@@ -77,18 +77,11 @@ abbrev Apart : ℕ → List ℕ → Type 0
 Apart zero u = Unit
 Apart (suc n) u = (byte u n ≢ 10) × Apart n u
 
-joined-none : (u : List ℕ) (b : ℕ) → No-feed u → b ≢ 10 → No-feed (u ++ (b ∷ []))
-unfolding has-feed
-joined-none [] b h f = rw (ne-eqb b 10 f) refl
-joined-none (x ∷ u) b h f =
-    let p = both-false (eqb x 10) (has-feed u) h in
-    rw (p .0) (joined-none u b (p .1) f)
-
 none-first : (n : ℕ) (u : List ℕ) → n ≤ length u → Apart n u → No-feed (take n u)
 unfolding has-feed
 none-first zero u h a = refl
 none-first (suc n) u h a =
-    rw (take-suc u n 0 (omega (arith, h))) (joined-none (take n u) (getD u n 0) (none-first n u (omega (arith, h)) (a .1)) (a .0))
+    rw (take-suc u n 0 (omega (arith, h))) (none-joined (take n u) (getD u n 0) (none-first n u (omega (arith, h)) (a .1)) (a .0))
 
 none-in : (n : ℕ) (u : List ℕ) → length u ≡ n → Apart n u → No-feed u
 none-in n u e a =

@@ -7,3 +7,4 @@ pub mod AnswerTexts
 pub mod LineByLine
 pub mod Fitting
 pub mod Turns
+pub mod Cutting

@@ -1,9 +1,11 @@
 -- The whole of what `portlist` prints, and the same input in pieces: what the laws say of a listing.
 --   at-end x         what the input's end adds: "a last one without its line feed included"
 --   printed s t      what the program prints of an input t
+--   joined ps        pieces of an input, joined again
 --   in-turns         what it prints when the input comes in pieces, each listed behind what is left of a line
+--   behind           a listing whose text and bytes follow those of another
 --   No-feed u        no byte of u is a line feed
-use Prim.Native.Nat.{ℕ}
+use Prim.Native.Nat.{ℕ, _+_}
 use mathlib.Core.Bool.{Bool, true, false, cond}
 use mathlib.Core.List.{List, [], _∷_, _++_}
 use mathlib.Core.Path.{_≡_}
@@ -24,6 +26,10 @@ at-end x = x .text ++ left-over (x .begun)
 abbrev pub printed : Machine → List ℕ → List ℕ
 printed s t = at-end (listing (start s) t)
 
+unfoldable pub joined : List (List ℕ) → List ℕ
+joined [] = []
+joined (piece ∷ rest) = piece ++ joined rest
+
 -- one turn for each piece: list what is left of a line with the piece behind it; go on with what is left then, unless a bad
 -- line ended it
 unfoldable pub in-turns : Machine → List ℕ → List (List ℕ) → List ℕ
@@ -31,6 +37,10 @@ in-turns s left [] = left-over left
 in-turns s left (piece ∷ rest) =
     let x = listing (start s) (left ++ piece) in
     x .text ++ cond (x .ended) [] (in-turns (x .machine) (x .begun) rest)
+
+abbrev pub behind : List ℕ → ℕ → Listing → Listing
+behind text used x =
+    record { machine = x .machine; text = text ++ x .text; used = used + x .used; begun = x .begun; ended = x .ended }
 
 abbrev pub No-feed : List ℕ → Type 0
 No-feed u = has-feed u ≡ false

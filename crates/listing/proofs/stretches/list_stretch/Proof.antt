@@ -39,8 +39,8 @@ returns c =
     let l = c .before .before .before .before .list-lines .ensures in
     let begin : Listing = start (record { registers = a .r; memory = a .memory .now }) in
     let same : take (c .before .before .before .before .before .before .before .before .count-fitting .result) (a .input .now) ≡ take (fitting (length (a .output .now))) (a .input .now) =
-        ap (λ (k : ℕ). take k (a .input .now)) (c .before .before .before .before .before .before .before .before .count-fitting .ensures) ∙ taken-is (fitting (length (a .output .now))) (a .input .now)
-        in
+    ap (λ (k : ℕ). take k (a .input .now)) (c .before .before .before .before .before .before .before .before .count-fitting .ensures) ∙ taken-is (fitting (length (a .output .now))) (a .input .now)
+    in
     record {
       outcome = l .outcome ∙ ap (λ (t : List ℕ). listed (listing begin t)) same;
       memory = l .memory ∙ ap (λ (t : List ℕ). listing begin t .machine .memory) same;
