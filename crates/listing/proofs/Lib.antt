@@ -8,3 +8,6 @@ pub mod LineByLine
 pub mod Fitting
 pub mod Turns
 pub mod Cutting
+pub mod InPieces
+pub mod One
+pub mod Examples
