@@ -1,6 +1,6 @@
 -- An input cut anywhere lists to the same text as the whole: what the first part leaves of a line goes before the second, and
 -- its answers stand before those of the second. So it does in any number of pieces.
-use Prim.Native.Nat.{ℕ, suc, _+_, _≤_, _<_}
+use Prim.Native.Nat.{ℕ, _+_, _≤_}
 use native.Mathlib.Nat.{add-assoc, add-zero}
 use native.Mathlib.Omega.{arith}
 use mathlib.Core.Path.{_≡_, refl, sym, ap, _∙_, subst}
@@ -8,7 +8,8 @@ use mathlib.Core.Bool.{Bool, true, false, cond}
 use mathlib.Core.List.{List, [], _∷_, _++_, append-assoc, append-nil}
 use mathlib.Core.Logic.{_⊎_, inl, inr}
 use lib.Dec.{eqb}
-use lib.ListN.{length, length-append}
+use lib.ListN.{length, drop, length-append}
+use lib.Seq.{drop-at}
 use borrow.Author.Tests.{eqb-true, eqb-false}
 use Rattle.words.proofs.Choices.{either-way}
 use Rattle.port.specs.Runs.{Machine, after, answer-of}
@@ -54,42 +55,83 @@ unfolding listing
 behind-all t n x [] = refl
 behind-all t n x (b ∷ v) = ap (λ (y : Listing). listing y v) (behind-next t n x b) ∙ behind-all t n (next x b) v
 
--- ---- how far a listing has come after n bytes: all are used or begun, unless a bad line ended it
+-- ---- how far a listing has come in a text
 
-pub record Come (x : Listing) (n : ℕ) : Type 0 where
-  pub all : x .ended ≡ false → x .used + length (x .begun) ≡ n
-  pub most : x .used ≤ n
+-- The lines that were answered, and behind them the line begun.
+pub record Place (t : List ℕ) (used : ℕ) (begun : List ℕ) : Type 0 where
+  pub lines : List ℕ
+  pub size : length lines ≡ used
+  pub is : t ≡ lines ++ begun
+
+pub record Come (x : Listing) (t : List ℕ) : Type 0 where
+  pub place : x .ended ≡ false → Place t (x .used) (x .begun)
+  pub most : x .used ≤ length t
   pub none : No-feed (x .begun)
   pub short : length (x .begun) ≤ 31
   pub cleared : x .ended ≡ true → x .begun ≡ []
 
-begins : (s : Machine) → Come (start s) 0
+begins : (s : Machine) → Come (start s) []
 unfolding has-feed
-begins s = record { all = λ e. refl; most = omega arith; none = refl; short = omega arith; cleared = λ e. refl }
+begins s =
+    record {
+      place = λ e. record { lines = []; size = refl; is = refl };
+      most = omega arith;
+      none = refl;
+      short = omega arith;
+      cleared = λ e. refl;
+    }
 
 not-both : {A : Type 0} → false ≡ true → A
 not-both e = absurd (eqb-false 0 1 refl (eqb-true 0 1 e))
 
-line-ended : (x : Listing) (n : ℕ) (l : Line) → x .ended ≡ false → Come x n → Come (line-ends x l) (n + 1)
-unfolding has-feed
-line-ended x n (good a) e c =
-    let all = c .all e in
-    record { all = λ f. omega (arith, all); most = omega (arith, all); none = refl; short = omega arith; cleared = λ f. refl }
-line-ended x n bad e c =
-    let all = c .all e in
-    record { all = λ f. not-both (sym f); most = omega (arith, all); none = refl; short = omega arith; cleared = λ f. refl }
+-- a byte more
+abbrev more : List ℕ → ℕ → List ℕ
+more t b = t ++ (b ∷ [])
 
-line-longer : (x : Listing) (n b : ℕ) → x .ended ≡ false → eqb b 10 ≡ false → eqb (length (x .begun)) 31 ≡ false → Come x n →
-    Come (line-goes-on x b) (n + 1)
-line-longer x n b e f g c =
-    let all = c .all e in
-    let less = eqb-false (length (x .begun)) 31 g in
-    let longer : length (x .begun ++ (b ∷ [])) ≡ length (x .begun) + 1 = length-append (x .begun) (b ∷ []) in
+longer : (t : List ℕ) (b : ℕ) → length (more t b) ≡ length t + 1
+longer t b = length-append t (b ∷ [])
+
+placed : {t : List ℕ} {used : ℕ} {begun : List ℕ} (b : ℕ) → Place t used begun → Place (more t b) used (more begun b)
+placed {begun = begun} b p =
+    record { lines = p .lines; size = p .size; is = ap (λ (l : List ℕ). more l b) (p .is) ∙ append-assoc (p .lines) begun (b ∷ []) }
+
+line-ended : (x : Listing) (t : List ℕ) (b : ℕ) (l : Line) → x .ended ≡ false → Come x t → Come (line-ends x l) (more t b)
+unfolding has-feed
+line-ended x t b (good a) e c =
+    let p = placed b (c .place e) in
+    let whole = length-append (p .lines) (more (x .begun) b) in
+    let all = ap length (p .is) in
     record {
-      all = λ h. omega (arith, all, longer);
-      most = omega (arith, all);
+      place =
+          λ f.
+          record {
+            lines = more t b;
+            size = all ∙ whole ∙ ap (λ (k : ℕ). k + length (more (x .begun) b)) (p .size) ∙ ap (λ (k : ℕ). x .used + k) (longer (x .begun) b);
+            is = sym (append-nil (more t b));
+          };
+      most = omega (arith, all, whole, p .size, longer (x .begun) b);
+      none = refl;
+      short = omega arith;
+      cleared = λ f. refl;
+    }
+line-ended x t b bad e c =
+    record {
+      place = λ f. not-both (sym f);
+      most = omega (arith, c .most, longer t b);
+      none = refl;
+      short = omega arith;
+      cleared = λ f. refl;
+    }
+
+line-longer : (x : Listing) (t : List ℕ) (b : ℕ) → x .ended ≡ false → eqb b 10 ≡ false → eqb (length (x .begun)) 31 ≡ false →
+    Come x t → Come (line-goes-on x b) (more t b)
+line-longer x t b e f g c =
+    let less = eqb-false (length (x .begun)) 31 g in
+    record {
+      place = λ h. placed b (c .place e);
+      most = omega (arith, c .most, longer t b);
       none = none-joined (x .begun) b (c .none) (eqb-false b 10 f);
-      short = omega (arith, longer, less, c .short);
+      short = omega (arith, longer (x .begun) b, less, c .short);
       cleared = λ h. not-both h;
     }
 
@@ -97,39 +139,49 @@ line-longer x n b e f g c =
 abbrev next-inside : Listing → ℕ → Listing
 next-inside x b = cond (eqb b 10) (line-ends x (line-of (x .begun))) (cond (eqb (length (x .begun)) 31) (stopped x) (line-goes-on x b))
 
-one-inside : (x : Listing) (n b : ℕ) → x .ended ≡ false → Come x n → Come (next-inside x b) (n + 1)
-one-inside x n b e c = go (either-way (eqb b 10)) (either-way (eqb (length (x .begun)) 31))
+one-inside : (x : Listing) (t : List ℕ) (b : ℕ) → x .ended ≡ false → Come x t → Come (next-inside x b) (more t b)
+one-inside x t b e c = go (either-way (eqb b 10)) (either-way (eqb (length (x .begun)) 31))
   where
     go : (eqb b 10 ≡ true) ⊎ (eqb b 10 ≡ false) → (eqb (length (x .begun)) 31 ≡ true) ⊎ (eqb (length (x .begun)) 31 ≡ false) →
-        Come (next-inside x b) (n + 1)
-    go (inl f) g = rw f (line-ended x n (line-of (x .begun)) e c)
-    go (inr f) (inl g) = rw (f, g) (line-ended x n bad e c)
-    go (inr f) (inr g) = rw (f, g) (line-longer x n b e f g c)
+        Come (next-inside x b) (more t b)
+    go (inl f) g = rw f (line-ended x t b (line-of (x .begun)) e c)
+    go (inr f) (inl g) = rw (f, g) (line-ended x t b bad e c)
+    go (inr f) (inr g) = rw (f, g) (line-longer x t b e f g c)
 
-one-byte : (x : Listing) (n b : ℕ) → Come x n → Come (next x b) (n + 1)
+one-byte : (x : Listing) (t : List ℕ) (b : ℕ) → Come x t → Come (next x b) (more t b)
 unfolding next
-one-byte x n b c = go (either-way (x .ended))
+one-byte x t b c = go (either-way (x .ended))
   where
-    go : (x .ended ≡ true) ⊎ (x .ended ≡ false) → Come (cond (x .ended) x (next-inside x b)) (n + 1)
+    go : (x .ended ≡ true) ⊎ (x .ended ≡ false) → Come (cond (x .ended) x (next-inside x b)) (more t b)
     go (inl e) =
         subst
-        (λ (y : Listing). Come y (n + 1))
-        (sym (ap (λ (t : Bool). cond t x (next-inside x b)) e))
-        (record { all = λ h. not-both (sym h ∙ e); most = omega (arith, c .most); none = c .none; short = c .short; cleared = c .cleared })
-    go (inr e) = subst (λ (y : Listing). Come y (n + 1)) (sym (ap (λ (t : Bool). cond t x (next-inside x b)) e)) (one-inside x n b e c)
+        (λ (y : Listing). Come y (more t b))
+        (sym (ap (λ (f : Bool). cond f x (next-inside x b)) e))
+        (record {
+          place = λ h. not-both (sym h ∙ e);
+          most = omega (arith, c .most, longer t b);
+          none = c .none;
+          short = c .short;
+          cleared = c .cleared;
+        })
+    go (inr e) =
+        subst (λ (y : Listing). Come y (more t b)) (sym (ap (λ (f : Bool). cond f x (next-inside x b)) e)) (one-inside x t b e c)
 
-comes : (x : Listing) (n : ℕ) (t : List ℕ) → Come x n → Come (listing x t) (n + length t)
+comes : (x : Listing) (u t : List ℕ) → Come x u → Come (listing x t) (u ++ t)
 unfolding listing
-comes x n [] c = subst (Come x) (sym (add-zero n)) c
-comes x n (b ∷ t) c =
-    let e : n + 1 + length t ≡ n + suc (length t) = omega arith in
-    subst (Come (listing (next x b) t)) e (comes (next x b) (n + 1) t (one-byte x n b c))
+comes x u [] c = subst (Come x) (sym (append-nil u)) c
+comes x u (b ∷ t) c = subst (Come (listing (next x b) t)) (append-assoc u (b ∷ []) t) (comes (next x b) (more u b) t (one-byte x u b c))
 
--- How far the listing of a text has come.
-pub come : (s : Machine) (t : List ℕ) → Come (listing (start s) t) (length t)
-come s t =
-    let e : 0 + length t ≡ length t = omega arith in
-    subst (Come (listing (start s) t)) e (comes (start s) 0 t (begins s))
+-- How far the listing of a text has come: the bytes used and those begun are all of it, unless a bad line ended it.
+pub come : (s : Machine) (t : List ℕ) → Come (listing (start s) t) t
+come s t = comes (start s) [] t (begins s)
+
+-- What is begun is what lies behind the bytes used.
+pub begun-is : (s : Machine) (t : List ℕ) → listing (start s) t .ended ≡ false → drop (listing (start s) t .used) t ≡ listing (start s) t .begun
+begun-is s t e =
+    let x = listing (start s) t in
+    let p = come s t .place e in
+    ap (drop (x .used)) (p .is) ∙ drop-at (p .lines) (x .begun) (x .used) (p .size)
 
 -- ---- the cut
 
