@@ -20,7 +20,7 @@ pub record Turned (r : Registers) (m bytes : List ℕ) (t : Turn) (m′ input′
   pub memory : m′ ≡ at-hand r m bytes .machine .memory
   pub have : t .have ≡ length (at-hand r m bytes .begun)
   pub begun : take (t .have) input′ ≡ at-hand r m bytes .begun
-  pub ended : at-hand r m bytes .ended ≡ true → t .go-on ≡ false
+  pub ended : at-hand r m bytes .ended ≡ true → t .goes ≡ false
 
 -- the bytes from one place up to another come first; behind them the buffer stays
 abbrev pub moved : List ℕ → ℕ → ℕ → List ℕ

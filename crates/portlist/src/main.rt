@@ -15,7 +15,8 @@ pub struct Turn {
     pub registers: Registers,
     // How many bytes of a line begun are at the input's front.
     pub have: usize,
-    pub go_on: bool,
+    // Whether there is a next one.
+    pub goes: bool,
 }
 
 // Moves the bytes from `from` up to `to` to the front, and answers how many they are.
@@ -52,14 +53,14 @@ fn list_filled(
         return Turn {
             registers,
             have: 0,
-            go_on: false,
+            goes: false,
         };
     }
     let left = move_to_front(input, used, all);
     Turn {
         registers,
         have: left,
-        go_on: written,
+        goes: written,
     }
 }
 
@@ -83,7 +84,7 @@ fn end(r: Registers, have: usize) -> Turn
     Turn {
         registers: r,
         have: 0,
-        go_on: false,
+        goes: false,
     }
 }
 
@@ -118,7 +119,7 @@ fn list(memory: &mut [u16], input: &mut [u8], output: &mut [u8])
         registers = turn.registers;
         have = turn.have;
         turns -= 1;
-        if !turn.go_on {
+        if !turn.goes {
             return;
         }
     }

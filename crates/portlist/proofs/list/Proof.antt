@@ -1,72 +1,87 @@
+-- `portlist::list` meets its contract: the line begun lies in the input, and the lent parts keep their lengths.
+use Prim.Native.Nat.{ℕ, _≤_}
+use native.Mathlib.Omega.{arith}
+use mathlib.Core.Path.{_≡_, refl, _∙_}
+use mathlib.Core.List.{List}
+use lib.ListN.{length}
 use Rattle.portlist.proofs.list.Statement.{statement}
 use Rattle.portlist.proofs.list.Tie as tie
-use Rattle.portlist.proofs.list.Reads as reads
-use Rattle.portlist.proofs.list.Lts as lts
-use Rattle.port.proofs.reset.Reads as reset-reads
-use Rattle.portlist.proofs.take_turn.Reads as take-turn-reads
+
+record Kept (memory₀ input₀ output₀ memory input output : List ℕ) (have : ℕ) : Type 0 where
+  begun : have ≤ length input
+  memory-kept : length memory ≡ length memory₀
+  input-kept : length input ≡ length input₀
+  output-kept : length output ≡ length output₀
 
 abbrev Inv-loop : tie.InvT-loop
 Inv-loop memory₀ input₀ output₀ registers₀ have₀ turns₀ memory input output registers have turns =
-    ?
+    Kept memory₀ input₀ output₀ memory input output have
 
 abbrev μ-loop : tie.MeasureT-loop
-μ-loop memory₀ input₀ output₀ registers₀ have₀ turns₀ memory input output registers have turns = ?
+μ-loop memory₀ input₀ output₀ registers₀ have₀ turns₀ memory input output registers have turns =
+    turns
 
--- src/main.rt:112:9
 reset-requires : tie.Need-reset-requires Inv-loop μ-loop
-reset-requires c κs = ?
+reset-requires c κs = tt
 
--- src/main.rt:116:5
 loop-holds : tie.Need-loop-holds Inv-loop μ-loop
-loop-holds c = ?
+loop-holds c =
+    record { begun = omega arith; memory-kept = refl; input-kept = refl; output-kept = refl }
 
--- src/main.rt:117:13
 take-turn-requires : tie.Need-take-turn-requires Inv-loop μ-loop
-take-turn-requires c κs = ?
+take-turn-requires c κs =
+    let l = c .before .before .before .before .loop .inv in
+    let p = c .before .before .before .before .before .before .before .before .before .before .pre in
+    (l .begun, omega (arith, p, l .input-kept, l .output-kept))
 
--- src/main.rt:120:9
 sub-turns : tie.Need-sub-turns Inv-loop μ-loop
-sub-turns c = ?
+sub-turns c =
+    omega arith
 
--- src/main.rt:122:13
 same-length : tie.Need-same-length Inv-loop μ-loop
-same-length c = ?
+same-length c =
+    c .before .before .before .before .before .before .before .before .before .take-turn .kept .1 .0 ∙ c .before .before .before .before .before .before .before .before .before .before .before .before .before .before .loop .inv .memory-kept
 
--- src/main.rt:122:13
 same-length-2 : tie.Need-same-length-2 Inv-loop μ-loop
-same-length-2 c = ?
+same-length-2 c =
+    c .before .before .before .before .before .before .before .before .before .take-turn .kept .1 .1 .0 ∙ c .before .before .before .before .before .before .before .before .before .before .before .before .before .before .loop .inv .input-kept
 
--- src/main.rt:122:13
 same-length-3 : tie.Need-same-length-3 Inv-loop μ-loop
-same-length-3 c = ?
+same-length-3 c =
+    c .before .before .before .before .before .before .before .before .before .take-turn .kept .1 .1 .1 .0 ∙ c .before .before .before .before .before .before .before .before .before .before .before .before .before .before .loop .inv .output-kept
 
--- src/main.rt:122:13
 returns : tie.Need-returns Inv-loop μ-loop
-returns c = ?
+returns c =
+    tt
 
--- src/main.rt:116:5
 loop-less : tie.Need-loop-less Inv-loop μ-loop
-loop-less c = ?
+loop-less c =
+    omega arith
 
--- src/main.rt:116:5
 loop-again : tie.Need-loop-again Inv-loop μ-loop
-loop-again c = ?
+loop-again c =
+    record {
+      begun = c .before .before .before .before .before .before .before .before .before .take-turn .ensures;
+      memory-kept = c .before .before .before .before .before .before .before .before .before .take-turn .kept .1 .0 ∙ c .before .before .before .before .before .before .before .before .before .before .before .before .before .before .loop .inv .memory-kept;
+      input-kept = c .before .before .before .before .before .before .before .before .before .take-turn .kept .1 .1 .0 ∙ c .before .before .before .before .before .before .before .before .before .before .before .before .before .before .loop .inv .input-kept;
+      output-kept = c .before .before .before .before .before .before .before .before .before .take-turn .kept .1 .1 .1 .0 ∙ c .before .before .before .before .before .before .before .before .before .before .before .before .before .before .loop .inv .output-kept;
+    }
 
--- src/main.rt:109:1
 same-length-4 : tie.Need-same-length-4 Inv-loop μ-loop
-same-length-4 c = ?
+same-length-4 c =
+    c .before .loop .inv .memory-kept
 
--- src/main.rt:109:1
 same-length-5 : tie.Need-same-length-5 Inv-loop μ-loop
-same-length-5 c = ?
+same-length-5 c =
+    c .before .loop .inv .input-kept
 
--- src/main.rt:109:1
 same-length-6 : tie.Need-same-length-6 Inv-loop μ-loop
-same-length-6 c = ?
+same-length-6 c =
+    c .before .loop .inv .output-kept
 
--- src/main.rt:109:1
 returns-2 : tie.Need-returns-2 Inv-loop μ-loop
-returns-2 c = ?
+returns-2 c =
+    tt
 
 pub list-spec : {M : Type 1} → statement M
 list-spec =
