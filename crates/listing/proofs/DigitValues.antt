@@ -8,7 +8,7 @@ use mathlib.Core.Logic.{_⊎_, inl, inr, ⊎-elim, _≢_}
 use lib.Dec.{eqb, leb, ltb}
 use lib.ListN.{getD}
 use borrow.Author.Tests.{eqb-true, ltb-true, ltb-false, lt-ltb, le-ltb, le-leb, leb-true}
-use Rattle.words.proofs.Choices.{either-way, both-true, same-or-not}
+use Rattle.words.proofs.Choices.{either-way, both-true, less-or-not, same-or-not}
 use Rattle.listing.specs.Digits.{is-decimal, decimal-of, value-of, is-hex, digit-for}
 
 between : (low high b : ℕ) → low ≤ b → b ≤ high → leb low b && leb b high ≡ true
@@ -124,3 +124,50 @@ hex-apart b e g =
     let v : value-of b ≡ 16 = ap value-of g ∙ value-none 10 (not-decimal 10 (λ p q. absurd (omega (arith, p)))) (λ p q. absurd (omega (arith, p))) in
     let h = ltb-true (value-of b) 16 e in
     absurd (omega (arith, h, v))
+
+-- ---- there and back
+
+-- The digit for a number stands for it,
+pub value-of-digit : (n : ℕ) → value-of (digit-for n) ≡ n % 16
+unfolding digit-for
+value-of-digit n = go (less-or-not (n % 16) 10)
+  where
+    go : (n % 16 < 10) ⊎ (10 ≤ n % 16) → value-of (cond (ltb (n % 16) 10) (48 + n % 16) (55 + n % 16)) ≡ n % 16
+    go (inl h) =
+        let b : ℕ = 48 + n % 16 in
+        let v = value-decimal b (decimal b (omega arith) (omega (arith, h))) in
+        rw (lt-ltb (n % 16) 10 h) (v ∙ omega arith)
+    go (inr h) =
+        let b : ℕ = 55 + n % 16 in
+        let v = value-letter b (omega (arith, h)) (omega arith) in
+        rw (le-ltb (n % 16) 10 h) (v ∙ omega arith)
+
+-- is a hex digit,
+pub digit-is-hex : (n : ℕ) → is-hex (digit-for n) ≡ true
+digit-is-hex n =
+    let v = value-of-digit n in
+    lt-ltb (value-of (digit-for n)) 16 (omega (arith, v))
+
+-- a byte that is neither a decimal digit nor a letter stands for none,
+not-hex : (b : ℕ) → is-hex b ≡ true → is-decimal b ≡ false → (65 ≤ b → b ≤ 70 → ⊥) → ⊥
+not-hex b e d g =
+    let v = value-none b d g in
+    let h = ltb-true (value-of b) 16 e in
+    absurd (omega (arith, v, h))
+
+-- and is the only byte that does.
+pub digit-of-value : (b n : ℕ) → is-hex b ≡ true → n % 16 ≡ value-of b → digit-for n ≡ b
+unfolding digit-for
+digit-of-value b n e f = go (either-way (is-decimal b)) (less-or-not b 65) (less-or-not 70 b)
+  where
+    go : (is-decimal b ≡ true) ⊎ (is-decimal b ≡ false) → (b < 65) ⊎ (65 ≤ b) → (70 < b) ⊎ (b ≤ 70) →
+        cond (ltb (n % 16) 10) (48 + n % 16) (55 + n % 16) ≡ b
+    go (inl d) p q =
+        let v = value-decimal b d in
+        let i = decimal-is b d in
+        rw (lt-ltb (n % 16) 10 (omega (arith, f, v, i .0, i .1))) (omega (arith, f, v, i .0))
+    go (inr d) (inr p) (inr q) =
+        let v = value-letter b p q in
+        rw (le-ltb (n % 16) 10 (omega (arith, f, v, p))) (omega (arith, f, v, p))
+    go (inr d) (inl p) q = absurd (not-hex b e d (λ g h. absurd (omega (arith, p, g))))
+    go (inr d) (inr p) (inl q) = absurd (not-hex b e d (λ g h. absurd (omega (arith, q, h))))

@@ -11,3 +11,4 @@ pub mod Cutting
 pub mod InPieces
 pub mod One
 pub mod Examples
+pub mod GoodLines

@@ -3,7 +3,8 @@ pub mod Digits
 pub mod Line
 pub mod Answer
 pub mod Listing
--- the listing cut into pieces, as its laws speak of it
+-- the words of its laws
+pub mod Spelled
 pub mod Pieces
 -- what only private functions state
 pub mod Parts
