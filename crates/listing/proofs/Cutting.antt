@@ -13,11 +13,10 @@ use lib.Seq.{drop-at}
 use borrow.Author.Tests.{eqb-true, eqb-false}
 use Rattle.words.proofs.Choices.{either-way}
 use Rattle.port.specs.Runs.{Machine, after, answer-of}
-use Rattle.port.specs.declared.Access.{Access}
 use Rattle.listing.specs.Line.{Line, good, bad, line-of, has-feed}
 use Rattle.listing.specs.Answer.{answer-text, bad-line}
 use Rattle.listing.specs.Listing.{Listing, start, stopped, line-ends, line-goes-on, next, listing}
-use Rattle.listing.specs.Pieces.{left-over, at-end, printed, joined, in-turns, behind, No-feed}
+use Rattle.listing.specs.Pieces.{behind, No-feed}
 use Rattle.listing.proofs.Feeds.{none-joined}
 use Rattle.listing.proofs.LineByLine.{within, nothing-more, never-ends}
 

@@ -9,7 +9,7 @@ use lib.Dec.{eqb, leb, ltb}
 use lib.ListN.{getD}
 use borrow.Author.Tests.{eqb-true, ltb-true, ltb-false, lt-ltb, le-ltb, le-leb, leb-true}
 use Rattle.words.proofs.Choices.{either-way, both-true, less-or-not, same-or-not}
-use Rattle.listing.specs.Digits.{is-decimal, decimal-of, value-of, is-hex, digit-for}
+use Rattle.listing.specs.Digits.{is-decimal, value-of, is-hex, digit-for}
 
 between : (low high b : ℕ) → low ≤ b → b ≤ high → leb low b && leb b high ≡ true
 between low high b h k = rw (le-leb low b h, le-leb b high k) refl

@@ -1,14 +1,13 @@
 -- A good line at the front of a text, by its fixed places: what each test says of the bytes there.
-use Prim.Native.Nat.{ℕ, _≤_, _<_}
-use mathlib.Core.Path.{_≡_, refl, sym, _∙_}
+use Prim.Native.Nat.{ℕ, _≤_}
+use mathlib.Core.Path.{_≡_, refl, sym}
 use mathlib.Core.Bool.{Bool, true, false, cond, _&&_}
 use mathlib.Core.List.{List}
-use mathlib.Core.Logic.{_⊎_, inl, inr}
 use lib.Dec.{eqb, ltb}
 use lib.ListN.{length}
-use borrow.Author.Tests.{eqb-true, ltb-true, ltb-false, lt-ltb, le-ltb}
-use Rattle.words.proofs.Choices.{either-way, both-true}
-use Rattle.listing.specs.Digits.{is-decimal, value-of, is-hex}
+use borrow.Author.Tests.{eqb-true, ltb-false}
+use Rattle.words.proofs.Choices.{both-true}
+use Rattle.listing.specs.Digits.{is-decimal, is-hex}
 use Rattle.listing.specs.Line.{byte, headed, tailed}
 use Rattle.listing.specs.Parts.{reads, writes}
 

@@ -3,22 +3,21 @@ use Prim.Native.Nat.{ℕ, zero, suc, _+_, _≤_, _<_}
 use native.Mathlib.Omega.{arith}
 use mathlib.Core.Path.{_≡_, refl, sym, ap, _∙_, subst}
 use mathlib.Core.Bool.{Bool, true, false, cond, _&&_, _||_}
-use mathlib.Core.List.{List, [], _∷_, _++_}
+use mathlib.Core.List.{List, _∷_, _++_}
 use mathlib.Core.Logic.{_⊎_, inl, inr, _≢_}
 use lib.Dec.{eqb, ltb}
 use lib.ListN.{length, getD, take, drop, length-append, List·getD-append}
-use lib.Seq.{getD-at, split-at, take-suc, take-length, length-take-le, take-append-seam}
-use borrow.Author.Tests.{eqb-true, ne-eqb, eq-eqb, ltb-true, le-ltb}
-use Rattle.words.proofs.Choices.{either-way, both-true, both-false}
+use lib.Seq.{getD-at, split-at, take-suc, take-length, length-take-le}
+use borrow.Author.Tests.{eqb-true, eq-eqb, le-ltb}
+use Rattle.words.proofs.Choices.{either-way, both-true}
 use Rattle.port.specs.declared.Access.{Access}
-use Rattle.listing.specs.Digits.{is-decimal, value-of, is-hex}
-use Rattle.listing.specs.Line.{good, bad, byte, headed, tailed, read-in, write-in, line-of, before-feed, has-feed, with-length, front-line}
+use Rattle.listing.specs.Digits.{is-decimal}
+use Rattle.listing.specs.Line.{bad, byte, headed, tailed, read-in, write-in, line-of, before-feed, has-feed, with-length, front-line}
 use Rattle.listing.specs.Parts.{reads, writes, other-front}
 use Rattle.listing.specs.Pieces.{No-feed}
-use Rattle.listing.specs.declared.Front.{Front}
 use Rattle.listing.specs.declared.Front.the-variants.{Good, Bad, Open}
 use Rattle.listing.proofs.DigitValues.{decimal-is, hex-apart}
-use Rattle.listing.proofs.Feeds.{none-before, none-joined, split-feed, laid-before, has-laid}
+use Rattle.listing.proofs.Feeds.{none-joined, split-feed, laid-before, has-laid}
 use Rattle.listing.proofs.FixedPlaces.{Head, Tail, head-is, tail-is, read-line, write-line}
 
 -- A whole line at the front is judged as a line.

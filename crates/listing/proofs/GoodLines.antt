@@ -2,17 +2,17 @@
 use Prim.Native.Nat.{ℕ, zero, suc, _+_, _-_, _/_, _%_, _≤_, _<_}
 use native.Mathlib.Omega.{arith}
 use mathlib.Core.Path.{_≡_, refl, sym, ap, _∙_, subst}
-use mathlib.Core.Bool.{Bool, true, false, cond, _&&_}
+use mathlib.Core.Bool.{true, false, cond, _&&_}
 use mathlib.Core.List.{List, [], _∷_, _++_}
 use mathlib.Core.Logic.{_⊎_, inl, inr}
-use lib.Dec.{eqb, ltb}
+use lib.Dec.{eqb}
 use lib.ListN.{length, take}
 use lib.Seq.{take-suc, take-all}
 use borrow.Author.Tests.{eqb-true, ltb-true}
 use Rattle.words.proofs.Choices.{either-way, both-true}
 use Rattle.port.specs.declared.Access.{Access}
 use Rattle.port.specs.declared.Access.the-variants.{Read, Write}
-use Rattle.listing.specs.Digits.{is-decimal, value-of, is-hex, digit-for, word-from}
+use Rattle.listing.specs.Digits.{is-decimal, word-from}
 use Rattle.listing.specs.Line.{Line, good, bad, byte, hex, headed, tailed, read-in, write-in, line-of}
 use Rattle.listing.specs.Spelled.{line-text, Sayable}
 use Rattle.listing.proofs.DigitValues.{decimal, decimal-is, value-of-digit, digit-is-hex, digit-of-value}

@@ -2,10 +2,10 @@
 use Prim.Native.Nat.{ℕ, suc, _+_, _≤_}
 use native.Mathlib.Nat.{add-assoc, zero-add}
 use native.Mathlib.Omega.{arith}
-use mathlib.Core.Path.{_≡_, refl, sym, ap, _∙_}
-use mathlib.Core.List.{List, [], _∷_, _++_, append-assoc, append-nil}
+use mathlib.Core.Path.{_≡_, sym, ap, _∙_}
+use mathlib.Core.List.{List, [], _∷_, _++_, append-assoc}
 use lib.ListN.{length, take, drop, set, length-append, length-take, length-drop}
-use lib.Seq.{length-take-le, take-at, drop-append-add, drop-drop, sets, sets-eq, paste, take-length}
+use lib.Seq.{length-take-le, take-at, drop-append-add, drop-drop, sets-eq, paste, take-length}
 use Rattle.listing.specs.Listing.{with-text}
 use Rattle.listing.specs.Parts.{laid, Put}
 

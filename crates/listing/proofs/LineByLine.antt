@@ -1,19 +1,19 @@
 -- A listing goes from line to line: what a good line, a bad line and a line begun at the front of the input leave.
-use Prim.Native.Nat.{ℕ, suc, _+_, _≤_, _<_}
+use Prim.Native.Nat.{ℕ, _+_, _≤_, _<_}
 use native.Mathlib.Omega.{arith}
-use mathlib.Core.Path.{_≡_, refl, sym, ap, _∙_, subst}
-use mathlib.Core.Bool.{Bool, true, false, cond, _&&_, _||_}
+use mathlib.Core.Path.{_≡_, refl, sym, ap, _∙_}
+use mathlib.Core.Bool.{Bool, true, false, cond, _&&_}
 use mathlib.Core.List.{List, [], _∷_, _++_, append-assoc, append-nil}
 use mathlib.Core.Logic.{_⊎_, inl, inr}
 use lib.Dec.{eqb, ltb}
 use lib.ListN.{length, getD, take, drop, length-append}
-use lib.Seq.{split-at, length-take-le, drop-append-add}
+use lib.Seq.{split-at, length-take-le}
 use borrow.Author.Tests.{eqb-true, eqb-false, ne-eqb, eq-eqb, ltb-true, ltb-false}
 use Rattle.words.proofs.Choices.{either-way, both-true, both-false, less-or-not}
 use Rattle.port.specs.Runs.{Machine, after, answer-of}
 use Rattle.port.specs.declared.Access.{Access}
 use Rattle.listing.specs.Line.{Line, good, bad, headed, tailed, read-in, write-in, line-of, before-feed, has-feed, with-length, front-line}
-use Rattle.listing.specs.Answer.{answer-text, bad-line}
+use Rattle.listing.specs.Answer.{answer-text}
 use Rattle.listing.specs.Listing.{Listing, stopped, line-ends, next, listing}
 use Rattle.listing.specs.Pieces.{No-feed}
 use Rattle.listing.specs.declared.Front.{Front}

@@ -15,7 +15,6 @@ use Rattle.listing.specs.Answer.{answer-text, bad-line}
 use Rattle.listing.specs.Listing.{Listing, start, stopped, listing, listed, with-text}
 use Rattle.listing.specs.Parts.{laid, Put, AnsweredLine, ListedLines}
 use Rattle.listing.specs.declared.Answered.{Answered}
-use Rattle.listing.specs.declared.Listed.{Listed}
 use Rattle.listing.specs.declared.Front.{Front}
 use Rattle.listing.specs.declared.Front.the-variants.{Good, Bad, Open}
 use Rattle.listing.proofs.AnswerTexts.{answer-length}

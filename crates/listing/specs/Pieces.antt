@@ -6,7 +6,7 @@
 --   behind           a listing whose text and bytes follow those of another
 --   No-feed u        no byte of u is a line feed
 use Prim.Native.Nat.{ℕ, _+_}
-use mathlib.Core.Bool.{Bool, true, false, cond}
+use mathlib.Core.Bool.{false, cond}
 use mathlib.Core.List.{List, [], _∷_, _++_}
 use mathlib.Core.Path.{_≡_}
 use Rattle.port.specs.Runs.{Machine}

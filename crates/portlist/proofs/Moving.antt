@@ -4,7 +4,7 @@ use native.Mathlib.Nat.{add-comm}
 use native.Mathlib.Numerals.{add-one}
 use native.Mathlib.Omega.{arith}
 use mathlib.Core.Path.{_≡_, sym, ap, _∙_}
-use mathlib.Core.List.{List, [], _∷_, _++_}
+use mathlib.Core.List.{List, _∷_, _++_}
 use lib.ListN.{length, getD, take, drop, set}
 use lib.Seq.{slice, length-slice, length-take-le, take-suc, drop-cons, append-snoc, set-at, getD-take, getD-drop, getD-append-add, take-all, take-at}
 use Rattle.portlist.specs.Turning.{moved}

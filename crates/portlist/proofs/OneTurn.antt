@@ -3,12 +3,12 @@ use Prim.Native.Nat.{ℕ, _+_, _-_, _≤_}
 use native.Mathlib.Omega.{arith}
 use mathlib.Core.Path.{_≡_, refl, sym, ap, _∙_}
 use mathlib.Core.Bool.{Bool, true, false}
-use mathlib.Core.List.{List, []}
+use mathlib.Core.List.{List}
 use lib.ListN.{length, take, drop, length-append, length-take, length-drop}
 use lib.Seq.{slice, length-take-le, take-all}
 use borrow.Author.Tests.{eqb-true, eqb-false}
 use Rattle.port.specs.declared.Registers.{Registers}
-use Rattle.listing.specs.Listing.{Listing, start, listing, fitting, listed, with-text, ListedStretch}
+use Rattle.listing.specs.Listing.{Listing, fitting, listed, ListedStretch}
 use Rattle.listing.specs.declared.Listed.{Listed}
 use Rattle.listing.proofs.Cutting.{come, begun-is}
 use Rattle.portlist.specs.Turning.{at-hand, Turned, moved}

@@ -30,8 +30,10 @@ loop-holds c =
 
 take-turn-requires : tie.Need-take-turn-requires Inv-loop μ-loop
 take-turn-requires c κs =
-    let l = c .before .before .before .before .loop .inv in
-    let p = c .before .before .before .before .before .before .before .before .before .before .pre in
+    let l = c .before .before .before .before in
+    let start = l .before .before .before .before .before .before in
+    let l = l .loop .inv in
+    let p = start .pre in
     (l .begun, omega (arith, p, l .input-kept, l .output-kept))
 
 sub-turns : tie.Need-sub-turns Inv-loop μ-loop
@@ -40,15 +42,21 @@ sub-turns c =
 
 same-length : tie.Need-same-length Inv-loop μ-loop
 same-length c =
-    c .before .before .before .before .before .before .before .before .before .take-turn .kept .1 .0 ∙ c .before .before .before .before .before .before .before .before .before .before .before .before .before .before .loop .inv .memory-kept
+    let at-take-turn = c .before .before .before .before .before .before .before .before .before in
+    let l = at-take-turn .before .before .before .before .before in
+    at-take-turn .take-turn .kept .1 .0 ∙ l .loop .inv .memory-kept
 
 same-length-2 : tie.Need-same-length-2 Inv-loop μ-loop
 same-length-2 c =
-    c .before .before .before .before .before .before .before .before .before .take-turn .kept .1 .1 .0 ∙ c .before .before .before .before .before .before .before .before .before .before .before .before .before .before .loop .inv .input-kept
+    let at-take-turn = c .before .before .before .before .before .before .before .before .before in
+    let l = at-take-turn .before .before .before .before .before in
+    at-take-turn .take-turn .kept .1 .1 .0 ∙ l .loop .inv .input-kept
 
 same-length-3 : tie.Need-same-length-3 Inv-loop μ-loop
 same-length-3 c =
-    c .before .before .before .before .before .before .before .before .before .take-turn .kept .1 .1 .1 .0 ∙ c .before .before .before .before .before .before .before .before .before .before .before .before .before .before .loop .inv .output-kept
+    let at-take-turn = c .before .before .before .before .before .before .before .before .before in
+    let l = at-take-turn .before .before .before .before .before in
+    at-take-turn .take-turn .kept .1 .1 .1 .0 ∙ l .loop .inv .output-kept
 
 returns : tie.Need-returns Inv-loop μ-loop
 returns c =
@@ -60,11 +68,13 @@ loop-less c =
 
 loop-again : tie.Need-loop-again Inv-loop μ-loop
 loop-again c =
+    let at-take-turn = c .before .before .before .before .before .before .before .before .before in
+    let l = at-take-turn .before .before .before .before .before in
     record {
-      begun = c .before .before .before .before .before .before .before .before .before .take-turn .ensures;
-      memory-kept = c .before .before .before .before .before .before .before .before .before .take-turn .kept .1 .0 ∙ c .before .before .before .before .before .before .before .before .before .before .before .before .before .before .loop .inv .memory-kept;
-      input-kept = c .before .before .before .before .before .before .before .before .before .take-turn .kept .1 .1 .0 ∙ c .before .before .before .before .before .before .before .before .before .before .before .before .before .before .loop .inv .input-kept;
-      output-kept = c .before .before .before .before .before .before .before .before .before .take-turn .kept .1 .1 .1 .0 ∙ c .before .before .before .before .before .before .before .before .before .before .before .before .before .before .loop .inv .output-kept;
+      begun = at-take-turn .take-turn .ensures;
+      memory-kept = at-take-turn .take-turn .kept .1 .0 ∙ l .loop .inv .memory-kept;
+      input-kept = at-take-turn .take-turn .kept .1 .1 .0 ∙ l .loop .inv .input-kept;
+      output-kept = at-take-turn .take-turn .kept .1 .1 .1 .0 ∙ l .loop .inv .output-kept;
     }
 
 same-length-4 : tie.Need-same-length-4 Inv-loop μ-loop

@@ -1,5 +1,5 @@
 -- `portlist::list_filled` meets its contract: all the bytes fit, so they are listed whole, and what is left of a line is moved.
-use mathlib.Core.Path.{_≡_, sym}
+use mathlib.Core.Path.{sym}
 use lib.Seq.{length-take-le}
 use Rattle.portlist.proofs.OneTurn.{wrote-within, used-within, turned-bad, turned-on}
 use borrow.Author.Needs.{needs}
@@ -11,22 +11,27 @@ slice-reshare-prefix-list-stretch c = search needs
 
 slice-aggregate-list-stretch : tie.Need-slice-aggregate-list-stretch
 slice-aggregate-list-stretch c =
-    sym (length-take-le (c .before .before .before .before .before .args .all) (c .before .before .before .before .before .args .input .now) (c .before .before .before .before .before .pre .0))
+    let start = c .before .before .before .before .before in
+    sym (length-take-le (start .args .all) (start .args .input .now) (start .pre .0))
 
 list-stretch-requires : tie.Need-list-stretch-requires
 list-stretch-requires c κs = tt
 
 slice-reshare-prefix-write-all : tie.Need-slice-reshare-prefix-write-all
 slice-reshare-prefix-write-all c =
-    wrote-within (c .before .before .before .before .before .before .before .before .before .before .before .before .args .input .now) (c .before .before .before .before .before .before .before .before .before .before .before .before .args .all) (c .before .before .before .before .before .before .before .before .before .before .before .before .pre .0) (c .before .before .before .before .before .before .before .before .before .before .before .before .pre .1) (c .before .before .before .before .before .list-stretch .ensures) (c .before .before .before .before .before .list-stretch .kept .1 .1 .1 .0)
+    let at-list-stretch = c .before .before .before .before .before in
+    let start = at-list-stretch .before .before .before .before .before .before .before in
+    wrote-within (start .args .input .now) (start .args .all) (start .pre .0) (start .pre .1) (at-list-stretch .list-stretch .ensures) (at-list-stretch .list-stretch .kept .1 .1 .1 .0)
 
 slice-aggregate-write-all : tie.Need-slice-aggregate-write-all
 slice-aggregate-write-all c =
+    let at-list-stretch = c .before .before .before .before .before .before in
+    let start = at-list-stretch .before .before .before .before .before .before .before in
     sym
     (length-take-le
-    (c .before .before .before .before .before .before .list-stretch .result .wrote)
+    (at-list-stretch .list-stretch .result .wrote)
     _
-    (wrote-within (c .before .before .before .before .before .before .before .before .before .before .before .before .before .args .input .now) (c .before .before .before .before .before .before .before .before .before .before .before .before .before .args .all) (c .before .before .before .before .before .before .before .before .before .before .before .before .before .pre .0) (c .before .before .before .before .before .before .before .before .before .before .before .before .before .pre .1) (c .before .before .before .before .before .before .list-stretch .ensures) (c .before .before .before .before .before .before .list-stretch .kept .1 .1 .1 .0)))
+    (wrote-within (start .args .input .now) (start .args .all) (start .pre .0) (start .pre .1) (at-list-stretch .list-stretch .ensures) (at-list-stretch .list-stretch .kept .1 .1 .1 .0)))
 
 write-all-requires : tie.Need-write-all-requires
 write-all-requires c κs = tt
@@ -42,7 +47,9 @@ same-length-3 c = search needs
 
 returns : tie.Need-returns
 returns c =
-    turned-bad (c .before .before .before .before .before .before .before .before .before .before .before .before .before .before .before .args .input .now) (c .before .before .before .before .before .before .before .before .before .before .before .before .before .before .before .args .all) (c .before .before .before .before .before .before .before .before .before .before .before .before .before .before .before .pre .0) (c .before .before .before .before .before .before .before .before .before .before .before .before .before .before .before .pre .1) (c .before .before .before .before .before .before .before .before .list-stretch .ensures) (c .if1 .taken)
+    let at-list-stretch = c .before .before .before .before .before .before .before .before in
+    let start = at-list-stretch .before .before .before .before .before .before .before in
+    turned-bad (start .args .input .now) (start .args .all) (start .pre .0) (start .pre .1) (at-list-stretch .list-stretch .ensures) (c .if1 .taken)
 
 move-to-front-requires : tie.Need-move-to-front-requires
 move-to-front-requires c κs =
@@ -61,13 +68,16 @@ same-length-6 c = search needs
 
 returns-2 : tie.Need-returns-2
 returns-2 c =
+    let at-if1 = c .before .before .before .before in
+    let at-list-stretch = at-if1 .before .before .before .before .before .before .before .before in
+    let start = at-list-stretch .before .before .before .before .before .before .before in
     turned-on
-    (c .before .before .before .before .before .before .before .before .before .before .before .before .before .before .before .before .before .before .before .args .input .now)
-    (c .before .before .before .before .before .before .before .before .before .before .before .before .before .before .before .before .before .before .before .args .all)
-    (c .before .before .before .before .before .before .before .before .before .before .before .before .before .before .before .before .before .before .before .pre .0)
-    (c .before .before .before .before .before .before .before .before .before .before .before .before .before .before .before .before .before .before .before .pre .1)
-    (c .before .before .before .before .before .before .before .before .before .before .before .before .list-stretch .ensures)
-    (c .before .before .before .before .if1 .left)
+    (start .args .input .now)
+    (start .args .all)
+    (start .pre .0)
+    (start .pre .1)
+    (at-list-stretch .list-stretch .ensures)
+    (at-if1 .if1 .left)
     (c .before .before .move-to-front .ensures .0)
     (c .before .before .move-to-front .ensures .1)
 

@@ -1,10 +1,8 @@
 -- `listing::answers::put_answer` meets its contract: the three parts, one behind the other.
-use Prim.Native.Nat.{ℕ, _+_, _≤_}
 use native.Mathlib.Omega.{arith}
-use mathlib.Core.Path.{_≡_, sym, ap, _∙_}
-use mathlib.Core.List.{_++_}
-use lib.ListN.{length, length-append}
-use Rattle.listing.specs.Answer.{head-text, mark-text, cycle-text, answer-text}
+use mathlib.Core.Path.{sym}
+use lib.ListN.{length-append}
+use Rattle.listing.specs.Answer.{mark-text, cycle-text, answer-text}
 use Rattle.listing.proofs.AnswerTexts.{head-length, mark-length, cycle-length}
 use Rattle.listing.proofs.Laying.{put-behind, put-length}
 use borrow.Author.Needs.{needs}
@@ -45,19 +43,23 @@ same-length c = search needs
 returns : tie.Need-returns
 unfolding answer-text
 returns c =
-    let a = c .before .before .before .before .before .before .before .before .before .before .before .before .before .before .args in
-    let shown = c .before .before .before .before .before .before .before .before .before .before .before .before .shows-mark .result in
+    let at-put-mark = c .before .before .before .before .before .before in
+    let at-put-head = at-put-mark .before .before .before .before in
+    let at-shows-mark = at-put-head .before .before in
+    let start = at-shows-mark .before .before in
+    let a = start .args in
+    let shown = at-shows-mark .shows-mark .result in
     let six = head-length (a .answer .number) (a .answer .word) in
     let eight = mark-length shown (a .answer .hollow) in
     let less = cycle-length (a .answer .cycle) in
-    let room = put-length (omega (arith, c .before .before .before .before .before .before .before .before .before .before .before .before .before .before .pre .0, six)) (c .before .before .before .before .before .before .before .before .before .before .put-head .ensures) in
+    let room = put-length (omega (arith, start .pre .0, six)) (at-put-head .put-head .ensures) in
     let rest = length-append (mark-text shown (a .answer .hollow)) (cycle-text (a .answer .cycle)) in
     rw
-    (sym (c .before .before .before .before .before .before .before .before .before .before .before .before .shows-mark .ensures))
+    (sym (at-shows-mark .shows-mark .ensures))
     (put-behind
-    (omega (arith, c .before .before .before .before .before .before .before .before .before .before .before .before .before .before .pre .0, six, eight, less, rest))
-    (c .before .before .before .before .before .before .before .before .before .before .put-head .ensures)
-    (put-behind (omega (arith, c .before .before .before .before .before .before .before .before .before .before .before .before .before .before .pre .0, six, eight, less, room, c .before .before .before .before .before .before .before .before .before .before .put-head .ensures .end)) (c .before .before .before .before .before .before .put-mark .ensures) (c .before .before .put-cycle .ensures)))
+    (omega (arith, start .pre .0, six, eight, less, rest))
+    (at-put-head .put-head .ensures)
+    (put-behind (omega (arith, start .pre .0, six, eight, less, room, at-put-head .put-head .ensures .end)) (at-put-mark .put-mark .ensures) (c .before .before .put-cycle .ensures)))
 
 pub put-answer-spec : {M : Type 1} → statement M
 put-answer-spec =

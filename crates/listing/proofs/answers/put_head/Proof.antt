@@ -1,6 +1,6 @@
 -- `listing::answers::put_head` meets its contract: six bytes, each in its place.
 use native.Mathlib.Omega.{arith}
-use mathlib.Core.Path.{_≡_, refl, sym, ap, _∙_}
+use mathlib.Core.Path.{refl}
 use lib.ListN.{length-set}
 use Rattle.listing.specs.Answer.{head-text}
 use Rattle.listing.proofs.Laying.{six-laid}
@@ -71,12 +71,13 @@ same-length c =
 returns : tie.Need-returns
 unfolding head-text
 returns c =
-    let a = c .before .before .before .before .before .args in
+    let start = c .before .before .before .before .before in
+    let a = start .args in
     record {
       end = refl;
       output =
           rw (c .before .before .before .digit-for .ensures, c .before .before .digit-for2 .ensures, c .before .digit-for3 .ensures, c .digit-for4 .ensures)
-          (six-laid (a .output .now) (a .at) _ _ _ _ _ _ (c .before .before .before .before .before .pre .0));
+          (six-laid (a .output .now) (a .at) _ _ _ _ _ _ (start .pre .0));
     }
 
 pub put-head-spec : {M : Type 1} → statement M

@@ -17,7 +17,9 @@ same-length c = search needs
 returns : tie.Need-returns
 unfolding mark-text
 returns c =
-    rw (not-true (c .before .before .before .before .before .before .before .args .shown) (c .before .before .before .before .before .if1 .taken)) (c .before .before .put .ensures)
+    let at-if1 = c .before .before .before .before .before in
+    let start = at-if1 .before .before in
+    rw (not-true (start .args .shown) (at-if1 .if1 .taken)) (c .before .before .put .ensures)
 
 slice-aggregate-put-2 : tie.Need-slice-aggregate-put-2
 slice-aggregate-put-2 c = search needs
@@ -31,7 +33,10 @@ same-length-2 c = search needs
 returns-2 : tie.Need-returns-2
 unfolding mark-text
 returns-2 c =
-    rw (not-false (c .before .before .before .before .before .before .before .before .args .shown) (c .before .before .before .before .before .before .if1 .left), c .before .before .before .before .before .if2 .taken) (c .before .before .put2 .ensures)
+    let at-if2 = c .before .before .before .before .before in
+    let at-if1 = at-if2 .before in
+    let start = at-if1 .before .before in
+    rw (not-false (start .args .shown) (at-if1 .if1 .left), at-if2 .if2 .taken) (c .before .before .put2 .ensures)
 
 slice-aggregate-put-3 : tie.Need-slice-aggregate-put-3
 slice-aggregate-put-3 c = search needs
@@ -45,7 +50,10 @@ same-length-3 c = search needs
 returns-3 : tie.Need-returns-3
 unfolding mark-text
 returns-3 c =
-    rw (not-false (c .before .before .before .before .before .before .before .before .args .shown) (c .before .before .before .before .before .before .if1 .left), c .before .before .before .before .before .if2 .left) (c .before .before .put3 .ensures)
+    let at-if2 = c .before .before .before .before .before in
+    let at-if1 = at-if2 .before in
+    let start = at-if1 .before .before in
+    rw (not-false (start .args .shown) (at-if1 .if1 .left), at-if2 .if2 .left) (c .before .before .put3 .ensures)
 
 pub put-mark-spec : {M : Type 1} → statement M
 put-mark-spec =

@@ -1,5 +1,5 @@
 -- `listing::answers::shows_mark` meets its contract, by cases on reading and writing.
-use mathlib.Core.Path.{_≡_, refl, sym, ap, _∙_}
+use mathlib.Core.Path.{refl}
 use Rattle.listing.specs.Answer.{shows-mark}
 use borrow.Author.Needs.{needs}
 use Rattle.listing.proofs.answers.shows_mark.Statement.{statement}

@@ -1,7 +1,6 @@
 -- `listing::digits::decimal_of` meets its contract: a decimal digit is 48 or more.
 use Rattle.listing.proofs.DigitValues.{decimal-is}
 use borrow.Author.Needs.{needs}
-use native.Mathlib.Omega.{arith}
 use Rattle.listing.proofs.DigitValues.{decimal-is}
 use Rattle.listing.proofs.digits.decimal_of.Statement.{statement}
 use Rattle.listing.proofs.digits.decimal_of.Tie as tie

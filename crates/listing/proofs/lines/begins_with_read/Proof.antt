@@ -1,5 +1,5 @@
 -- `listing::lines::begins_with_read` meets its contract: its tests are those of `reads`.
-use mathlib.Core.Path.{_≡_, refl}
+use mathlib.Core.Path.{refl}
 use borrow.Author.Tests.{lt-ltb, le-ltb, eq-eqb, ne-eqb}
 use Rattle.listing.specs.Parts.{reads}
 use borrow.Author.Needs.{needs}

@@ -1,5 +1,5 @@
 -- `listing::lines::begins_with_write` meets its contract: its tests are those of `writes`.
-use mathlib.Core.Path.{_≡_, refl}
+use mathlib.Core.Path.{refl}
 use borrow.Author.Tests.{lt-ltb, le-ltb}
 use Rattle.listing.specs.Parts.{writes}
 use borrow.Author.Needs.{needs}
@@ -29,7 +29,8 @@ both-requires-2 c κs = tt
 returns-2 : tie.Need-returns-2
 unfolding writes
 returns-2 c =
-    rw (le-ltb _ _ (c .before .before .before .before .before .if1 .left), c .both2 .ensures, c .before .both .ensures, c .before .before .before .is-headed .ensures, c .before .before .is-tailed .ensures) refl
+    let at-if1 = c .before .before .before .before .before in
+    rw (le-ltb _ _ (at-if1 .if1 .left), c .both2 .ensures, c .before .both .ensures, c .before .before .before .is-headed .ensures, c .before .before .is-tailed .ensures) refl
 
 pub begins-with-write-spec : {M : Type 1} → statement M
 begins-with-write-spec =

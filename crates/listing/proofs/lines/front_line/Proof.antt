@@ -1,5 +1,5 @@
 -- `listing::lines::front_line` meets its contract: each way through it is one of the three cases.
-use mathlib.Core.Path.{_≡_, sym, ap, _∙_}
+use mathlib.Core.Path.{sym, ap, _∙_}
 use Rattle.port.specs.declared.Access.{Access}
 use Rattle.listing.specs.declared.Front.the-variants.{Good}
 use Rattle.listing.proofs.FrontLine.{reads-front, writes-front, others-front}
@@ -33,7 +33,8 @@ judge-other-requires c κs = tt
 
 returns-3 : tie.Need-returns-3
 returns-3 c =
-    c .judge-other .ensures ∙ sym (others-front _ (sym (c .before .before .before .before .begins-with-read .ensures) ∙ c .before .before .before .if1 .left) (sym (c .before .before .begins-with-write .ensures) ∙ c .before .if2 .left))
+    let at-begins-with-read = c .before .before .before .before in
+    c .judge-other .ensures ∙ sym (others-front _ (sym (at-begins-with-read .begins-with-read .ensures) ∙ c .before .before .before .if1 .left) (sym (c .before .before .begins-with-write .ensures) ∙ c .before .if2 .left))
 
 pub front-line-spec : {M : Type 1} → statement M
 front-line-spec =

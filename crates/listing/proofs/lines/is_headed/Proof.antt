@@ -1,5 +1,5 @@
 -- `listing::lines::is_headed` meets its contract: test by test, as the definition has them.
-use mathlib.Core.Path.{_≡_, refl}
+use mathlib.Core.Path.{refl}
 use Rattle.listing.specs.Line.{headed}
 use borrow.Author.Needs.{needs}
 use Rattle.listing.proofs.lines.is_headed.Statement.{statement}
@@ -41,7 +41,9 @@ both-requires-4 c κs = tt
 returns : tie.Need-returns
 unfolding headed
 returns c =
-    rw (c .both4 .ensures, c .before .both3 .ensures, c .before .before .both2 .ensures, c .before .before .before .both .ensures, c .before .before .before .before .before .before .before .is-decimal .ensures, c .before .before .before .before .is-decimal2 .ensures) refl
+    let at-is-decimal2 = c .before .before .before .before in
+    let at-is-decimal = at-is-decimal2 .before .before .before in
+    rw (c .both4 .ensures, c .before .both3 .ensures, c .before .before .both2 .ensures, c .before .before .before .both .ensures, at-is-decimal .is-decimal .ensures, at-is-decimal2 .is-decimal2 .ensures) refl
 
 pub is-headed-spec : {M : Type 1} → statement M
 is-headed-spec =

@@ -1,5 +1,5 @@
 -- `listing::lines::is_tailed` meets its contract: test by test, as the definition has them.
-use mathlib.Core.Path.{_≡_, refl}
+use mathlib.Core.Path.{refl}
 use Rattle.listing.specs.Line.{tailed}
 use borrow.Author.Needs.{needs}
 use Rattle.listing.proofs.lines.is_tailed.Statement.{statement}
@@ -47,7 +47,11 @@ both-requires-4 c κs = tt
 returns : tie.Need-returns
 unfolding tailed
 returns c =
-    rw (c .both4 .ensures, c .before .both3 .ensures, c .before .before .both2 .ensures, c .before .before .before .both .ensures, c .before .before .before .before .before .before .before .before .before .before .hex-value .ensures, c .before .before .before .before .before .before .before .before .hex-value2 .ensures, c .before .before .before .before .before .before .hex-value3 .ensures, c .before .before .before .before .hex-value4 .ensures) refl
+    let at-hex-value4 = c .before .before .before .before in
+    let at-hex-value3 = at-hex-value4 .before .before in
+    let at-hex-value2 = at-hex-value3 .before .before in
+    let at-hex-value = at-hex-value2 .before .before in
+    rw (c .both4 .ensures, c .before .both3 .ensures, c .before .before .both2 .ensures, c .before .before .before .both .ensures, at-hex-value .hex-value .ensures, at-hex-value2 .hex-value2 .ensures, at-hex-value3 .hex-value3 .ensures, at-hex-value4 .hex-value4 .ensures) refl
 
 pub is-tailed-spec : {M : Type 1} → statement M
 is-tailed-spec =

@@ -39,7 +39,9 @@ shared-slice-read-if2 c =
 returns-2 : tie.Need-returns-2 Inv-loop μ-loop
 unfolding other-front
 returns-2 c =
-    rw (le-ltb 31 _ (c .before .before .before .before .if1 .left), c .before .before .before .loop .inv .feeds ∙ found-at (c .before .before .before .before .before .args .s .now) (c .before .before .before .loop .i) (omega arith) (c .if2 .taken)) refl
+    let at-if1 = c .before .before .before .before in
+    let start = at-if1 .before in
+    rw (le-ltb 31 _ (at-if1 .if1 .left), c .before .before .before .loop .inv .feeds ∙ found-at (start .args .s .now) (c .before .before .before .loop .i) (omega arith) (c .if2 .taken)) refl
 
 add-i : tie.Need-add-i Inv-loop μ-loop
 add-i c =
@@ -51,7 +53,8 @@ loop-less c =
 
 loop-again : tie.Need-loop-again Inv-loop μ-loop
 loop-again c =
-    record { most = omega arith; feeds = c .before .before .before .loop .inv .feeds ∙ passed-over (c .before .before .before .before .before .args .s .now) (c .before .before .before .loop .i) (omega arith) (c .if2 .left) }
+    let start = c .before .before .before .before .before in
+    record { most = omega arith; feeds = c .before .before .before .loop .inv .feeds ∙ passed-over (start .args .s .now) (c .before .before .before .loop .i) (omega arith) (c .if2 .left) }
 
 returns-3 : tie.Need-returns-3 Inv-loop μ-loop
 unfolding other-front

@@ -1,8 +1,5 @@
 -- `listing::lines::read_at` meets its contract: the line is there, with its digits.
-use Prim.Native.Nat.{_<_}
 use native.Mathlib.Omega.{arith}
-use mathlib.Core.Path.{_≡_, refl}
-use lib.ListN.{length}
 use Rattle.listing.proofs.FixedPlaces.{read-line}
 use borrow.Author.Needs.{needs}
 use Rattle.listing.proofs.lines.read_at.Statement.{statement}

@@ -1,6 +1,6 @@
 -- `listing::lines::write_at` meets its contract: the line is there, with its digits.
 use native.Mathlib.Omega.{arith}
-use mathlib.Core.Path.{_≡_, refl, _∙_, ap}
+use mathlib.Core.Path.{refl}
 use borrow.Author.Tests.{ltb-true}
 use Rattle.listing.proofs.FixedPlaces.{write-line}
 use Rattle.listing.proofs.lines.write_at.Statement.{statement}
@@ -42,7 +42,8 @@ hex-value-requires-2 c κs = tt
 
 shared-slice-read-hex-value-3 : tie.Need-shared-slice-read-hex-value-3
 shared-slice-read-hex-value-3 c =
-    let line = write-line _ (c .before .before .before .before .before .before .before .before .before .before .pre) in
+    let start = c .before .before .before .before .before .before .before .before .before .before in
+    let line = write-line _ (start .pre) in
     omega (arith, line .long)
 
 hex-value-requires-3 : tie.Need-hex-value-requires-3
@@ -50,7 +51,8 @@ hex-value-requires-3 c κs = tt
 
 shared-slice-read-hex-value-4 : tie.Need-shared-slice-read-hex-value-4
 shared-slice-read-hex-value-4 c =
-    let line = write-line _ (c .before .before .before .before .before .before .before .before .before .before .before .before .pre) in
+    let start = c .before .before .before .before .before .before .before .before .before .before .before .before in
+    let line = write-line _ (start .pre) in
     omega (arith, line .long)
 
 hex-value-requires-4 : tie.Need-hex-value-requires-4
@@ -58,12 +60,19 @@ hex-value-requires-4 c κs = tt
 
 word-from-requires : tie.Need-word-from-requires
 word-from-requires c κs =
-    let line = write-line _ (c .before .before .before .before .before .before .before .before .before .before .before .before .before .pre) .tail in
-    (rw (c .before .before .before .before .before .before .hex-value .ensures) (ltb-true _ 16 (line .d6)), rw (c .before .before .before .before .hex-value2 .ensures) (ltb-true _ 16 (line .d7)), rw (c .before .before .hex-value3 .ensures) (ltb-true _ 16 (line .d8)), rw (c .hex-value4 .ensures) (ltb-true _ 16 (line .d9)))
+    let at-hex-value2 = c .before .before .before .before in
+    let at-hex-value = at-hex-value2 .before .before in
+    let start = at-hex-value .before .before .before .before .before .before .before in
+    let line = write-line _ (start .pre) .tail in
+    (rw (at-hex-value .hex-value .ensures) (ltb-true _ 16 (line .d6)), rw (at-hex-value2 .hex-value2 .ensures) (ltb-true _ 16 (line .d7)), rw (c .before .before .hex-value3 .ensures) (ltb-true _ 16 (line .d8)), rw (c .hex-value4 .ensures) (ltb-true _ 16 (line .d9)))
 
 returns : tie.Need-returns
 returns c =
-    rw (c .word-from .ensures, c .before .before .before .before .before .before .before .before .before .before .before .decimal-of .ensures, c .before .before .before .before .before .before .before .before .before .decimal-of2 .ensures, c .before .before .before .before .before .before .before .hex-value .ensures, c .before .before .before .before .before .hex-value2 .ensures, c .before .before .before .hex-value3 .ensures, c .before .hex-value4 .ensures) refl
+    let at-hex-value2 = c .before .before .before .before .before in
+    let at-hex-value = at-hex-value2 .before .before in
+    let at-decimal-of2 = at-hex-value .before .before in
+    let at-decimal-of = at-decimal-of2 .before .before in
+    rw (c .word-from .ensures, at-decimal-of .decimal-of .ensures, at-decimal-of2 .decimal-of2 .ensures, at-hex-value .hex-value .ensures, at-hex-value2 .hex-value2 .ensures, c .before .before .before .hex-value3 .ensures, c .before .hex-value4 .ensures) refl
 
 pub write-at-spec : {M : Type 1} → statement M
 write-at-spec =

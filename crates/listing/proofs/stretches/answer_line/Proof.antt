@@ -1,7 +1,6 @@
 -- `listing::stretches::answer_line` meets its contract: the access, then the text of its answer, whose number has one digit.
-use Prim.Native.Nat.{ℕ, _≤_, _<_}
 use native.Mathlib.Omega.{arith}
-use mathlib.Core.Path.{_≡_, sym, ap, _∙_, subst}
+use mathlib.Core.Path.{ap, subst}
 use Rattle.port.specs.declared.Answer.{Answer}
 use Rattle.port.specs.declared.Outcome.{Outcome}
 use Rattle.port.proofs.Numbers.{numbered}
@@ -16,9 +15,10 @@ host-access-requires c κs = tt
 
 put-answer-requires : tie.Need-put-answer-requires
 put-answer-requires c κs =
-    let start = c .before .before .before .before .before .before .before .before .before .before in
+    let at-host-access = c .before .before .before .before .before .before in
+    let start = at-host-access .before .before .before .before in
     let a = start .args in
-    let access = c .before .before .before .before .before .before .host-access in
+    let access = at-host-access .host-access in
     let listed = numbered (a .r) (a .memory .now) (a .a) .listed in
     let same = ap (λ (o : Outcome). o .answer .number) (access .ensures .outcome) in
     (start .pre, omega (arith, listed, same))
@@ -31,12 +31,14 @@ same-length-2 c = search needs
 
 returns : tie.Need-returns
 returns c =
-    let a = c .before .before .before .before .before .before .before .before .before .before .before .before .before .args in
-    let outcome = c .before .before .before .before .before .before .before .before .before .host-access .ensures .outcome in
+    let at-host-access = c .before .before .before .before .before .before .before .before .before in
+    let start = at-host-access .before .before .before .before in
+    let a = start .args in
+    let outcome = at-host-access .host-access .ensures .outcome in
     let put = c .before .before .put-answer in
     record {
       registers = ap (λ (o : Outcome). o .registers) outcome;
-      memory = c .before .before .before .before .before .before .before .before .before .host-access .ensures .memory;
+      memory = at-host-access .host-access .ensures .memory;
       text =
           subst
           (λ (x : Answer). Put (a .output .now) (a .wrote) (answer-text (a .a) x) (put .result) (put .last .0))

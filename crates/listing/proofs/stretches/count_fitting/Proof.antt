@@ -1,5 +1,5 @@
 -- `listing::stretches::count_fitting` meets its contract, by cases on the room and on which of the two numbers is smaller.
-use mathlib.Core.Path.{_≡_, sym}
+use mathlib.Core.Path.{sym}
 use Rattle.listing.specs.Listing.{fitting}
 use Rattle.listing.proofs.Fitting.{none-fits, smaller-first, smaller-second}
 use borrow.Author.Needs.{needs}

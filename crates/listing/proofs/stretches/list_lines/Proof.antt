@@ -1,7 +1,7 @@
 -- `listing::stretches::list_lines` meets its contract: each turn is one of those of `Turns`.
-use Prim.Native.Nat.{ℕ, _-_}
+use Prim.Native.Nat.{_-_}
 use native.Mathlib.Omega.{arith}
-use mathlib.Core.Path.{_≡_, sym, ap, _∙_}
+use mathlib.Core.Path.{_∙_}
 use lib.ListN.{length}
 use Rattle.listing.proofs.Laying.{put-length}
 use Rattle.listing.proofs.Turns.{Kept, at-start, part-front, good-lies, room-for-answer, room-for-bad, turned, ends-bad, ends-open, ends-even}
@@ -39,27 +39,41 @@ enum-known-line c = search needs
 
 answer-line-requires : tie.Need-answer-line-requires Inv-loop μ-loop
 answer-line-requires c κs =
-    let l = c .before .before .before .before .before .before .before .before in
+    let at-front-line = c .before .before .before .before .before in
+    let l = at-front-line .before .before .before in
     let start = l .before .before .before .before in
-    let front = part-front (start .args .input .now) (l .loop .used) (c .before .before .before .before .before .front-line .ensures) in
+    let front = part-front (start .args .input .now) (l .loop .used) (at-front-line .front-line .ensures) in
     room-for-answer (l .loop .inv) (start .pre) (front ∙ c .before .before .before .line .given .1)
 
 add-used : tie.Need-add-used Inv-loop μ-loop
 add-used c =
-    let front = part-front (c .before .before .before .before .before .before .before .before .before .before .before .before .before .before .before .before .before .before .args .input .now) (c .before .before .before .before .before .before .before .before .before .before .before .before .before .before .loop .used) (c .before .before .before .before .before .before .before .before .before .before .before .front-line .ensures) in
-    let lies = good-lies (c .before .before .before .before .before .before .before .before .before .before .before .before .before .before .loop .inv) (c .before .before .before .before .before .before .before .before .before .before .before .before .before .before .before .before .before .before .pre) (front ∙ c .before .before .before .before .before .before .before .before .before .line .given .1) in
-    omega (arith, lies .1, c .before .before .before .before .before .before .before .before .before .before .before .before .before .before .before .before .before .before .good)
+    let at-line = c .before .before .before .before .before .before .before .before .before in
+    let at-front-line = at-line .before .before in
+    let l = at-front-line .before .before .before in
+    let start = l .before .before .before .before in
+    let front = part-front (start .args .input .now) (l .loop .used) (at-front-line .front-line .ensures) in
+    let lies = good-lies (l .loop .inv) (start .pre) (front ∙ at-line .line .given .1) in
+    omega (arith, lies .1, start .good)
 
 loop-less : tie.Need-loop-less Inv-loop μ-loop
 loop-less c =
-    let front = part-front (c .before .before .before .before .before .before .before .before .before .before .before .before .before .before .before .before .before .before .args .input .now) (c .before .before .before .before .before .before .before .before .before .before .before .before .before .before .loop .used) (c .before .before .before .before .before .before .before .before .before .before .before .front-line .ensures) in
-    let lies = good-lies (c .before .before .before .before .before .before .before .before .before .before .before .before .before .before .loop .inv) (c .before .before .before .before .before .before .before .before .before .before .before .before .before .before .before .before .before .before .pre) (front ∙ c .before .before .before .before .before .before .before .before .before .line .given .1) in
+    let at-line = c .before .before .before .before .before .before .before .before .before in
+    let at-front-line = at-line .before .before in
+    let l = at-front-line .before .before .before in
+    let start = l .before .before .before .before in
+    let front = part-front (start .args .input .now) (l .loop .used) (at-front-line .front-line .ensures) in
+    let lies = good-lies (l .loop .inv) (start .pre) (front ∙ at-line .line .given .1) in
     omega (arith, lies .0, lies .1)
 
 loop-again : tie.Need-loop-again Inv-loop μ-loop
 loop-again c =
-    let front = part-front (c .before .before .before .before .before .before .before .before .before .before .before .before .before .before .before .before .before .before .args .input .now) (c .before .before .before .before .before .before .before .before .before .before .before .before .before .before .loop .used) (c .before .before .before .before .before .before .before .before .before .before .before .front-line .ensures) in
-    turned (c .before .before .before .before .before .before .before .before .before .before .before .before .before .before .loop .inv) (c .before .before .before .before .before .before .before .before .before .before .before .before .before .before .before .before .before .before .pre) (front ∙ c .before .before .before .before .before .before .before .before .before .line .given .1) (c .before .before .before .before .before .answer-line .ensures) (c .before .before .before .before .before .answer-line .kept .1 .0)
+    let at-answer-line = c .before .before .before .before .before in
+    let at-line = at-answer-line .before .before .before .before in
+    let at-front-line = at-line .before .before in
+    let l = at-front-line .before .before .before in
+    let start = l .before .before .before .before in
+    let front = part-front (start .args .input .now) (l .loop .used) (at-front-line .front-line .ensures) in
+    turned (l .loop .inv) (start .pre) (front ∙ at-line .line .given .1) (at-answer-line .answer-line .ensures) (at-answer-line .answer-line .kept .1 .0)
 
 enum-told : tie.Need-enum-told Inv-loop μ-loop
 enum-told c = search needs
@@ -69,9 +83,10 @@ slice-aggregate-put c = search needs
 
 put-requires : tie.Need-put-requires Inv-loop μ-loop
 put-requires c κs =
-    let l = c .before .before .before .before .before .before .before in
+    let at-test = c .before .before .before .before .before .before in
+    let l = at-test .before in
     let start = l .before .before .before .before in
-    room-for-bad (l .loop .inv) (start .pre) (c .before .before .before .before .before .before .loop-test .taken)
+    room-for-bad (l .loop .inv) (start .pre) (at-test .loop-test .taken)
 
 same-length : tie.Need-same-length Inv-loop μ-loop
 same-length c =
@@ -79,12 +94,20 @@ same-length c =
 
 same-length-2 : tie.Need-same-length-2 Inv-loop μ-loop
 same-length-2 c =
-    put-length (room-for-bad (c .before .before .before .before .before .before .before .before .before .before .loop .inv) (c .before .before .before .before .before .before .before .before .before .before .before .before .before .before .pre) (c .before .before .before .before .before .before .before .before .before .loop-test .taken)) (c .before .before .put .ensures) ∙ c .before .before .before .before .before .before .before .before .before .before .loop .inv .room
+    let at-loop-test = c .before .before .before .before .before .before .before .before .before in
+    let l = at-loop-test .before in
+    let start = l .before .before .before .before in
+    put-length (room-for-bad (l .loop .inv) (start .pre) (at-loop-test .loop-test .taken)) (c .before .before .put .ensures) ∙ l .loop .inv .room
 
 returns : tie.Need-returns Inv-loop μ-loop
 returns c =
-    let front = part-front (c .before .before .before .before .before .before .before .before .before .before .before .before .before .before .args .input .now) (c .before .before .before .before .before .before .before .before .before .before .loop .used) (c .before .before .before .before .before .before .before .front-line .ensures) in
-    ends-bad (c .before .before .before .before .before .before .before .before .before .before .loop .inv) (c .before .before .before .before .before .before .before .before .before .before .before .before .before .before .pre) (c .before .before .before .before .before .before .before .before .before .loop-test .taken) (front ∙ c .before .before .before .before .before .enum-told .given .1) (c .before .before .put .ensures)
+    let at-enum-told = c .before .before .before .before .before in
+    let at-front-line = at-enum-told .before .before in
+    let at-loop-test = at-front-line .before .before in
+    let l = at-loop-test .before in
+    let start = l .before .before .before .before in
+    let front = part-front (start .args .input .now) (l .loop .used) (at-front-line .front-line .ensures) in
+    ends-bad (l .loop .inv) (start .pre) (at-loop-test .loop-test .taken) (front ∙ at-enum-told .enum-told .given .1) (c .before .before .put .ensures)
 
 enum-told-2 : tie.Need-enum-told-2 Inv-loop μ-loop
 enum-told-2 c = search needs
@@ -99,8 +122,10 @@ same-length-4 c =
 
 returns-2 : tie.Need-returns-2 Inv-loop μ-loop
 returns-2 c =
-    let front = part-front (c .before .before .before .before .before .before .before .before .before .args .input .now) (c .before .before .before .before .before .loop .used) (c .before .before .front-line .ensures) in
-    ends-open (c .before .before .before .before .before .loop .inv) (c .before .before .before .before .before .before .before .before .before .pre) (front ∙ c .enum-told2 .given .1)
+    let l = c .before .before .before .before .before in
+    let start = l .before .before .before .before in
+    let front = part-front (start .args .input .now) (l .loop .used) (c .before .before .front-line .ensures) in
+    ends-open (l .loop .inv) (start .pre) (front ∙ c .enum-told2 .given .1)
 
 same-length-5 : tie.Need-same-length-5 Inv-loop μ-loop
 same-length-5 c =
