@@ -1,0 +1,10 @@
+-- what document 01 says of the program's lines
+pub mod Digits
+pub mod Line
+pub mod Answer
+pub mod Listing
+-- the words of its laws
+pub mod Spelled
+pub mod Pieces
+-- what only private functions state
+pub mod Parts

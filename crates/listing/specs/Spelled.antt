@@ -1,0 +1,19 @@
+-- The line that asks for an access: what a good line is, said the other way round.
+--   line-text a    the bytes of that line, without its line feed
+--   Sayable a      an access that a line can ask for: one digit for the register, one for the lanes
+use Prim.Native.Nat.{ℕ, _+_, _/_, _<_}
+use mathlib.Core.List.{List, [], _∷_}
+use Rattle.port.specs.declared.Access.{Access}
+use Rattle.port.specs.declared.Access.the-variants.{Read, Write}
+use Rattle.listing.specs.Digits.{digit-for}
+
+-- `R reg lanes` and `W reg lanes hhhh`
+abbrev pub line-text : Access → List ℕ
+line-text (Read register lanes) = 82 ∷ 32 ∷ (48 + register) ∷ 32 ∷ (48 + lanes) ∷ []
+line-text (Write register lanes w) =
+    87 ∷ 32 ∷ (48 + register) ∷ 32 ∷ (48 + lanes) ∷ 32 ∷
+    digit-for (w / 4096) ∷ digit-for (w / 256) ∷ digit-for (w / 16) ∷ digit-for w ∷ []
+
+abbrev pub Sayable : Access → Type 0
+Sayable (Read register lanes) = (register < 10) × (lanes < 10)
+Sayable (Write register lanes w) = (register < 10) × (lanes < 10) × (w < 65536)

@@ -1,0 +1,107 @@
+// A stretch of input bytes, with the port's state, to a stretch of output bytes.
+ghost use mathlib.Core.Path.{_≡_};
+ghost use Prim.Native.Nat.{_+_, _*_, _-_, _≤_};
+ghost use lib.ListN.{length};
+ghost use Rattle.listing.specs.Listing.{fitting, ListedStretch};
+ghost use Rattle.listing.specs.Parts.{smaller, AnsweredLine, ListedLines};
+use crate::Answered;
+use crate::Front;
+use crate::Listed;
+use crate::answers::put;
+use crate::answers::put_answer;
+use crate::lines::front_line;
+use port::Access;
+use port::Registers;
+use port::host_access;
+
+// A good line: its access done, and its answer put after what was written so far.
+fn answer_line(
+    r: Registers,
+    memory: &mut [u16],
+    a: Access,
+    output: &mut [u8],
+    wrote: usize,
+) -> Answered
+    requires { ⌜ wrote + 20 ≤ length (now output) ⌝ }
+    ensures { λ o. ⌜ AnsweredLine r (now (memory .entry)) a (now (output .entry)) wrote o (now (memory .exit)) (now (output .exit)) ⌝ }
+{
+    let done = host_access(r, memory, a);
+    let answer = done.answer;
+    // Field by field: assigned whole, the record's unused bytes would go round the loop through memory.
+    let left = done.registers;
+    let pointer = left.pointer;
+    let end = put_answer(output, wrote, a, answer);
+    Answered {
+        registers: Registers {
+            pointer,
+            latch: left.latch,
+            control: left.control,
+            hollow: left.hollow,
+        },
+        wrote: end,
+    }
+}
+
+// The lines of an input whose answers have room.
+fn list_lines(r: Registers, memory: &mut [u16], input: &[u8], output: &mut [u8]) -> Listed
+    requires { ⌜ 10 * length (now input) ≤ 3 * (length (now output) - 9) ⌝ }
+    ensures { λ o. ⌜ ListedLines r (now (memory .entry)) (now (input .entry)) (now (output .entry)) o (now (memory .exit)) (now (output .exit)) ⌝ }
+{
+    let mut registers = r;
+    let mut used = 0;
+    let mut wrote = 0;
+    while used < input.len() {
+        let line = front_line(&input[used..]);
+        match line {
+            Front::Good(a, size) => {
+                let done = answer_line(registers, memory, a, output, wrote);
+                registers = done.registers;
+                wrote = done.wrote;
+                used += size;
+            }
+            Front::Bad => {
+                let end = put(output, wrote, b"bad line\n");
+                return Listed {
+                    registers,
+                    used,
+                    wrote: end,
+                    ended: true,
+                };
+            }
+            Front::Open => {
+                return Listed {
+                    registers,
+                    used,
+                    wrote,
+                    ended: false,
+                };
+            }
+        }
+    }
+    Listed {
+        registers,
+        used,
+        wrote,
+        ended: false,
+    }
+}
+
+// How many bytes of an input surely have room for their answers: a good line has 6 bytes or more and its answer at most 20,
+// and after the last of them `bad line` may come, with 9.
+fn count_fitting(bytes: usize, room: usize) -> usize
+    ensures { λ r. ⌜ r ≡ smaller (fitting room) bytes ⌝ }
+{
+    if room < 9 {
+        return 0;
+    }
+    let fits = (room - 9) / 10 * 3;
+    if fits < bytes { fits } else { bytes }
+}
+
+// The whole lines of a stretch of input, as far as their answers fit the output.
+pub fn list_stretch(r: Registers, memory: &mut [u16], input: &[u8], output: &mut [u8]) -> Listed
+    ensures { λ o. ⌜ ListedStretch r (now (memory .entry)) (now (input .entry)) (now (output .entry)) o (now (memory .exit)) (now (output .exit)) ⌝ }
+{
+    let n = count_fitting(input.len(), output.len());
+    list_lines(r, memory, &input[..n], output)
+}
