@@ -3,12 +3,12 @@
 use Prim.Native.Nat.{ℕ}
 use mathlib.Core.Path.{_≡_, refl}
 use mathlib.Core.List.{List, [], _∷_}
-use Rattle.port.specs.Processor.{at-reset}
+use Rattle.registers.specs.Processor.{at-reset}
 use Rattle.port.specs.Runs.{Machine, answer-of, after}
 use Rattle.words.specs.Bytes.{bit, takes-low, takes-high, are-lanes, lay}
 use Rattle.words.specs.Memory.{fetch-at, store-at}
 use Rattle.control.specs.Control.{closes, fetches, bare, low-parts, host-low}
-use Rattle.port.specs.Registers.{register-word, written, half-written}
+use Rattle.registers.specs.Registers.{register-word, written, half-written}
 use Rattle.port.specs.Cycle.{carried, memory-after, after-fetch, after-store, mark, stepped}
 use Rattle.port.specs.Host.{access, access-memory, done, refusal, begin-access, read-due, write-due}
 use Rattle.listing.specs.Digits.{is-decimal, value-of, digit-for}

@@ -7,7 +7,7 @@ mod stretches;
 
 pub use lines::front_line;
 use port::Access;
-use port::Registers;
+use registers::Registers;
 pub use stretches::list_stretch;
 
 // The line that a text begins with.

@@ -7,7 +7,7 @@ use mathlib.Core.List.{List}
 use lib.ListN.{length, take, drop, length-append, length-take, length-drop}
 use lib.Seq.{slice, length-take-le, take-all}
 use borrow.Author.Tests.{eqb-true, eqb-false}
-use Rattle.port.specs.declared.Registers.{Registers}
+use Rattle.registers.specs.declared.Registers.{Registers}
 use Rattle.listing.specs.Listing.{Listing, fitting, listed, ListedStretch}
 use Rattle.listing.specs.declared.Listed.{Listed}
 use Rattle.listing.proofs.Cutting.{come, begun-is}

@@ -8,7 +8,7 @@ use mathlib.Core.List.{List, _++_}
 use mathlib.Core.Path.{_≡_}
 use lib.ListN.{length, take, drop}
 use lib.Seq.{slice}
-use Rattle.port.specs.declared.Registers.{Registers}
+use Rattle.registers.specs.declared.Registers.{Registers}
 use Rattle.listing.specs.Listing.{Listing, start, listing}
 use Rattle.portlist.specs.declared.Turn.{Turn}
 

@@ -8,7 +8,7 @@ ghost use Prim.Native.Nat.{_-_, _≤_};
 ghost use lib.ListN.{length, take};
 ghost use Rattle.listing.specs.Listing.{fitting};
 ghost use Rattle.portlist.specs.Turning.{Turned, moved};
-use port::Registers;
+use registers::Registers;
 
 // What a turn leaves for the next one, besides the memory and the input's front.
 pub struct Turn {
@@ -110,7 +110,7 @@ fn take_turn(
 fn list(memory: &mut [u16], input: &mut [u8], output: &mut [u8])
     requires { ⌜ length (now input) ≤ fitting (length (now output)) ⌝ }
 {
-    let woken = port::reset();
+    let woken = registers::reset();
     let mut registers = woken.registers;
     let mut have = 0;
     let mut turns = u64::MAX;
