@@ -1,0 +1,3 @@
+fn main() {
+    io::write_all(1, b"\n");
+}
