@@ -16,6 +16,11 @@ use port::Outcome;
 use port::Registers;
 use words::BitAddress;
 
+fn print_number(label: &[u8], n: u64) {
+    io::write_all(1, label);
+    io::print_decimal(1, n);
+}
+
 // ---- the port
 
 fn print_mark(shown: bool, hollow: bool) {
@@ -158,12 +163,6 @@ fn run_control() {
 
 // ---- fields
 
-fn print_counts(number: u8, cycles: u32) {
-    io::print_decimal(1, number as u64);
-    io::write_all(1, b", cycles ");
-    io::print_decimal(1, cycles as u64);
-}
-
 fn print_word(word: u16) {
     io::write_all(1, b" ");
     io::print_hex(1, word as u64, 4);
@@ -175,15 +174,7 @@ fn print_at(memory: &[u16], i: usize) {
     }
 }
 
-// Puts a field in, and prints the memory's first words.
-fn put(memory: &mut [u16], size: u32, at: u32, value: u32) {
-    io::write_all(1, b"put size ");
-    io::print_decimal(1, size as u64);
-    io::write_all(1, b" at bit ");
-    io::print_decimal(1, at as u64);
-    io::write_all(1, b": ");
-    let answer = fields::put_in(memory, BitAddress(at), size, value);
-    print_counts(answer.number, answer.cycles);
+fn print_memory(memory: &[u16]) {
     io::write_all(1, b", memory");
     print_at(memory, 0);
     print_at(memory, 1);
@@ -191,16 +182,25 @@ fn put(memory: &mut [u16], size: u32, at: u32, value: u32) {
     io::write_all(1, b"\n");
 }
 
-// Takes that field of K8 out, both ways.
+// Puts a field in, and prints the memory, its first three words at most.
+fn put(memory: &mut [u16], size: u32, at: u32, value: u32) {
+    let answer = fields::put_in(memory, BitAddress(at), size, value);
+    print_number(b"put size ", size as u64);
+    print_number(b" at bit ", at as u64);
+    print_number(b": ", answer.number as u64);
+    print_number(b", cycles ", answer.cycles as u64);
+    print_memory(memory);
+}
+
+// Takes the field of K7 out, both ways.
 fn take(memory: &[u16]) {
     let unsigned = fields::take_out(memory, BitAddress(14), 4);
-    io::write_all(1, b"taken out: ");
-    print_counts(unsigned.number, unsigned.cycles);
-    io::write_all(1, b", value ");
-    io::print_decimal(1, unsigned.value as u64);
+    print_number(b"taken out: ", unsigned.number as u64);
+    print_number(b", cycles ", unsigned.cycles as u64);
+    print_number(b", value ", unsigned.value as u64);
     let signed = fields::take_out_signed(memory, BitAddress(14), 4);
-    io::write_all(1, b"\nsigned: ");
-    print_counts(signed.number, signed.cycles);
+    print_number(b"\nsigned: ", signed.number as u64);
+    print_number(b", cycles ", signed.cycles as u64);
     if signed.value == -6 {
         io::write_all(1, b", value -6\n");
     } else {
@@ -246,9 +246,8 @@ fn grant(b: Bus) -> Granted
     ensures { λ r. ⌜ r ≡ granted b ⌝ }
 {
     let answer = bus::grant(b);
-    io::print_decimal(1, answer.number as u64);
-    io::write_all(1, b", source ");
-    io::print_decimal(1, answer.source as u64);
+    print_number(b"", answer.number as u64);
+    print_number(b", source ", answer.source as u64);
     io::write_all(1, b"\n");
     answer
 }
