@@ -1,5 +1,6 @@
--- Document 01's checked examples one by one, each in the words of the definitions. Each follows from the table's single statement: the laws
--- here open what the table is told with, and none of the definitions that it is about.
+-- The checked examples of document 01 one by one, in the words of the definitions; their sentences stand in specs/Table. Each law is read
+-- off the table's single statement. What it opens are the words that the table is told with and the port's names for runs of accesses, and not
+-- what an access, a field or a grant does.
 use Prim.Native.Nat.{ℕ}
 use mathlib.Core.Path.{_≡_, refl}
 use mathlib.Core.Bool.{Bool}
@@ -18,9 +19,11 @@ use Rattle.port.specs.declared.Cycle.{Cycle}
 use Rattle.port.specs.declared.Cycle.the-variants.{Inside, Empty}
 use Rattle.fields.specs.Answers.{taken, taken-signed, put-answer, put-memory}
 use Rattle.checked.specs.Acts.{seen, later, replay, replayed, after-all}
-use Rattle.checked.specs.Table.{INCR, INCW, held, hollow, controlled, three-words, all-waiting, row-1, row-2, row-3, row-4, row-5, row-6, row-7, row-8, row-9, row-10, table}
+use Rattle.checked.specs.Table.{INCR, INCW, held, hollow, controlled, three-words, all-waiting}
+use Rattle.checked.specs.Table.{row-1, row-2, row-3, row-4, row-5, row-6, row-7, row-8, row-9, row-10, table}
 use Rattle.checked.proofs.Holds.{table-holds}
-use Rattle.checked.proofs.Rows.{shown, same-answer, same-put, same-taken, same-signed, same-grant, same-number, same, same-words}
+use Rattle.checked.proofs.Rows.{step-holds}
+use Rattle.checked.proofs.Rows.{same-answer, same-put, same-taken, same-signed, same-grant, same-number, same-look, same-words}
 
 abbrev gave : ℕ → Bool → Cycle → Answer
 gave w h c = record { number = 0; word = w; hollow = h; cycle = c }
@@ -36,8 +39,8 @@ pub K1 :
     (ends s (reading 3) .registers .pointer .0 ≡ 0x30)
 unfolding table row-1 replayed replay seen later loading reading answers ends bit
 K1 =
-    let line = shown table-holds 0 in
-    (same-answer (line 2) then same-answer (line 3) then same-answer (line 4) then refl, same (line 5))
+    let line = step-holds table-holds 0 in
+    (same-answer (line 2) then same-answer (line 3) then same-answer (line 4) then refl, same-look (line 5))
 
 pub K2 :
     let s = ends (loaded (controlled INCR three-words) (address 0)) (reading 3) in
@@ -45,8 +48,8 @@ pub K2 :
     (after s (Read 2 3) .registers .pointer .0 ≡ 0x40)
 unfolding table row-1 row-2 replayed replay after-all seen later loading reading ends bit
 K2 =
-    let line = shown table-holds 1 in
-    (same-answer (line 0), same (line 1))
+    let line = step-holds table-holds 1 in
+    (same-answer (line 0), same-look (line 1))
 
 pub K3 :
     let s = ends (loaded (controlled INCW three-words) (address 0)) (save 2 0xAAAA ∷ []) in
@@ -54,8 +57,8 @@ pub K3 :
     (ends s (reading 2) .registers .pointer .0 ≡ 0x10)
 unfolding table row-3 replayed replay seen later loading reading answers ends bit
 K3 =
-    let line = shown table-holds 2 in
-    (same-answer (line 3) then same-answer (line 4) then refl, same (line 5))
+    let line = step-holds table-holds 2 in
+    (same-answer (line 3) then same-answer (line 4) then refl, same-look (line 5))
 
 pub K4 :
     let s = loaded (controlled INCR three-words) (address 0xFFFFFFF0) in
@@ -66,8 +69,8 @@ pub K4 :
     (t .registers .latch ≡ 0x1111)
 unfolding table row-4 replayed replay seen later loading ends bit
 K4 =
-    let line = shown table-holds 3 in
-    (same (line 2), same-answer (line 3), same (line 4), same (line 5))
+    let line = step-holds table-holds 3 in
+    (same-look (line 2), same-answer (line 3), same-look (line 4), same-look (line 5))
 
 pub K5 :
     let s = after (controlled 0x80 []) (Write 3 1 0x0D) in
@@ -75,19 +78,23 @@ pub K5 :
     (lo (after s (Write 3 1 0xF0) .registers .control) ≡ 0x08)
 unfolding table row-5 replayed replay seen later
 K5 =
-    let line = shown table-holds 4 in
-    (same (line 1), same (line 3))
+    let line = step-holds table-holds 4 in
+    (same-look (line 1), same-look (line 3))
 
-pub K6 : lo (processor-writes (fresh 0x0D) 3 0xF0 .registers .control) ≡ 0xF5
+pub K6 :
+    let w = processor-writes (fresh 0x0D) 3 0xF0 in
+    (w .number ≡ 0) × (lo (w .registers .control) ≡ 0xF5)
 unfolding table row-6 replayed replay seen later
-K6 = same (shown table-holds 5 1)
+K6 =
+    let line = step-holds table-holds 5 in
+    (same-number (line 0), same-look (line 1))
 
 pub K7 :
     (put-memory (0 ∷ 0 ∷ []) (address 14) 4 0xA ≡ 0x8000 ∷ 0x0002 ∷ []) ×
     (put-answer 2 (address 14) 4 ≡ record { number = 0; cycles = 4 })
 unfolding table row-7 replayed replay seen later
 K7 =
-    let line = shown table-holds 6 in
+    let line = step-holds table-holds 6 in
     (same-words (line 1), same-put (line 0))
 
 pub K8 :
@@ -96,7 +103,7 @@ pub K8 :
     (taken-signed m (address 14) 4 ≡ record { number = 0; value = negℤ (pos 6); cycles = 2 })
 unfolding table row-7 row-8 replayed replay after-all seen later
 K8 =
-    let line = shown table-holds 7 in
+    let line = step-holds table-holds 7 in
     (same-taken (line 0), same-signed (line 1))
 
 pub K9 :
@@ -104,7 +111,7 @@ pub K9 :
     (put-answer 3 (address 1) 32 ≡ record { number = 0; cycles = 5 })
 unfolding table row-9 replayed replay seen later
 K9 =
-    let line = shown table-holds 8 in
+    let line = step-holds table-holds 8 in
     (same-words (line 1), same-put (line 0))
 
 -- a grant answers this number and this source
@@ -112,12 +119,20 @@ abbrev Grants : Bus → ℕ → ℕ → Type 0
 Grants b n s = (granted b .number ≡ n) × (granted b .source ≡ s)
 
 pub K10 :
-    let b = released (granted all-waiting .bus) .bus in
+    let freed = released (granted all-waiting .bus) in
+    let b = granted (freed .bus) .bus in
     let c = granted b .bus in
     let d = granted c .bus in
-    let e = granted d .bus in
-    Grants all-waiting 0 0 × Grants b 0 1 × Grants c 0 2 × Grants d 0 3 × Grants e 0 4 × Grants (granted e .bus) 8 0
+    Grants all-waiting 0 0 × (freed .number ≡ 0) ×
+    Grants (freed .bus) 0 1 × Grants b 0 2 × Grants c 0 3 × Grants d 0 4 × Grants (granted d .bus) 8 0
 unfolding table row-10 replayed replay seen later
 K10 =
-    let line = shown table-holds 9 in
-    (same-grant (line 0), same-grant (line 2), same-grant (line 3), same-grant (line 4), same-grant (line 5), same-grant (line 6))
+    let line = step-holds table-holds 9 in (
+      same-grant (line 0),
+      same-number (line 1),
+      same-grant (line 2),
+      same-grant (line 3),
+      same-grant (line 4),
+      same-grant (line 5),
+      same-grant (line 6),
+    )

@@ -1,4 +1,4 @@
--- Document 01's ten checked examples, proved over the definitions as one table with a single statement: played again by the definitions, the
+-- Document 01's ten checked examples, proved over the definitions as one table with a single statement: replayed by the definitions, the
 -- table is what it was. By computation.
 use mathlib.Core.Path.{_≡_, refl}
 use mathlib.Core.List.{map}

@@ -1,7 +1,8 @@
--- The rows of a table that holds: each step of each row shows what the table says.
---   row t n            the n-th row of a table
---   step-of e i        what the i-th step of an example says
---   shown holds n i    the i-th step of the n-th row shows that, by the definitions
+-- A table that holds, row by row and step by step. Rows and steps are counted from 0.
+--   row t n, line e i    the n-th row of a table; what must come out of the i-th step of an example
+--   row-holds            the n-th row of a table that holds is what the definitions make of it
+--   step-holds           so is what comes out of its i-th step
+--   same-..              what two equal lines say is equal
 use Prim.Native.Nat.{ℕ}
 use mathlib.Core.Path.{_≡_, ap, sym, _∙_}
 use mathlib.Core.List.{List, [], _∷_, map}
@@ -11,7 +12,8 @@ use Rattle.port.specs.declared.Answer.{Answer}
 use Rattle.fields.specs.declared.Put.{Put}
 use Rattle.fields.specs.declared.Taken.{Taken}
 use Rattle.fields.specs.declared.SignedTaken.{SignedTaken}
-use Rattle.checked.specs.Acts.{Seen, Step, Example, _⇒_, memory, answered, put-in, taken-out, taken-out-signed, granted-to, number, is, words, replay, replayed}
+use Rattle.checked.specs.Acts.{Seen, Step, Example, _⇒_, memory, replay, replayed}
+use Rattle.checked.specs.Acts.{answered, put-in, taken-out, taken-out-signed, granted-to, number, is, words}
 use Rattle.checked.specs.Table.{at-rest}
 
 -- what stands for a row or a step that a table does not have
@@ -24,18 +26,17 @@ no-step = memory ⇒ words []
 abbrev pub row : List Example → ℕ → Example
 row t n = getD t n no-steps
 
-abbrev pub step-of : Example → ℕ → Seen
-step-of e i = getD (e .steps) i no-step .what
+abbrev pub line : Example → ℕ → Seen
+line e i = getD (e .steps) i no-step .what
 
--- A row of a table that holds, holds.
 pub row-holds : {t : List Example} → map replayed t ≡ t → (n : ℕ) → replayed (row t n) ≡ row t n
 unfolding replayed replay
 row-holds {t} holds n = sym (List·getD-map replayed t n no-steps) ∙ ap (λ (x : List Example). row x n) holds
 
-pub shown : {t : List Example} → map replayed t ≡ t → (n i : ℕ) → step-of (replayed (row t n)) i ≡ step-of (row t n) i
-shown holds n i = ap (λ (e : Example). step-of e i) (row-holds holds n)
+pub step-holds : {t : List Example} → map replayed t ≡ t → (n i : ℕ) → line (replayed (row t n)) i ≡ line (row t n) i
+step-holds holds n i = ap (λ (e : Example). line e i) (row-holds holds n)
 
--- ---- what two equal lines have in common
+-- ---- lines
 
 pub same-answer : {x y : Answer} → answered x ≡ answered y → x ≡ y
 same-answer e = cc
@@ -55,8 +56,8 @@ same-grant e = (cc, cc)
 pub same-number : {m n : ℕ} → number m ≡ number n → m ≡ n
 same-number e = cc
 
-pub same : {m n : ℕ} → is m ≡ is n → m ≡ n
-same e = cc
+pub same-look : {m n : ℕ} → is m ≡ is n → m ≡ n
+same-look e = cc
 
 pub same-words : {x y : List ℕ} → words x ≡ words y → x ≡ y
 same-words e = cc

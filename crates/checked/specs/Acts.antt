@@ -1,4 +1,4 @@
--- What an example is told with: document 01, 'Checked examples'. An example is a script with two columns: what is done or looked at, and what
+-- What an example is told with: document 01, 'Checked examples'. An example is a script in two columns: what is done or looked at, and what
 -- comes out. Nothing here says how the model behaves: `seen` and `later` hand each act to the definitions of the other crates.
 --   World              all that an act can change: the registers with the memory, and the bus
 --   Act                what is done, or looked at

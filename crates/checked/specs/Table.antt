@@ -1,10 +1,13 @@
--- The ten checked examples of document 01, 'Checked examples', each row under its sentence. Each step is an act, ⇒, and what must come out.
---   INCR, INCW         the control word with that bit alone: "INCW 11, INCR 12, LBL 13"
+-- The ten checked examples: document 01, 'Checked examples', each row under its sentence. A step is what is done or looked at, ⇒, and what
+-- must come out. A host's access is `Read register lanes` or `Write register lanes word`. The pointer is loaded by writes of its two halves; with
+-- LBL 0 the high one fetches. A row that goes on where another ended starts with what that one left.
+--   INCW, INCR         the control word with that bit alone: "INCW 11, INCR 12"
 --   held, hollow       the hollow mark of a read of HSTDATA
 --   no-mark            that of any other access
---   answer n w h c     a host's answer: "number, word, hollow mark .., and the cycle"
---   controlled c m     registers as reset leaves them but for the control word c, and a memory
+--   answer n w h c     what the host is answered: "number, word .., hollow mark .., and the cycle"
+--   controlled c m     the registers as reset leaves them, but for the control word c; and a memory
 --   at-rest s          no bus request waits
+--   table              the ten rows
 use Prim.Native.Nat.{ℕ, _^_}
 use mathlib.Core.Bool.{Bool, true, false}
 use mathlib.Core.List.{List, [], _∷_}
@@ -17,7 +20,9 @@ use Rattle.port.specs.Runs.{Machine}
 use Rattle.port.specs.declared.Access.the-variants.{Read, Write}
 use Rattle.port.specs.declared.Cycle.{Cycle}
 use Rattle.port.specs.declared.Cycle.the-variants.{None, Inside, Empty}
-use Rattle.checked.specs.Acts.{World, Seen, Example, _⇒_, left, host, processor, put, take, take-signed, grant, release, pointer, hstdata, low-control-byte, memory, answered, put-in, taken-out, taken-out-signed, granted-to, number, is, words}
+use Rattle.checked.specs.Acts.{World, Seen, Example, _⇒_, left}
+use Rattle.checked.specs.Acts.{host, processor, put, take, take-signed, grant, release, pointer, hstdata, low-control-byte, memory}
+use Rattle.checked.specs.Acts.{answered, put-in, taken-out, taken-out-signed, granted-to, number, is, words}
 
 abbrev pub INCW : ℕ
 INCW = 2 ^ 11
@@ -160,10 +165,10 @@ row-9 =
           [];
     }
 
--- K10. "All five waiting, hold released after its grant: 1, 2, 3, 4, then number 8."
 abbrev pub all-waiting : Bus
 all-waiting = record { hold = true; screen = true; dram = true; host = true; processor = true }
 
+-- K10. "All five waiting, hold released after its grant: 1, 2, 3, 4, then number 8."
 unfoldable pub row-10 : Example
 row-10 =
     record {
