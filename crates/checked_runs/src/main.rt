@@ -4,10 +4,12 @@
 // other call prints its number first.
 // The stored output was worked out by hand from document 01.
 ghost use mathlib.Core.Path.{_≡_};
+ghost use Rattle.words.specs.Addresses.{address};
 ghost use Rattle.bus.specs.Order.{granted};
 ghost use Rattle.port.specs.Host.{Accessed};
 ghost use Rattle.port.specs.Processor.{fresh};
 ghost use Rattle.port.specs.declared.Access.the-variants.{Read, Write};
+ghost use Rattle.fields.specs.Answers.{put-memory};
 use bus::Bus;
 use bus::Granted;
 use port::Access;
@@ -184,7 +186,9 @@ fn print_memory(memory: &[u16]) {
 }
 
 // Puts a field in, and prints the memory, its first three words at most.
-fn put(memory: &mut [u16], size: u32, at: u32, value: u32) {
+fn put(memory: &mut [u16], size: u32, at: u32, value: u32)
+    ensures { λ _. ⌜ now (memory .exit) ≡ put-memory (now (memory .entry)) (address at) size value ⌝ }
+{
     let answer = fields::put_in(memory, BitAddress(at), size, value);
     print_number(b"put size ", size as u64);
     print_number(b" at bit ", at as u64);
