@@ -117,11 +117,12 @@ fn write(r: Registers, memory: &mut [u16], register: u32, lanes: u32, word: u16)
     o
 }
 
-fn run_table() {
+// INCR 1, the pointer loaded by its two halves, and four reads.
+fn run_reads(title: &[u8], low_half: u16, high_half: u16) {
     let mut memory = [0x1111, 0x2222, 0x3333];
-    io::write_all(1, b"K1 and K2: INCR 1, pointer loaded with 0, four reads\n");
-    let low = write(controlled(0x1000), &mut memory, 0, 3, 0x0000);
-    let high = write(low.registers, &mut memory, 1, 3, 0x0000);
+    io::write_all(1, title);
+    let low = write(controlled(0x1000), &mut memory, 0, 3, low_half);
+    let high = write(low.registers, &mut memory, 1, 3, high_half);
     let first = read(high.registers, &mut memory);
     let second = read(first.registers, &mut memory);
     let third = read(second.registers, &mut memory);
@@ -138,15 +139,6 @@ fn run_store() {
     let high = write(low.registers, &mut memory, 1, 3, 0x0000);
     let stored = write(high.registers, &mut memory, 2, 3, 0xaaaa);
     let first = read(stored.registers, &mut memory);
-    read(first.registers, &mut memory);
-}
-
-fn run_top() {
-    let mut memory = [0x1111, 0x2222, 0x3333];
-    io::write_all(1, b"K4: INCR 1, pointer loaded with FFFFFFF0h, two reads\n");
-    let low = write(controlled(0x1000), &mut memory, 0, 3, 0xfff0);
-    let high = write(low.registers, &mut memory, 1, 3, 0xffff);
-    let first = read(high.registers, &mut memory);
     read(first.registers, &mut memory);
 }
 
@@ -281,9 +273,17 @@ fn run_bus() {
 }
 
 fn main() {
-    run_table();
+    run_reads(
+        b"K1 and K2: INCR 1, pointer loaded with 0, four reads\n",
+        0x0000,
+        0x0000,
+    );
     run_store();
-    run_top();
+    run_reads(
+        b"K4: INCR 1, pointer loaded with FFFFFFF0h, four reads\n",
+        0xfff0,
+        0xffff,
+    );
     run_control();
     run_fields();
     run_sizes();
