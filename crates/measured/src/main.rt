@@ -128,7 +128,7 @@ fn run_fields(script: &[u8], memory: &mut [u16]) {
 }
 
 fn main() {
-    let mut input = [0u8; 65536];
+    let mut input = io::large_buffer();
     let mut memory = [0u16; 32768];
     let mut list = [0u16; 4096];
     let n = io::read_full(0, &mut input);
