@@ -1,0 +1,151 @@
+-- `trial::turns::run_lines` meets its contract: after i turns the world and the output are those of the first i lines.
+use borrow.Author.Needs.{needs}
+use Prim.Native.Nat.{ℕ, _+_, _*_, _-_, _/_, _≤_, _<_}
+use native.Mathlib.Numerals.{add-one}
+use native.Mathlib.Omega.{arith}
+use mathlib.Core.Bool.{true, false, _&&_}
+use mathlib.Core.Path.{_≡_, refl, sym, ap, _∙_}
+use mathlib.Core.List.{List, [], _++_}
+use lib.ListN.{length, take}
+use borrow.Rule.Slice.PartMut.{putMid}
+use Rattle.block.proofs.Lent.{part-length, part-is}
+use Rattle.trial.proofs.Lent.{pushed}
+use Rattle.trial.specs.Script.{is-call, call-in}
+use Rattle.trial.specs.Answers.{line-of}
+use Rattle.trial.specs.Calls.{Carried}
+use Rattle.trial.specs.Runs.{World, world, line-at, answered, called, all-calls, after-lines, printed}
+use Rattle.trial.specs.declared.Call.{Call}
+use Rattle.trial.specs.declared.State.{State}
+use Rattle.trial.specs.declared.Done.{Done}
+use Rattle.trial.proofs.turns.run_lines.Statement.{statement}
+use Rattle.trial.proofs.turns.run_lines.Tie as tie
+
+record Running (w : World) (input output₀ : List ℕ) (state : State) (room list output : List ℕ) (i : ℕ) : Type 0 where
+  most : i ≤ length input / 38
+  size : length output ≡ length output₀
+  rooms : length room ≡ length (w .room)
+  lists : length list ≡ length (w .list)
+  calls : all-calls input i ≡ true
+  left : world state room list ≡ after-lines w input i
+  out : take (47 * i) output ≡ printed w input i
+
+abbrev Inv-loop : tie.InvT-loop
+Inv-loop room₀ list₀ input output₀ state₀ i₀ room list output state i =
+    Running (world state₀ room₀ list₀) input output₀ state room list output i
+
+abbrev μ-loop : tie.MeasureT-loop
+μ-loop room₀ list₀ input output₀ state₀ i₀ room list output state i =
+    length input / 38 - i
+
+loop-holds : tie.Need-loop-holds Inv-loop μ-loop
+unfolding all-calls after-lines printed
+loop-holds c =
+    record { most = omega arith; size = refl; rooms = refl; lists = refl; calls = refl; left = refl; out = refl }
+
+mul-from : tie.Need-mul-from Inv-loop μ-loop
+mul-from c = omega (arith, c .before .loop .inv .most)
+
+add-to : tie.Need-add-to Inv-loop μ-loop
+add-to c = omega (arith, c .before .loop .inv .most)
+
+sub-line : tie.Need-sub-line Inv-loop μ-loop
+sub-line c = search needs
+
+part-line-start : tie.Need-part-line-start Inv-loop μ-loop
+part-line-start c = search needs
+
+part-line-end : tie.Need-part-line-end Inv-loop μ-loop
+part-line-end c = omega (arith, c .before .loop .inv .most)
+
+is-call-requires : tie.Need-is-call-requires Inv-loop μ-loop
+is-call-requires c κs = part-length _ _ _ (omega arith)
+
+call-in-requires : tie.Need-call-in-requires Inv-loop μ-loop
+call-in-requires c κs = part-length _ _ _ (omega arith)
+
+carry-out-requires : tie.Need-carry-out-requires Inv-loop μ-loop
+carry-out-requires c κs = tt
+
+mul-at : tie.Need-mul-at Inv-loop μ-loop
+mul-at c = omega (arith, c .before .before .before .before .before .before .before .before .before .before .before .before .loop .inv .most)
+
+add-end : tie.Need-add-end Inv-loop μ-loop
+add-end c = omega (arith, c .before .before .before .before .before .before .before .before .before .before .before .before .loop .inv .most)
+
+sub-put-line : tie.Need-sub-put-line Inv-loop μ-loop
+sub-put-line c = search needs
+
+part-put-line-start : tie.Need-part-put-line-start Inv-loop μ-loop
+part-put-line-start c = search needs
+
+part-put-line-end : tie.Need-part-put-line-end Inv-loop μ-loop
+part-put-line-end c = omega (arith, c .before .before .before .before .before .before .before .before .before .before .before .before .loop .inv .size)
+
+put-line-requires : tie.Need-put-line-requires Inv-loop μ-loop
+put-line-requires c κs = part-length _ _ _ (omega arith)
+
+add-i : tie.Need-add-i Inv-loop μ-loop
+add-i c = omega arith
+
+loop-less : tie.Need-loop-less Inv-loop μ-loop
+loop-less c = omega arith
+
+loop-again : tie.Need-loop-again Inv-loop μ-loop
+loop-again c = ?
+
+same-length : tie.Need-same-length Inv-loop μ-loop
+same-length c = c .before .before .before .before .loop .inv .rooms
+
+same-length-2 : tie.Need-same-length-2 Inv-loop μ-loop
+same-length-2 c = c .before .before .before .before .loop .inv .lists
+
+same-length-3 : tie.Need-same-length-3 Inv-loop μ-loop
+same-length-3 c = c .before .before .before .before .loop .inv .size
+
+returns : tie.Need-returns Inv-loop μ-loop
+returns c = ?
+
+same-length-4 : tie.Need-same-length-4 Inv-loop μ-loop
+same-length-4 c = c .before .loop .inv .rooms
+
+same-length-5 : tie.Need-same-length-5 Inv-loop μ-loop
+same-length-5 c = c .before .loop .inv .lists
+
+same-length-6 : tie.Need-same-length-6 Inv-loop μ-loop
+same-length-6 c = c .before .loop .inv .size
+
+returns-2 : tie.Need-returns-2 Inv-loop μ-loop
+returns-2 c = ?
+
+pub run-lines-spec : {M : Type 1} → statement M
+run-lines-spec =
+    tie.close
+    (tie.spec
+    Inv-loop
+    μ-loop
+    loop-holds
+    mul-from
+    add-to
+    sub-line
+    part-line-start
+    part-line-end
+    is-call-requires
+    call-in-requires
+    carry-out-requires
+    mul-at
+    add-end
+    sub-put-line
+    part-put-line-start
+    part-put-line-end
+    put-line-requires
+    add-i
+    loop-less
+    loop-again
+    same-length
+    same-length-2
+    same-length-3
+    returns
+    same-length-4
+    same-length-5
+    same-length-6
+    returns-2)
