@@ -34,8 +34,16 @@ both-requires-4 c κs = tt
 returns : tie.Need-returns
 unfolding shaped
 returns c =
-    rw (c .both4 .ensures, c .before .before .before .before .before .before .both .ensures, c .before .both3 .ensures, c .before .before .before .both2 .ensures, c .before .before .before .before .before .before .before .before .is-number .ensures, c .before .before .before .before .before .before .before .is-number2 .ensures, c .before .before .before .before .before .is-number3 .ensures,
-    c .before .before .before .before .is-number4 .ensures)
+    rw (
+      c .both4 .ensures,
+      c .before .before .before .before .before .before .both .ensures,
+      c .before .both3 .ensures,
+      c .before .before .before .both2 .ensures,
+      c .before .before .before .before .before .before .before .before .is-number .ensures,
+      c .before .before .before .before .before .before .before .is-number2 .ensures,
+      c .before .before .before .before .before .is-number3 .ensures,
+      c .before .before .before .before .is-number4 .ensures,
+    )
 
 pub is-shaped-spec : {M : Type 1} → statement M
 is-shaped-spec =

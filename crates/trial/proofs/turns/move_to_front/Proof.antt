@@ -39,7 +39,7 @@ module _ {from to : ℕ} {bytes₀ bytes : List ℕ} {count i : ℕ} (k : Moving
         still = rw add-one (drop-set-lt (suc i) bytes i b (omega arith) ∙ more);
         many = k .many;
       }
-      where
+    where
       one-more : (l : List ℕ) → drop (suc i) l ≡ drop 1 (drop i l)
       one-more l = let e : suc i ≡ i + 1 = omega arith in ap (λ (n : ℕ). drop n l) e ∙ sym (drop-drop 1 i l)
 

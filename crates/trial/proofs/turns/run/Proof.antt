@@ -1,79 +1,84 @@
+-- `trial::turns::run` meets its needs: what is left of a line begun is always in the input.
+use borrow.Author.Needs.{needs}
+use Prim.Native.Nat.{ℕ, _≤_}
+use native.Mathlib.Omega.{arith}
+use mathlib.Core.List.{List}
+use mathlib.Core.Path.{_≡_, refl, _∙_}
+use lib.ListN.{length}
 use Rattle.trial.proofs.turns.run.Statement.{statement}
 use Rattle.trial.proofs.turns.run.Tie as tie
-use Rattle.trial.proofs.turns.run.Reads as reads
-use Rattle.trial.proofs.turns.run.Lts as lts
-use Rattle.trial.proofs.setting.first_state.Reads as first-state-reads
-use Rattle.trial.proofs.turns.take_turn.Reads as take-turn-reads
+
+record Kept (room₀ list₀ input₀ output₀ room list input output : List ℕ) (have : ℕ) : Type 0 where
+  left : have ≤ length input
+  rooms : length room ≡ length room₀
+  lists : length list ≡ length list₀
+  inputs : length input ≡ length input₀
+  outputs : length output ≡ length output₀
 
 abbrev Inv-loop : tie.InvT-loop
-Inv-loop room₀ list₀ input₀ output₀ state₀ have₀ turns₀ room list input output state have turns = ?
+Inv-loop room₀ list₀ input₀ output₀ state₀ have₀ turns₀ room list input output state have turns =
+    Kept room₀ list₀ input₀ output₀ room list input output have
 
 abbrev μ-loop : tie.MeasureT-loop
-μ-loop room₀ list₀ input₀ output₀ state₀ have₀ turns₀ room list input output state have turns = ?
+μ-loop room₀ list₀ input₀ output₀ state₀ have₀ turns₀ room list input output state have turns =
+    turns
 
--- src/turns.rt:143:9
 first-state-requires : tie.Need-first-state-requires Inv-loop μ-loop
-first-state-requires c κs = ?
+first-state-requires c κs = tt
 
--- src/turns.rt:146:5
 loop-holds : tie.Need-loop-holds Inv-loop μ-loop
-loop-holds c = ?
+loop-holds c = record { left = omega arith; rooms = refl; lists = refl; inputs = refl; outputs = refl }
 
--- src/turns.rt:147:13
 take-turn-requires : tie.Need-take-turn-requires Inv-loop μ-loop
-take-turn-requires c κs = ?
+take-turn-requires c κs = (c .before .before .before .before .before .loop .inv .left, omega (arith, c .before .before .before .before .before .loop .inv .inputs, c .before .before .before .before .before .loop .inv .outputs, c .before .before .before .before .before .before .before .before .before .before .before .pre))
 
--- src/turns.rt:151:9
 sub-turns : tie.Need-sub-turns Inv-loop μ-loop
-sub-turns c = ?
+sub-turns c = omega (arith, c .before .before .before .before .before .before .before .before .before .before .before .before .before .before .loop-test .taken)
 
--- src/turns.rt:146:5
 loop-less : tie.Need-loop-less Inv-loop μ-loop
-loop-less c = ?
+loop-less c = omega (arith, c .before .before .before .before .before .before .before .before .before .before .before .before .before .before .before .loop-test .taken)
 
--- src/turns.rt:146:5
 loop-again : tie.Need-loop-again Inv-loop μ-loop
-loop-again c = ?
+loop-again c =
+    let k = c .before .before .before .before .before .before .before .before .before .before .before .before .before .before .before .before .loop .inv in
+    let t = c .before .before .before .before .before .before .before .before .before .before .take-turn .kept in
+    record {
+      left = c .before .before .before .before .before .before .before .before .before .before .take-turn .ensures;
+      rooms = t .1 .0 ∙ k .rooms;
+      lists = t .1 .1 .0 ∙ k .lists;
+      inputs = t .1 .1 .1 .0 ∙ k .inputs;
+      outputs = t .1 .1 .1 .1 .0 ∙ k .outputs;
+    }
 
--- src/turns.rt:155:9
 same-length : tie.Need-same-length Inv-loop μ-loop
-same-length c = ?
+same-length c = c .before .before .before .before .before .before .before .before .before .before .take-turn .kept .1 .0 ∙ c .before .before .before .before .before .before .before .before .before .before .before .before .before .before .before .before .loop .inv .rooms
 
--- src/turns.rt:155:9
 same-length-2 : tie.Need-same-length-2 Inv-loop μ-loop
-same-length-2 c = ?
+same-length-2 c = c .before .before .before .before .before .before .before .before .before .before .take-turn .kept .1 .1 .0 ∙ c .before .before .before .before .before .before .before .before .before .before .before .before .before .before .before .before .loop .inv .lists
 
--- src/turns.rt:155:9
 same-length-3 : tie.Need-same-length-3 Inv-loop μ-loop
-same-length-3 c = ?
+same-length-3 c = c .before .before .before .before .before .before .before .before .before .before .take-turn .kept .1 .1 .1 .0 ∙ c .before .before .before .before .before .before .before .before .before .before .before .before .before .before .before .before .loop .inv .inputs
 
--- src/turns.rt:155:9
 same-length-4 : tie.Need-same-length-4 Inv-loop μ-loop
-same-length-4 c = ?
+same-length-4 c = c .before .before .before .before .before .before .before .before .before .before .take-turn .kept .1 .1 .1 .1 .0 ∙ c .before .before .before .before .before .before .before .before .before .before .before .before .before .before .before .before .loop .inv .outputs
 
--- src/turns.rt:155:9
 returns : tie.Need-returns Inv-loop μ-loop
-returns c = ?
+returns c = search needs
 
--- src/turns.rt:140:1
 same-length-5 : tie.Need-same-length-5 Inv-loop μ-loop
-same-length-5 c = ?
+same-length-5 c = c .before .loop .inv .rooms
 
--- src/turns.rt:140:1
 same-length-6 : tie.Need-same-length-6 Inv-loop μ-loop
-same-length-6 c = ?
+same-length-6 c = c .before .loop .inv .lists
 
--- src/turns.rt:140:1
 same-length-7 : tie.Need-same-length-7 Inv-loop μ-loop
-same-length-7 c = ?
+same-length-7 c = c .before .loop .inv .inputs
 
--- src/turns.rt:140:1
 same-length-8 : tie.Need-same-length-8 Inv-loop μ-loop
-same-length-8 c = ?
+same-length-8 c = c .before .loop .inv .outputs
 
--- src/turns.rt:140:1
 returns-2 : tie.Need-returns-2 Inv-loop μ-loop
-returns-2 c = ?
+returns-2 c = search needs
 
 pub run-spec : {M : Type 1} → statement M
 run-spec =

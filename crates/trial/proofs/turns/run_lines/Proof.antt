@@ -7,7 +7,7 @@ use mathlib.Core.Bool.{true, false, _&&_}
 use mathlib.Core.Path.{_≡_, refl, sym, ap, _∙_}
 use mathlib.Core.List.{List, [], _++_}
 use lib.ListN.{length, take}
-use borrow.Rule.Slice.PartMut.{putMid}
+use borrow.Rule.Slice.PartMut.{putMid, same-len-mid}
 use Rattle.block.proofs.Lent.{part-length, part-is}
 use Rattle.trial.proofs.Lent.{pushed}
 use Rattle.trial.specs.Script.{is-call, call-in}
@@ -29,6 +29,43 @@ record Running (w : World) (input output₀ : List ℕ) (state : State) (room li
   left : world state room list ≡ after-lines w input i
   out : take (47 * i) output ≡ printed w input i
 
+-- Line i is in the input.
+in-script : (input : List ℕ) (i : ℕ) → i < length input / 38 → 38 * i + 38 ≤ length input
+in-script input i h = omega arith
+
+false-true : false ≡ true → ⊥
+false-true e = let z : _≡_ {A = ℕ} 0 1 = cc in omega arith
+
+module _ {w : World} {input output₀ : List ℕ} {state : State} {room list output : List ℕ} {i : ℕ}
+    (k : Running w input output₀ state room list output i) (more : i < length input / 38)
+    (fits : 47 * (length input / 38) ≤ length output₀) where
+  -- Its answer has a place in the output.
+  in-output : 47 * i + 47 ≤ length output
+  in-output = omega (arith, k .size)
+
+  -- one line more
+  turned : {c : Call} {d : Done} {room′ list′ text : List ℕ} →
+      is-call (line-at input i) ≡ true → c ≡ call-in (line-at input i) →
+      Carried state room list c d room′ list′ → length room′ ≡ length room → length list′ ≡ length list →
+      text ≡ line-of (c .letter) d → length text ≡ 47 →
+      Running w input output₀ (d .state) room′ list′ (putMid (47 * i) (47 * i + 47 - 47 * i) output text) (i + 1)
+  unfolding all-calls after-lines printed
+  turned {c} {d} {room′} {list′} {text} good call done rooms lists written long =
+      let next : 47 * (i + 1) ≡ 47 * i + 47 = omega arith in
+      let answer : d ≡ answered (after-lines w input i) (call-in (line-at input i)) =
+      done .answer ∙ (λ t. answered (k .left t) (call t)) in
+      record {
+        most = omega arith;
+        size = same-len-mid (47 * i) (47 * i + 47 - 47 * i) output text (long ∙ sym (part-length (47 * i) 47 output in-output)) ∙ k .size;
+        rooms = rooms ∙ k .rooms;
+        lists = lists ∙ k .lists;
+        calls = rw (add-one, k .calls) good;
+        left = rw add-one ((λ t. world (done .answer t .state) (done .left t) (done .list-left t)) ∙ (λ t. called (k .left t) (call t)));
+        out = rw (next, add-one)
+            (pushed (47 * i) 47 output text in-output long ∙ (λ t. k .out t ++ written t)
+            ∙ (λ t. printed w input i ++ line-of (call t .letter) (answer t)));
+      }
+
 abbrev Inv-loop : tie.InvT-loop
 Inv-loop room₀ list₀ input output₀ state₀ i₀ room list output state i =
     Running (world state₀ room₀ list₀) input output₀ state room list output i
@@ -43,10 +80,10 @@ loop-holds c =
     record { most = omega arith; size = refl; rooms = refl; lists = refl; calls = refl; left = refl; out = refl }
 
 mul-from : tie.Need-mul-from Inv-loop μ-loop
-mul-from c = omega (arith, c .before .loop .inv .most)
+mul-from c = omega (arith, c .loop-test .taken)
 
 add-to : tie.Need-add-to Inv-loop μ-loop
-add-to c = omega (arith, c .before .loop .inv .most)
+add-to c = omega (arith, c .loop-test .taken)
 
 sub-line : tie.Need-sub-line Inv-loop μ-loop
 sub-line c = search needs
@@ -55,22 +92,22 @@ part-line-start : tie.Need-part-line-start Inv-loop μ-loop
 part-line-start c = search needs
 
 part-line-end : tie.Need-part-line-end Inv-loop μ-loop
-part-line-end c = omega (arith, c .before .loop .inv .most)
+part-line-end c = in-script (c .before .before .before .before .before .before .args .input .now) (c .before .loop .i) (c .loop-test .taken)
 
 is-call-requires : tie.Need-is-call-requires Inv-loop μ-loop
-is-call-requires c κs = part-length _ _ _ (omega arith)
+is-call-requires c κs = part-length _ 38 _ (in-script (c .before .before .before .before .before .before .before .args .input .now) (c .before .before .loop .i) (c .before .loop-test .taken))
 
 call-in-requires : tie.Need-call-in-requires Inv-loop μ-loop
-call-in-requires c κs = part-length _ _ _ (omega arith)
+call-in-requires c κs = part-length _ 38 _ (in-script (c .before .before .before .before .before .before .before .before .before .args .input .now) (c .before .before .before .before .loop .i) (c .before .before .before .loop-test .taken))
 
 carry-out-requires : tie.Need-carry-out-requires Inv-loop μ-loop
 carry-out-requires c κs = tt
 
 mul-at : tie.Need-mul-at Inv-loop μ-loop
-mul-at c = omega (arith, c .before .before .before .before .before .before .before .before .before .before .before .before .loop .inv .most)
+mul-at c = omega (arith, c .before .before .before .before .before .before .before .before .before .before .before .loop-test .taken, c .before .before .before .before .before .before .before .before .before .before .before .before .before .before .before .before .before .pre, c .before .before .before .before .before .before .before .before .before .before .before .before .before .before .before .before .before .good)
 
 add-end : tie.Need-add-end Inv-loop μ-loop
-add-end c = omega (arith, c .before .before .before .before .before .before .before .before .before .before .before .before .loop .inv .most)
+add-end c = omega (arith, c .before .before .before .before .before .before .before .before .before .before .before .loop-test .taken, c .before .before .before .before .before .before .before .before .before .before .before .before .before .before .before .before .before .pre, c .before .before .before .before .before .before .before .before .before .before .before .before .before .before .before .before .before .good)
 
 sub-put-line : tie.Need-sub-put-line Inv-loop μ-loop
 sub-put-line c = search needs
@@ -79,19 +116,27 @@ part-put-line-start : tie.Need-part-put-line-start Inv-loop μ-loop
 part-put-line-start c = search needs
 
 part-put-line-end : tie.Need-part-put-line-end Inv-loop μ-loop
-part-put-line-end c = omega (arith, c .before .before .before .before .before .before .before .before .before .before .before .before .loop .inv .size)
+part-put-line-end c = in-output (c .before .before .before .before .before .before .before .before .before .before .before .before .loop .inv) (c .before .before .before .before .before .before .before .before .before .before .before .loop-test .taken) (c .before .before .before .before .before .before .before .before .before .before .before .before .before .before .before .before .before .pre)
 
 put-line-requires : tie.Need-put-line-requires Inv-loop μ-loop
-put-line-requires c κs = part-length _ _ _ (omega arith)
+put-line-requires c κs = part-length _ 47 _ (in-output (c .before .before .before .before .before .before .before .before .before .before .before .before .before .loop .inv) (c .before .before .before .before .before .before .before .before .before .before .before .before .loop-test .taken) (c .before .before .before .before .before .before .before .before .before .before .before .before .before .before .before .before .before .before .pre))
 
 add-i : tie.Need-add-i Inv-loop μ-loop
-add-i c = omega arith
+add-i c = omega (arith, c .before .before .before .before .before .before .before .before .before .before .before .before .before .before .before .before .loop-test .taken, c .before .before .before .before .before .before .before .before .before .before .before .before .before .before .before .before .before .before .before .before .before .before .good)
 
 loop-less : tie.Need-loop-less Inv-loop μ-loop
-loop-less c = omega arith
+loop-less c = omega (arith, c .before .before .before .before .before .before .before .before .before .before .before .before .before .before .before .before .loop-test .taken)
 
 loop-again : tie.Need-loop-again Inv-loop μ-loop
-loop-again c = ?
+loop-again c =
+    let k = c .before .before .before .before .before .before .before .before .before .before .before .before .before .before .before .before .before .loop .inv in
+    let more = c .before .before .before .before .before .before .before .before .before .before .before .before .before .before .before .before .loop-test .taken in
+    let line = part-is (38 * c .before .before .before .before .before .before .before .before .before .before .before .before .before .before .before .before .before .loop .i) 38 (c .before .before .before .before .before .before .before .before .before .before .before .before .before .before .before .before .before .before .before .before .before .before .args .input .now) in
+    let call = c .before .before .before .before .before .before .before .before .before .before .before .before .call-in .ensures ∙ ap call-in line in
+    let good = sym (ap is-call line) ∙ sym (c .before .before .before .before .before .before .before .before .before .before .before .before .before .before .is-call .ensures) ∙ c .before .before .before .before .before .before .before .before .before .before .before .before .before .if1 .taken in
+    let done = c .before .before .before .before .before .before .before .before .before .carry-out .ensures in
+    let long = c .before .before .before .put-line .kept .0 ∙ part-length (47 * c .before .before .before .before .before .before .before .before .before .before .before .before .before .before .before .before .before .loop .i) 47 (c .before .before .before .before .before .before .before .before .before .before .before .before .before .before .before .before .before .loop .output) (in-output k more (c .before .before .before .before .before .before .before .before .before .before .before .before .before .before .before .before .before .before .before .before .before .before .pre)) in
+    turned k more (c .before .before .before .before .before .before .before .before .before .before .before .before .before .before .before .before .before .before .before .before .before .before .pre) good call done (c .before .before .before .before .before .before .before .before .before .carry-out .kept .1 .0) (c .before .before .before .before .before .before .before .before .before .carry-out .kept .1 .1 .0) (c .before .before .before .put-line .ensures) long
 
 same-length : tie.Need-same-length Inv-loop μ-loop
 same-length c = c .before .before .before .before .loop .inv .rooms
@@ -103,7 +148,11 @@ same-length-3 : tie.Need-same-length-3 Inv-loop μ-loop
 same-length-3 c = c .before .before .before .before .loop .inv .size
 
 returns : tie.Need-returns Inv-loop μ-loop
-returns c = ?
+returns c =
+    let k = c .before .before .before .before .loop .inv in
+    let line = part-is (38 * c .before .before .before .before .loop .i) 38 (c .before .before .before .before .before .before .before .before .before .args .input .now) in
+    let bad = sym (ap is-call line) ∙ sym (c .before .is-call .ensures) ∙ c .if1 .left in
+    record { calls = k .calls; whole = λ e. absurd (false-true e); cut = λ _. (c .before .before .before .loop-test .taken, bad); left = k .left; written = k .out }
 
 same-length-4 : tie.Need-same-length-4 Inv-loop μ-loop
 same-length-4 c = c .before .loop .inv .rooms
@@ -115,7 +164,10 @@ same-length-6 : tie.Need-same-length-6 Inv-loop μ-loop
 same-length-6 c = c .before .loop .inv .size
 
 returns-2 : tie.Need-returns-2 Inv-loop μ-loop
-returns-2 c = ?
+returns-2 c =
+    let k = c .before .loop .inv in
+    let all : c .before .loop .i ≡ length (c .before .before .before .before .before .before .args .input .now) / 38 = omega (arith, k .most, c .loop-test .left) in
+    record { calls = k .calls; whole = λ _. all; cut = λ e. absurd (false-true (sym e)); left = k .left; written = k .out }
 
 pub run-lines-spec : {M : Type 1} → statement M
 run-lines-spec =
