@@ -6,7 +6,8 @@
 --   after-lines w s n the world after them
 --   printed w s n     what is printed of them
 --   RanLines          what carrying out the whole lines of a piece of the input leaves
-use Prim.Native.Nat.{ℕ, zero, suc, _*_, _/_, _<_}
+--   TookTurn          what a turn leaves
+use Prim.Native.Nat.{ℕ, zero, suc, _*_, _/_, _≤_, _<_}
 use mathlib.Core.Bool.{Bool, true, false, _&&_}
 use mathlib.Core.List.{List, [], _++_}
 use mathlib.Core.Path.{_≡_}
@@ -18,6 +19,7 @@ use Rattle.trial.specs.declared.Call.{Call}
 use Rattle.trial.specs.declared.State.{State}
 use Rattle.trial.specs.declared.Done.{Done}
 use Rattle.trial.specs.declared.turns.Ran.{Ran}
+use Rattle.trial.specs.declared.turns.Turn.{Turn}
 
 pub record World : Type 0 where
   pub state : State
@@ -58,8 +60,15 @@ printed w s (suc n) =
 
 -- "Anything else in the input .. ends the run ..; the calls before it are carried out"
 pub record RanLines (w : World) (s : List ℕ) (r : Ran) (room list output : List ℕ) : Type 0 where
+  pub most : r .calls ≤ length s / 38
   pub calls : all-calls s (r .calls) ≡ true
-  pub whole : r .good ≡ true → r .calls ≡ length s / 38
-  pub cut : r .good ≡ false → (r .calls < length s / 38) × (is-call (line-at s (r .calls)) ≡ false)
+  pub cut : r .calls < length s / 38 → is-call (line-at s (r .calls)) ≡ false
   pub left : world (r .state) room list ≡ after-lines w s (r .calls)
   pub written : take (47 * r .calls) output ≡ printed w s (r .calls)
+
+-- what a turn leaves: of the bytes that it read, which nothing here can know, it carried out some lines, all of them calls
+pub record TookTurn (w : World) (t : Turn) (room list : List ℕ) : Type 0 where
+  pub script : List ℕ
+  pub lines : ℕ
+  pub calls : all-calls script lines ≡ true
+  pub left : world (t .state) room list ≡ after-lines w script lines

@@ -3,7 +3,7 @@
 --   digits-from s at n        n digits stand in s from place at on
 --   number-from s at n        the number that they say
 --   has-number s at           a space and eight digits stand at a place
---   port-letter .. whole-letter, known   the letters, by what they are calls of
+--   host-letter .. lent-letter, known   the letters, by what they are calls of
 --   shaped, is-call           a line has the shape, and is a call
 --   call-in s                 the call that it says
 use Prim.Native.Nat.{ℕ, zero, suc, _+_, _*_, _%_}
@@ -35,9 +35,13 @@ has-number s at = eqb (getD s at 0) 0x20 && digits-from s (at + 1) 8
 
 -- ---- the letters
 
--- R, W, P, Q
-unfoldable pub port-letter : ℕ → Bool
-port-letter l = (eqb l 0x52 || eqb l 0x57) || (eqb l 0x50 || eqb l 0x51)
+-- R, W
+unfoldable pub host-letter : ℕ → Bool
+host-letter l = eqb l 0x52 || eqb l 0x57
+
+-- P, Q
+unfoldable pub processor-letter : ℕ → Bool
+processor-letter l = eqb l 0x50 || eqb l 0x51
 
 -- T, S, F
 unfoldable pub field-letter : ℕ → Bool
@@ -59,10 +63,15 @@ setting-letter l = (eqb l 0x4e || eqb l 0x4c) || (eqb l 0x47 || eqb l 0x5a)
 unfoldable pub whole-letter : ℕ → Bool
 whole-letter l = eqb l 0x4d || (eqb l 0x4a || eqb l 0x44)
 
+-- of the calls that are lent nothing, and of those that are lent memory
+unfoldable pub plain-letter : ℕ → Bool
+plain-letter l = processor-letter l || (bus-letter l || setting-letter l)
+
+unfoldable pub lent-letter : ℕ → Bool
+lent-letter l = host-letter l || (field-letter l || block-letter l)
+
 unfoldable pub known : ℕ → Bool
-known l =
-    (port-letter l || field-letter l)
-    || ((bus-letter l || block-letter l) || (setting-letter l || whole-letter l))
+known l = plain-letter l || (whole-letter l || lent-letter l)
 
 -- ---- a line
 

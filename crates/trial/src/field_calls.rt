@@ -1,10 +1,10 @@
 // The calls on fields: T and S take one out, F puts one in.
 ghost use mathlib.Core.Path.{_≡_};
-ghost use Rattle.trial.specs.Calls.{modulo, take-answer, signed-answer, PutDone, FieldDone};
+ghost use Rattle.trial.specs.Calls.{modulo, FieldDone};
 use crate::Call;
 use crate::Done;
 use crate::State;
-use crate::setting::least;
+use crate::setting::answer;
 use words::BitAddress;
 
 // A signed number modulo 2^32.
@@ -19,61 +19,19 @@ fn modulo_of(value: i32) -> u32
     value as u32
 }
 
-// A field taken out of the lent part of the room.
-fn take(s: State, room: &[u16], at: BitAddress, size: u32) -> Done
-    ensures { λ d. ⌜ d ≡ take-answer s (now (room .entry)) at size ⌝ }
-{
-    let start = 0;
-    let end = least(s.length, room.len());
-    let t = fields::take_out(&room[start..end], at, size);
-    Done {
-        state: s,
-        number: t.number,
-        x: t.value,
-        y: t.cycles,
-    }
-}
-
-// The same, signed.
-fn take_signed(s: State, room: &[u16], at: BitAddress, size: u32) -> Done
-    ensures { λ d. ⌜ d ≡ signed-answer s (now (room .entry)) at size ⌝ }
-{
-    let start = 0;
-    let end = least(s.length, room.len());
-    let t = fields::take_out_signed(&room[start..end], at, size);
-    Done {
-        state: s,
-        number: t.number,
-        x: modulo_of(t.value),
-        y: t.cycles,
-    }
-}
-
-// A field put into the lent part of the room.
-fn put(s: State, room: &mut [u16], at: BitAddress, size: u32, value: u32) -> Done
-    ensures { λ d. ⌜ PutDone s (now (room .entry)) at size value d (now (room .exit)) ⌝ }
-{
-    let start = 0;
-    let end = least(s.length, room.len());
-    let p = fields::put_in(&mut room[start..end], at, size, value);
-    Done {
-        state: s,
-        number: p.number,
-        x: 0,
-        y: p.cycles,
-    }
-}
-
-// The call that the letter names.
-pub(crate) fn call_fields(s: State, room: &mut [u16], call: Call) -> Done
-    ensures { λ d. ⌜ FieldDone s (now (room .entry)) call d (now (room .exit)) ⌝ }
+// T, S or F, on the lent memory.
+pub(crate) fn call_fields(s: State, memory: &mut [u16], call: Call) -> Done
+    ensures { λ d. ⌜ FieldDone s (now (memory .entry)) call d (now (memory .exit)) ⌝ }
 {
     let at = BitAddress(call.a);
     if call.letter == b'T' {
-        return take(s, room, at, call.b);
+        let t = fields::take_out(memory, at, call.b);
+        return answer(s, t.number, t.value, t.cycles);
     }
     if call.letter == b'S' {
-        return take_signed(s, room, at, call.b);
+        let t = fields::take_out_signed(memory, at, call.b);
+        return answer(s, t.number, modulo_of(t.value), t.cycles);
     }
-    put(s, room, at, call.b, call.c)
+    let p = fields::put_in(memory, at, call.b, call.c);
+    answer(s, p.number, 0, p.cycles)
 }

@@ -52,7 +52,7 @@
 //   D      x: the digest of the room. y: the digest of the list
 // Any x and y not listed here is 0. N, M, L, J, G, Z and D answer number 0. A refused call: x and y 0, the state as it stood.
 // The digest of words: it starts as 0; for each word w, in order of their places, h becomes (h * 31 + w) mod 2^32.
-mod blocks;
+mod block_calls;
 mod bus_calls;
 mod calls;
 mod field_calls;
@@ -61,6 +61,7 @@ mod port_calls;
 mod script;
 mod setting;
 mod turns;
+mod whole_calls;
 
 use bus::Bus;
 use port::Registers;
@@ -93,7 +94,5 @@ pub struct Done {
 fn main() {
     let mut room = [0u16; 32769];
     let mut list = [0u16; 8192];
-    let mut input = [0u8; 9728];
-    let mut output = [0u8; 12032];
-    turns::run(&mut room, &mut list, &mut input, &mut output);
+    turns::run(&mut room, &mut list);
 }

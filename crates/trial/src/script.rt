@@ -2,7 +2,8 @@
 ghost use mathlib.Core.Path.{_≡_};
 ghost use Prim.Native.Nat.{_+_, _≤_, _<_};
 ghost use lib.ListN.{length};
-ghost use Rattle.trial.specs.Script.{is-digit, digit-value, digits-from, number-from, has-number, port-letter, field-letter, bus-letter, block-letter, setting-letter, whole-letter, known, shaped};
+ghost use Rattle.trial.specs.Script.{is-digit, digit-value, digits-from, number-from, has-number, known, shaped};
+ghost use Rattle.trial.specs.Script.{host-letter, processor-letter, field-letter, bus-letter, block-letter, setting-letter, whole-letter, plain-letter, lent-letter};
 ghost use Rattle.trial.specs.Script.{is-call as Script·is-call, call-in as Script·call-in};
 use crate::Call;
 use words::both;
@@ -62,10 +63,16 @@ fn is_number(line: &[u8], at: usize) -> bool
 }
 
 // The letters of the calls, by what they are calls of.
-pub(crate) fn is_port_letter(l: u8) -> bool
-    ensures { λ r. ⌜ r ≡ port-letter l ⌝ }
+pub(crate) fn is_host_letter(l: u8) -> bool
+    ensures { λ r. ⌜ r ≡ host-letter l ⌝ }
 {
-    either(either(l == b'R', l == b'W'), either(l == b'P', l == b'Q'))
+    either(l == b'R', l == b'W')
+}
+
+pub(crate) fn is_processor_letter(l: u8) -> bool
+    ensures { λ r. ⌜ r ≡ processor-letter l ⌝ }
+{
+    either(l == b'P', l == b'Q')
 }
 
 pub(crate) fn is_field_letter(l: u8) -> bool
@@ -80,33 +87,50 @@ pub(crate) fn is_bus_letter(l: u8) -> bool
     either(l == b'A', either(l == b'B', l == b'C'))
 }
 
-pub(crate) fn is_block_letter(l: u8) -> bool
+fn is_block_letter(l: u8) -> bool
     ensures { λ r. ⌜ r ≡ block-letter l ⌝ }
 {
     either(l == b'I', l == b'O')
 }
 
-pub(crate) fn is_setting_letter(l: u8) -> bool
+fn is_setting_letter(l: u8) -> bool
     ensures { λ r. ⌜ r ≡ setting-letter l ⌝ }
 {
     either(either(l == b'N', l == b'L'), either(l == b'G', l == b'Z'))
 }
 
-fn is_whole_letter(l: u8) -> bool
+pub(crate) fn is_whole_letter(l: u8) -> bool
     ensures { λ r. ⌜ r ≡ whole-letter l ⌝ }
 {
     either(l == b'M', either(l == b'J', l == b'D'))
+}
+
+// Of the calls that are lent nothing.
+pub(crate) fn is_plain_letter(l: u8) -> bool
+    ensures { λ r. ⌜ r ≡ plain-letter l ⌝ }
+{
+    either(
+        is_processor_letter(l),
+        either(is_bus_letter(l), is_setting_letter(l)),
+    )
+}
+
+// Of the calls that are lent memory.
+fn is_lent_letter(l: u8) -> bool
+    ensures { λ r. ⌜ r ≡ lent-letter l ⌝ }
+{
+    either(
+        is_host_letter(l),
+        either(is_field_letter(l), is_block_letter(l)),
+    )
 }
 
 fn is_letter(l: u8) -> bool
     ensures { λ r. ⌜ r ≡ known l ⌝ }
 {
     either(
-        either(is_port_letter(l), is_field_letter(l)),
-        either(
-            either(is_bus_letter(l), is_block_letter(l)),
-            either(is_setting_letter(l), is_whole_letter(l)),
-        ),
+        is_plain_letter(l),
+        either(is_whole_letter(l), is_lent_letter(l)),
     )
 }
 

@@ -1,8 +1,7 @@
-// The state: parts of it replaced, and the calls that set it up, N, L, G and Z.
+// The state of a run: parts of it replaced, and the calls that set it, N, L, G and Z.
 ghost use mathlib.Core.Path.{_≡_};
 ghost use Prim.Native.Nat.{min};
-ghost use Rattle.trial.specs.Calls.{with-registers, with-bus, with-lengths, registers-in, woken, first-state, setting-answer};
-ghost use Rattle.trial.specs.Calls.{settled as Calls·settled};
+ghost use Rattle.trial.specs.Calls.{with-registers, with-bus, with-lengths, registers-in, woken, first-state, state-set, done};
 use crate::Call;
 use crate::Done;
 use crate::State;
@@ -69,18 +68,18 @@ fn registers_of(call: Call) -> Registers
     }
 }
 
-// The state that reset leaves.
-fn set_woken(s: State) -> State
-    ensures { λ r. ⌜ r ≡ woken s ⌝ }
+// The state that reset leaves, with these lengths.
+fn wake(length: usize, size: usize) -> State
+    ensures { λ r. ⌜ r ≡ woken length size ⌝ }
 {
-    let woken = port::reset();
-    let r = woken.registers;
-    let b = woken.bus;
+    let w = port::reset();
+    let r = w.registers;
+    let b = w.bus;
     State {
         registers: r,
         bus: b,
-        length: s.length,
-        size: s.size,
+        length,
+        size,
     }
 }
 
@@ -88,41 +87,33 @@ fn set_woken(s: State) -> State
 pub(crate) fn first_state() -> State
     ensures { λ r. ⌜ r ≡ first-state ⌝ }
 {
-    let woken = port::reset();
-    let r = woken.registers;
-    let b = woken.bus;
-    State {
-        registers: r,
-        bus: b,
-        length: 32768,
-        size: 8192,
-    }
+    wake(32768, 8192)
 }
 
-// A call that answers number 0, and no more.
-pub(crate) fn settled(s: State) -> Done
-    ensures { λ r. ⌜ r ≡ Calls·settled s ⌝ }
+// The state that N, L, G or Z leaves.
+pub(crate) fn set_state(s: State, call: Call) -> State
+    ensures { λ r. ⌜ r ≡ state-set s call ⌝ }
+{
+    if call.letter == b'N' {
+        return set_lengths(s, call.a as usize, s.size);
+    }
+    if call.letter == b'L' {
+        return set_lengths(s, s.length, call.a as usize);
+    }
+    if call.letter == b'G' {
+        return set_registers(s, registers_of(call));
+    }
+    wake(s.length, s.size)
+}
+
+// What a call answers, beside the state that it leaves.
+pub(crate) fn answer(s: State, number: u8, x: u32, y: u32) -> Done
+    ensures { λ r. ⌜ r ≡ done s number x y ⌝ }
 {
     Done {
         state: s,
-        number: 0,
-        x: 0,
-        y: 0,
+        number,
+        x,
+        y,
     }
-}
-
-// The call that the letter names.
-pub(crate) fn call_setting(s: State, call: Call) -> Done
-    ensures { λ r. ⌜ r ≡ setting-answer s call ⌝ }
-{
-    if call.letter == b'N' {
-        return settled(set_lengths(s, call.a as usize, s.size));
-    }
-    if call.letter == b'L' {
-        return settled(set_lengths(s, s.length, call.a as usize));
-    }
-    if call.letter == b'G' {
-        return settled(set_registers(s, registers_of(call)));
-    }
-    settled(set_woken(s))
 }

@@ -1,31 +1,31 @@
--- `trial::calls::carry_out` meets its contract, by its tests of the letter.
-use mathlib.Core.Path.{refl, sym, _∙_}
-use Rattle.trial.specs.Calls.{answer-to, room-after, list-after}
+-- `trial::calls::carry_out` meets its contract, by its tests of the letter; the lent parts of the room and of the list come back.
+use mathlib.Core.Path.{_≡_, refl, sym, ap, _∙_}
+use Rattle.trial.specs.Calls.{answer-to, room-after, list-after, lent-answer, lent-memory, lent-list, given-back}
+use Rattle.trial.proofs.Lent.{lent-is, back-is}
 use borrow.Author.Needs.{needs}
 use Rattle.trial.proofs.calls.carry_out.Statement.{statement}
 use Rattle.trial.proofs.calls.carry_out.Tie as tie
 
-is-port-letter-requires : tie.Need-is-port-letter-requires
-is-port-letter-requires c κs = tt
+is-plain-letter-requires : tie.Need-is-plain-letter-requires
+is-plain-letter-requires c κs = tt
 
-call-port-requires : tie.Need-call-port-requires
-call-port-requires c κs = tt
-
-same-length : tie.Need-same-length
-same-length c = search needs
+call-plain-requires : tie.Need-call-plain-requires
+call-plain-requires c κs = tt
 
 returns : tie.Need-returns
 unfolding answer-to room-after list-after
 returns c =
-    let e1 = sym (c .before .before .before .before .before .is-port-letter .ensures) ∙ c .before .before .before .before .if1 .taken in
-    let d = c .before .before .call-port .ensures in
-    record { answer = rw e1 (d .answer); left = rw e1 (d .left); list-left = rw e1 }
+    let e1 = sym (c .before .before .is-plain-letter .ensures) ∙ c .before .if1 .taken in
+    record { answer = rw e1 (c .call-plain .ensures); left = rw e1; list-left = rw e1 }
 
-is-field-letter-requires : tie.Need-is-field-letter-requires
-is-field-letter-requires c κs = tt
+is-whole-letter-requires : tie.Need-is-whole-letter-requires
+is-whole-letter-requires c κs = tt
 
-call-fields-requires : tie.Need-call-fields-requires
-call-fields-requires c κs = tt
+call-whole-requires : tie.Need-call-whole-requires
+call-whole-requires c κs = tt
+
+same-length : tie.Need-same-length
+same-length c = search needs
 
 same-length-2 : tie.Need-same-length-2
 same-length-2 c = search needs
@@ -33,30 +33,43 @@ same-length-2 c = search needs
 returns-2 : tie.Need-returns-2
 unfolding answer-to room-after list-after
 returns-2 c =
-    let e1 = sym (c .before .before .before .before .before .before .before .is-port-letter .ensures) ∙ c .before .before .before .before .before .before .if1 .left in
-    let e2 = sym (c .before .before .before .before .before .is-field-letter .ensures) ∙ c .before .before .before .before .if2 .taken in
-    let d = c .before .before .call-fields .ensures in
-    record { answer = rw (e1, e2) (d .answer); left = rw (e1, e2) (d .left); list-left = rw (e1, e2) }
+    let e1 = sym (c .before .before .before .before .before .before .before .before .before .before .is-plain-letter .ensures) ∙ c .before .before .before .before .before .before .before .before .before .if1 .left in
+    let e2 = sym (c .before .before .before .before .before .before .before .before .is-whole-letter .ensures) ∙ c .before .before .before .before .before .before .before .if2 .taken in
+    let d = c .before .before .before .before .call-whole .ensures in
+    record { answer = rw (e1, e2) (d .answer); left = rw (e1, e2) (d .left); list-left = rw (e1, e2) (d .list-left) }
 
-is-bus-letter-requires : tie.Need-is-bus-letter-requires
-is-bus-letter-requires c κs = tt
+least-requires : tie.Need-least-requires
+least-requires c κs = tt
 
-call-bus-requires : tie.Need-call-bus-requires
-call-bus-requires c κs = tt
+least-requires-2 : tie.Need-least-requires-2
+least-requires-2 c κs = tt
 
-returns-3 : tie.Need-returns-3
-unfolding answer-to room-after list-after
-returns-3 c =
-    let e1 = sym (c .before .before .before .before .before .before .is-port-letter .ensures) ∙ c .before .before .before .before .before .if1 .left in
-    let e2 = sym (c .before .before .before .before .is-field-letter .ensures) ∙ c .before .before .before .if2 .left in
-    let e3 = sym (c .before .before .is-bus-letter .ensures) ∙ c .before .if3 .taken in
-    record { answer = rw (e1, e2, e3) (c .call-bus .ensures); left = rw (e1, e2, e3); list-left = rw (e1, e2, e3) }
+mul-call-lent : tie.Need-mul-call-lent
+mul-call-lent c = search needs
 
-is-block-letter-requires : tie.Need-is-block-letter-requires
-is-block-letter-requires c κs = tt
+sub-call-lent : tie.Need-sub-call-lent
+sub-call-lent c = search needs
 
-call-block-requires : tie.Need-call-block-requires
-call-block-requires c κs = tt
+part-call-lent-start : tie.Need-part-call-lent-start
+part-call-lent-start c = search needs
+
+part-call-lent-end : tie.Need-part-call-lent-end
+part-call-lent-end c = search needs
+
+mul-call-lent-2 : tie.Need-mul-call-lent-2
+mul-call-lent-2 c = search needs
+
+sub-call-lent-2 : tie.Need-sub-call-lent-2
+sub-call-lent-2 c = search needs
+
+part-call-lent-start-2 : tie.Need-part-call-lent-start-2
+part-call-lent-start-2 c = search needs
+
+part-call-lent-end-2 : tie.Need-part-call-lent-end-2
+part-call-lent-end-2 c = search needs
+
+call-lent-requires : tie.Need-call-lent-requires
+call-lent-requires c κs = tt
 
 same-length-3 : tie.Need-same-length-3
 same-length-3 c = search needs
@@ -64,80 +77,48 @@ same-length-3 c = search needs
 same-length-4 : tie.Need-same-length-4
 same-length-4 c = search needs
 
-returns-4 : tie.Need-returns-4
+returns-3 : tie.Need-returns-3
 unfolding answer-to room-after list-after
-returns-4 c =
-    let e1 = sym (c .before .before .before .before .before .before .before .before .before .before .before .before .before .before .is-port-letter .ensures) ∙ c .before .before .before .before .before .before .before .before .before .before .before .before .before .if1 .left in
-    let e2 = sym (c .before .before .before .before .before .before .before .before .before .before .before .before .is-field-letter .ensures) ∙ c .before .before .before .before .before .before .before .before .before .before .before .if2 .left in
-    let e3 = sym (c .before .before .before .before .before .before .before .before .before .before .is-bus-letter .ensures) ∙ c .before .before .before .before .before .before .before .before .before .if3 .left in
-    let e4 = sym (c .before .before .before .before .before .before .before .before .is-block-letter .ensures) ∙ c .before .before .before .before .before .before .before .if4 .taken in
-    let d = c .before .before .before .before .call-block .ensures in
-    record { answer = rw (e1, e2, e3, e4) (d .answer); left = rw (e1, e2, e3, e4) (d .left); list-left = rw (e1, e2, e3, e4) (d .list-left) }
-
-is-setting-letter-requires : tie.Need-is-setting-letter-requires
-is-setting-letter-requires c κs = tt
-
-call-setting-requires : tie.Need-call-setting-requires
-call-setting-requires c κs = tt
-
-returns-5 : tie.Need-returns-5
-unfolding answer-to room-after list-after
-returns-5 c =
-    let e1 = sym (c .before .before .before .before .before .before .before .before .before .before .is-port-letter .ensures) ∙ c .before .before .before .before .before .before .before .before .before .if1 .left in
-    let e2 = sym (c .before .before .before .before .before .before .before .before .is-field-letter .ensures) ∙ c .before .before .before .before .before .before .before .if2 .left in
-    let e3 = sym (c .before .before .before .before .before .before .is-bus-letter .ensures) ∙ c .before .before .before .before .before .if3 .left in
-    let e4 = sym (c .before .before .before .before .is-block-letter .ensures) ∙ c .before .before .before .if4 .left in
-    let e5 = sym (c .before .before .is-setting-letter .ensures) ∙ c .before .if5 .taken in
-    record { answer = rw (e1, e2, e3, e4, e5) (c .call-setting .ensures); left = rw (e1, e2, e3, e4, e5); list-left = rw (e1, e2, e3, e4, e5) }
-
-call-whole-requires : tie.Need-call-whole-requires
-call-whole-requires c κs = tt
-
-same-length-5 : tie.Need-same-length-5
-same-length-5 c = search needs
-
-same-length-6 : tie.Need-same-length-6
-same-length-6 c = search needs
-
-returns-6 : tie.Need-returns-6
-unfolding answer-to room-after list-after
-returns-6 c =
-    let e1 = sym (c .before .before .before .before .before .before .before .before .before .before .before .before .before .before .before .before .is-port-letter .ensures) ∙ c .before .before .before .before .before .before .before .before .before .before .before .before .before .before .before .if1 .left in
-    let e2 = sym (c .before .before .before .before .before .before .before .before .before .before .before .before .before .before .is-field-letter .ensures) ∙ c .before .before .before .before .before .before .before .before .before .before .before .before .before .if2 .left in
-    let e3 = sym (c .before .before .before .before .before .before .before .before .before .before .before .before .is-bus-letter .ensures) ∙ c .before .before .before .before .before .before .before .before .before .before .before .if3 .left in
-    let e4 = sym (c .before .before .before .before .before .before .before .before .before .before .is-block-letter .ensures) ∙ c .before .before .before .before .before .before .before .before .before .if4 .left in
-    let e5 = sym (c .before .before .before .before .before .before .before .before .is-setting-letter .ensures) ∙ c .before .before .before .before .before .before .before .if5 .left in
-    let d = c .before .before .before .before .call-whole .ensures in
+returns-3 c =
+    let e1 = sym (c .before .before .before .before .before .before .before .before .before .before .before .before .is-plain-letter .ensures) ∙ c .before .before .before .before .before .before .before .before .before .before .before .if1 .left in
+    let e2 = sym (c .before .before .before .before .before .before .before .before .before .before .is-whole-letter .ensures) ∙ c .before .before .before .before .before .before .before .before .before .if2 .left in
+    let a = c .before .before .before .before .before .before .before .before .before .before .before .before .before .before .before .args in
+    let room = a .room .now in
+    let list = a .list .now in
+    let d = c .before .before .before .before .call-lent .ensures in
+    let m = lent-is (a .s .length) (c .before .before .before .before .before .before .before .before .least .result) room (c .before .before .before .before .before .before .before .before .least .ensures) in
+    let l = lent-is (a .s .size) (c .before .before .before .before .before .before .before .least2 .result) list (c .before .before .before .before .before .before .before .least2 .ensures) in
     record {
-      answer = rw (e1, e2, e3, e4, e5) (d .answer);
-      left = rw (e1, e2, e3, e4, e5) (d .left);
-      list-left = rw (e1, e2, e3, e4, e5) (d .list-left);
+      answer = rw (e1, e2) (d .answer ∙ (λ i. lent-answer (a .s) (m i) (l i) (a .call)));
+      left = rw (e1, e2) (back-is (a .s .length) (c .before .before .before .before .before .before .before .before .least .result) room (c .before .before .before .before .before .before .before .before .least .ensures) (c .before .before .before .before .call-lent .last .1 .0)
+          ∙ ap (given-back (a .s .length) room) (d .memory ∙ (λ i. lent-memory (a .s) (m i) (l i) (a .call))));
+      list-left = rw (e1, e2) (back-is (a .s .size) (c .before .before .before .before .before .before .before .least2 .result) list (c .before .before .before .before .before .before .before .least2 .ensures) (c .before .before .before .before .call-lent .last .1 .1 .0)
+          ∙ ap (given-back (a .s .size) list) (d .list ∙ (λ i. lent-list (a .s) (m i) (l i) (a .call))));
     }
 
 pub carry-out-spec : {M : Type 1} → statement M
 carry-out-spec =
     tie.close
     (tie.spec
-    is-port-letter-requires
-    call-port-requires
-    same-length
+    is-plain-letter-requires
+    call-plain-requires
     returns
-    is-field-letter-requires
-    call-fields-requires
+    is-whole-letter-requires
+    call-whole-requires
+    same-length
     same-length-2
     returns-2
-    is-bus-letter-requires
-    call-bus-requires
-    returns-3
-    is-block-letter-requires
-    call-block-requires
+    least-requires
+    least-requires-2
+    mul-call-lent
+    sub-call-lent
+    part-call-lent-start
+    part-call-lent-end
+    mul-call-lent-2
+    sub-call-lent-2
+    part-call-lent-start-2
+    part-call-lent-end-2
+    call-lent-requires
     same-length-3
     same-length-4
-    returns-4
-    is-setting-letter-requires
-    call-setting-requires
-    returns-5
-    call-whole-requires
-    same-length-5
-    same-length-6
-    returns-6)
+    returns-3)

@@ -3,9 +3,9 @@ use borrow.Author.Needs.{needs}
 use Prim.Native.Nat.{ℕ, _+_, _*_, _-_, _/_, _≤_, _<_}
 use native.Mathlib.Numerals.{add-one}
 use native.Mathlib.Omega.{arith}
-use mathlib.Core.Bool.{true, false, _&&_}
+use mathlib.Core.Bool.{true}
 use mathlib.Core.Path.{_≡_, refl, sym, ap, _∙_}
-use mathlib.Core.List.{List, [], _++_}
+use mathlib.Core.List.{List, _++_}
 use lib.ListN.{length, take}
 use borrow.Rule.Slice.PartMut.{putMid, same-len-mid}
 use Rattle.block.proofs.Lent.{part-length, part-is}
@@ -32,9 +32,6 @@ record Running (w : World) (input output₀ : List ℕ) (state : State) (room li
 -- Line i is in the input.
 in-script : (input : List ℕ) (i : ℕ) → i < length input / 38 → 38 * i + 38 ≤ length input
 in-script input i h = omega arith
-
-false-true : false ≡ true → ⊥
-false-true e = let z : _≡_ {A = ℕ} 0 1 = cc in omega arith
 
 module _ {w : World} {input output₀ : List ℕ} {state : State} {room list output : List ℕ} {i : ℕ}
     (k : Running w input output₀ state room list output i) (more : i < length input / 38)
@@ -152,7 +149,7 @@ returns c =
     let k = c .before .before .before .before .loop .inv in
     let line = part-is (38 * c .before .before .before .before .loop .i) 38 (c .before .before .before .before .before .before .before .before .before .args .input .now) in
     let bad = sym (ap is-call line) ∙ sym (c .before .is-call .ensures) ∙ c .if1 .left in
-    record { calls = k .calls; whole = λ e. absurd (false-true e); cut = λ _. (c .before .before .before .loop-test .taken, bad); left = k .left; written = k .out }
+    record { most = k .most; calls = k .calls; cut = λ _. bad; left = k .left; written = k .out }
 
 same-length-4 : tie.Need-same-length-4 Inv-loop μ-loop
 same-length-4 c = c .before .loop .inv .rooms
@@ -166,8 +163,8 @@ same-length-6 c = c .before .loop .inv .size
 returns-2 : tie.Need-returns-2 Inv-loop μ-loop
 returns-2 c =
     let k = c .before .loop .inv in
-    let all : c .before .loop .i ≡ length (c .before .before .before .before .before .before .args .input .now) / 38 = omega (arith, k .most, c .loop-test .left) in
-    record { calls = k .calls; whole = λ _. all; cut = λ e. absurd (false-true (sym e)); left = k .left; written = k .out }
+    let all = c .loop-test .left in
+    record { most = k .most; calls = k .calls; cut = λ less. absurd (omega (arith, all)); left = k .left; written = k .out }
 
 pub run-lines-spec : {M : Type 1} → statement M
 run-lines-spec =

@@ -1,0 +1,94 @@
+-- `trial::block_calls::call_block` meets its contract, by its test of the letter and by what each block ensures.
+use mathlib.Core.Path.{_≡_, refl, ap, _∙_}
+use borrow.Author.Tests.{eq-eqb, ne-eqb}
+use Rattle.trial.specs.Calls.{block-answer, block-memory, block-list, block-read-done, block-write-done}
+use borrow.Author.Needs.{needs}
+use Rattle.trial.proofs.block_calls.call_block.Statement.{statement}
+use Rattle.trial.proofs.block_calls.call_block.Tie as tie
+
+place-of-requires : tie.Need-place-of-requires
+place-of-requires c κs = tt
+
+cast-count : tie.Need-cast-count
+cast-count c = search needs
+
+block-read-requires : tie.Need-block-read-requires
+block-read-requires c κs = tt
+
+set-registers-requires : tie.Need-set-registers-requires
+set-registers-requires c κs = tt
+
+cast-answer : tie.Need-cast-answer
+cast-answer c = search needs
+
+answer-requires : tie.Need-answer-requires
+answer-requires c κs = tt
+
+same-length : tie.Need-same-length
+same-length c = search needs
+
+same-length-2 : tie.Need-same-length-2
+same-length-2 c = search needs
+
+returns : tie.Need-returns
+unfolding block-answer block-memory block-list
+returns c =
+    let e = eq-eqb _ _ (c .before .before .before .before .before .before .before .before .before .if1 .taken) in
+    let at = c .before .before .before .before .before .before .before .before .before .before .before .before .place-of .ensures in
+    let o = c .before .before .before .before .before .before .block-read .ensures in
+    record {
+      answer = rw (e, ← at, c .answer .ensures, c .before .before .set-registers .ensures) (ap (block-read-done (c .before .before .before .before .before .before .before .before .before .before .before .before .before .before .before .before .args .s)) (o .outcome));
+      memory = rw e;
+      list = rw (e, ← at) (o .list);
+    }
+
+block-write-requires : tie.Need-block-write-requires
+block-write-requires c κs = tt
+
+set-registers-requires-2 : tie.Need-set-registers-requires-2
+set-registers-requires-2 c κs = tt
+
+cast-answer-2 : tie.Need-cast-answer-2
+cast-answer-2 c = search needs
+
+answer-requires-2 : tie.Need-answer-requires-2
+answer-requires-2 c κs = tt
+
+same-length-3 : tie.Need-same-length-3
+same-length-3 c = search needs
+
+same-length-4 : tie.Need-same-length-4
+same-length-4 c = search needs
+
+returns-2 : tie.Need-returns-2
+unfolding block-answer block-memory block-list
+returns-2 c =
+    let e = ne-eqb _ _ (c .before .before .before .before .before .before .before .before .before .if1 .left) in
+    let at = c .before .before .before .before .before .before .before .before .before .before .before .before .place-of .ensures in
+    let o = c .before .before .before .before .before .before .block-write .ensures in
+    record {
+      answer = rw (e, ← at, c .answer2 .ensures, c .before .before .set-registers2 .ensures) (ap (block-write-done (c .before .before .before .before .before .before .before .before .before .before .before .before .before .before .before .before .args .s)) (o .outcome));
+      memory = rw (e, ← at) (o .memory);
+      list = rw e;
+    }
+
+pub call-block-spec : {M : Type 1} → statement M
+call-block-spec =
+    tie.close
+    (tie.spec
+    place-of-requires
+    cast-count
+    block-read-requires
+    set-registers-requires
+    cast-answer
+    answer-requires
+    same-length
+    same-length-2
+    returns
+    block-write-requires
+    set-registers-requires-2
+    cast-answer-2
+    answer-requires-2
+    same-length-3
+    same-length-4
+    returns-2)
