@@ -5,8 +5,7 @@ ghost use Rattle.trial.specs.Calls.{place-of as Calls·place-of};
 use crate::Call;
 use crate::Done;
 use crate::State;
-use crate::setting::answer;
-use crate::setting::set_registers;
+use crate::setting::answer_with;
 
 // A place in two numbers.
 fn place_of(low: u32, high: u32) -> usize
@@ -25,9 +24,9 @@ pub(crate) fn call_block(s: State, memory: &mut [u16], list: &mut [u16], call: C
     if call.letter == b'I' {
         let o = block::block_read(r, memory, list, place, count);
         let q = o.registers;
-        return answer(set_registers(s, q), o.number, o.hollows as u32, 0);
+        return answer_with(s, q, o.number, o.hollows as u32, 0);
     }
     let o = block::block_write(r, memory, list, place, count);
     let q = o.registers;
-    answer(set_registers(s, q), o.number, o.empties as u32, 0)
+    answer_with(s, q, o.number, o.empties as u32, 0)
 }

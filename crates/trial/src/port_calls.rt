@@ -8,7 +8,7 @@ use crate::Done;
 use crate::State;
 use crate::lines::one_if;
 use crate::setting::answer;
-use crate::setting::set_registers;
+use crate::setting::answer_with;
 use port::Access;
 use port::Answer;
 use port::Cycle;
@@ -39,7 +39,7 @@ fn host_done(s: State, o: Outcome) -> Done
 {
     let r = o.registers;
     let a = o.answer;
-    answer(set_registers(s, r), a.number, a.word as u32, marks_of(a))
+    answer_with(s, r, a.number, a.word as u32, marks_of(a))
 }
 
 // The access that a call says.
@@ -78,5 +78,5 @@ pub(crate) fn call_processor(s: State, call: Call) -> Done
     }
     let o = port::processor_write(r, call.a, (call.b % 65536) as u16);
     let q = o.registers;
-    answer(set_registers(s, q), o.number, 0, 0)
+    answer_with(s, q, o.number, 0, 0)
 }

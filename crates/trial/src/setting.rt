@@ -1,11 +1,10 @@
 // The state of a run: parts of it replaced, and the calls that set it, N, L, G and Z.
 ghost use mathlib.Core.Path.{_≡_};
 ghost use Prim.Native.Nat.{min};
-ghost use Rattle.trial.specs.Calls.{with-registers, with-bus, with-lengths, registers-in, woken, first-state, state-set, done};
+ghost use Rattle.trial.specs.Calls.{with-registers, with-lengths, registers-in, woken, first-state, state-set, done};
 use crate::Call;
 use crate::Done;
 use crate::State;
-use bus::Bus;
 use port::Registers;
 use words::BitAddress;
 
@@ -17,23 +16,10 @@ pub(crate) fn least(a: usize, b: usize) -> usize
 }
 
 // The state with other registers.
-pub(crate) fn set_registers(s: State, r: Registers) -> State
+fn set_registers(s: State, r: Registers) -> State
     ensures { λ x. ⌜ x ≡ with-registers s r ⌝ }
 {
     let b = s.bus;
-    State {
-        registers: r,
-        bus: b,
-        length: s.length,
-        size: s.size,
-    }
-}
-
-// The state with another bus.
-pub(crate) fn set_bus(s: State, b: Bus) -> State
-    ensures { λ r. ⌜ r ≡ with-bus s b ⌝ }
-{
-    let r = s.registers;
     State {
         registers: r,
         bus: b,
@@ -116,4 +102,11 @@ pub(crate) fn answer(s: State, number: u8, x: u32, y: u32) -> Done
         x,
         y,
     }
+}
+
+// The same of a call that leaves other registers.
+pub(crate) fn answer_with(s: State, r: Registers, number: u8, x: u32, y: u32) -> Done
+    ensures { λ d. ⌜ d ≡ done (with-registers s r) number x y ⌝ }
+{
+    answer(set_registers(s, r), number, x, y)
 }

@@ -15,14 +15,11 @@ cast-count c = search needs
 block-read-requires : tie.Need-block-read-requires
 block-read-requires c κs = tt
 
-set-registers-requires : tie.Need-set-registers-requires
-set-registers-requires c κs = tt
+cast-answer-with : tie.Need-cast-answer-with
+cast-answer-with c = search needs
 
-cast-answer : tie.Need-cast-answer
-cast-answer c = search needs
-
-answer-requires : tie.Need-answer-requires
-answer-requires c κs = tt
+answer-with-requires : tie.Need-answer-with-requires
+answer-with-requires c κs = tt
 
 same-length : tie.Need-same-length
 same-length c = search needs
@@ -33,11 +30,11 @@ same-length-2 c = search needs
 returns : tie.Need-returns
 unfolding block-answer block-memory block-list
 returns c =
-    let e = eq-eqb _ _ (c .before .before .before .before .before .before .before .before .before .if1 .taken) in
-    let at = c .before .before .before .before .before .before .before .before .before .before .before .before .place-of .ensures in
-    let o = c .before .before .before .before .before .before .block-read .ensures in
+    let e = eq-eqb _ _ (c .before .before .before .before .before .before .before .before .if1 .taken) in
+    let at = c .before .before .before .before .before .before .before .before .before .before .before .place-of .ensures in
+    let o = c .before .before .before .before .before .block-read .ensures in
     record {
-      answer = rw (e, ← at, c .answer .ensures, c .before .before .set-registers .ensures) (ap (block-read-done (c .before .before .before .before .before .before .before .before .before .before .before .before .before .before .before .before .args .s)) (o .outcome));
+      answer = rw (e, ← at) (c .answer-with .ensures ∙ ap (block-read-done (c .before .before .before .before .before .before .before .before .before .before .before .before .before .before .before .args .s)) (o .outcome));
       memory = rw e;
       list = rw (e, ← at) (o .list);
     }
@@ -45,14 +42,11 @@ returns c =
 block-write-requires : tie.Need-block-write-requires
 block-write-requires c κs = tt
 
-set-registers-requires-2 : tie.Need-set-registers-requires-2
-set-registers-requires-2 c κs = tt
+cast-answer-with-2 : tie.Need-cast-answer-with-2
+cast-answer-with-2 c = search needs
 
-cast-answer-2 : tie.Need-cast-answer-2
-cast-answer-2 c = search needs
-
-answer-requires-2 : tie.Need-answer-requires-2
-answer-requires-2 c κs = tt
+answer-with-requires-2 : tie.Need-answer-with-requires-2
+answer-with-requires-2 c κs = tt
 
 same-length-3 : tie.Need-same-length-3
 same-length-3 c = search needs
@@ -63,11 +57,11 @@ same-length-4 c = search needs
 returns-2 : tie.Need-returns-2
 unfolding block-answer block-memory block-list
 returns-2 c =
-    let e = ne-eqb _ _ (c .before .before .before .before .before .before .before .before .before .if1 .left) in
-    let at = c .before .before .before .before .before .before .before .before .before .before .before .before .place-of .ensures in
-    let o = c .before .before .before .before .before .before .block-write .ensures in
+    let e = ne-eqb _ _ (c .before .before .before .before .before .before .before .before .if1 .left) in
+    let at = c .before .before .before .before .before .before .before .before .before .before .before .place-of .ensures in
+    let o = c .before .before .before .before .before .block-write .ensures in
     record {
-      answer = rw (e, ← at, c .answer2 .ensures, c .before .before .set-registers2 .ensures) (ap (block-write-done (c .before .before .before .before .before .before .before .before .before .before .before .before .before .before .before .before .args .s)) (o .outcome));
+      answer = rw (e, ← at) (c .answer-with2 .ensures ∙ ap (block-write-done (c .before .before .before .before .before .before .before .before .before .before .before .before .before .before .before .args .s)) (o .outcome));
       memory = rw (e, ← at) (o .memory);
       list = rw e;
     }
@@ -79,16 +73,14 @@ call-block-spec =
     place-of-requires
     cast-count
     block-read-requires
-    set-registers-requires
-    cast-answer
-    answer-requires
+    cast-answer-with
+    answer-with-requires
     same-length
     same-length-2
     returns
     block-write-requires
-    set-registers-requires-2
-    cast-answer-2
-    answer-requires-2
+    cast-answer-with-2
+    answer-with-requires-2
     same-length-3
     same-length-4
     returns-2)

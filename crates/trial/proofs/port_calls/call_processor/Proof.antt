@@ -25,16 +25,13 @@ cast-processor-write c = search needs
 processor-write-requires : tie.Need-processor-write-requires
 processor-write-requires c κs = tt
 
-set-registers-requires : tie.Need-set-registers-requires
-set-registers-requires c κs = tt
-
-answer-requires-2 : tie.Need-answer-requires-2
-answer-requires-2 c κs = tt
+answer-with-requires : tie.Need-answer-with-requires
+answer-with-requires c κs = tt
 
 returns-2 : tie.Need-returns-2
 unfolding processor-answer
 returns-2 c =
-    rw (ne-eqb _ _ (c .before .before .before .before .before .if1 .left), c .answer2 .ensures, c .before .set-registers .ensures) (ap (written-done (c .before .before .before .before .before .before .before .before .args .s)) (c .before .before .before .processor-write .ensures))
+    rw (ne-eqb _ _ (c .before .before .before .before .if1 .left)) (c .answer-with .ensures ∙ ap (written-done (c .before .before .before .before .before .before .before .args .s)) (c .before .before .processor-write .ensures))
 
 pub call-processor-spec : {M : Type 1} → statement M
 call-processor-spec =
@@ -46,6 +43,5 @@ call-processor-spec =
     returns
     cast-processor-write
     processor-write-requires
-    set-registers-requires
-    answer-requires-2
+    answer-with-requires
     returns-2)
