@@ -13,7 +13,10 @@ answer-of-requires c κs = tt
 
 returns : tie.Need-returns
 unfolding bus-answer
-returns c = rw (eq-eqb _ _ (c .before .before .before .if1 .taken)) (c .answer-of .ensures ∙ ap (bus-done (c .before .before .before .before .before .before .args .s)) (c .before .before .ask .ensures))
+returns c =
+    let c₁ = c .before .before .before in
+    let c₂ = c₁ .before .before .before in
+    rw (eq-eqb _ _ (c₁ .if1 .taken)) (c .answer-of .ensures ∙ ap (bus-done (c₂ .args .s)) (c .before .before .ask .ensures))
 
 release-requires : tie.Need-release-requires
 release-requires c κs = tt
@@ -24,7 +27,11 @@ answer-of-requires-2 c κs = tt
 returns-2 : tie.Need-returns-2
 unfolding bus-answer
 returns-2 c =
-    rw (ne-eqb _ _ (c .before .before .before .before .before .if1 .left), eq-eqb _ _ (c .before .before .before .if2 .taken)) (c .answer-of2 .ensures ∙ ap (bus-done (c .before .before .before .before .before .before .before .before .args .s)) (c .before .before .release .ensures))
+    let c₁ = c .before .before .before in
+    let c₂ = c₁ .before .before in
+    let c₃ = c₂ .before .before .before in
+    rw (ne-eqb _ _ (c₂ .if1 .left), eq-eqb _ _ (c₁ .if2 .taken))
+    (c .answer-of2 .ensures ∙ ap (bus-done (c₃ .args .s)) (c .before .before .release .ensures))
 
 grant-requires : tie.Need-grant-requires
 grant-requires c κs = tt
@@ -35,7 +42,11 @@ answer-of-requires-3 c κs = tt
 returns-3 : tie.Need-returns-3
 unfolding bus-answer
 returns-3 c =
-    rw (ne-eqb _ _ (c .before .before .before .before .before .if1 .left), ne-eqb _ _ (c .before .before .before .if2 .left)) (c .answer-of3 .ensures ∙ ap (granted-done (c .before .before .before .before .before .before .before .before .args .s)) (c .before .before .grant .ensures))
+    let c₁ = c .before .before .before in
+    let c₂ = c₁ .before .before in
+    let c₃ = c₂ .before .before .before in
+    rw (ne-eqb _ _ (c₂ .if1 .left), ne-eqb _ _ (c₁ .if2 .left))
+    (c .answer-of3 .ensures ∙ ap (granted-done (c₃ .args .s)) (c .before .before .grant .ensures))
 
 pub call-bus-spec : {M : Type 1} → statement M
 call-bus-spec =

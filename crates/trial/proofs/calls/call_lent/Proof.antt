@@ -33,8 +33,12 @@ same-length-2 c = search needs
 returns-2 : tie.Need-returns-2
 unfolding lent-answer lent-memory lent-list
 returns-2 c =
-    let e1 = sym (c .before .before .before .before .before .before .before .is-host-letter .ensures) ∙ c .before .before .before .before .before .before .if1 .left in
-    let e2 = sym (c .before .before .before .before .before .is-field-letter .ensures) ∙ c .before .before .before .before .if2 .taken in
+    let c₁ = c .before .before .before .before in
+    let c₂ = c₁ .before in
+    let c₃ = c₂ .before in
+    let c₄ = c₃ .before in
+    let e1 = sym (c₄ .is-host-letter .ensures) ∙ c₃ .if1 .left in
+    let e2 = sym (c₂ .is-field-letter .ensures) ∙ c₁ .if2 .taken in
     let d = c .before .before .call-fields .ensures in
     record { answer = rw (e1, e2) (d .answer); memory = rw (e1, e2) (d .memory); list = rw (e1, e2) }
 
@@ -50,9 +54,14 @@ same-length-4 c = search needs
 returns-3 : tie.Need-returns-3
 unfolding lent-answer lent-memory lent-list
 returns-3 c =
-    let e1 = sym (c .before .before .before .before .before .before .before .before .before .before .is-host-letter .ensures) ∙ c .before .before .before .before .before .before .before .before .before .if1 .left in
-    let e2 = sym (c .before .before .before .before .before .before .before .before .is-field-letter .ensures) ∙ c .before .before .before .before .before .before .before .if2 .left in
-    let d = c .before .before .before .before .call-block .ensures in
+    let c₁ = c .before .before .before .before in
+    let c₂ = c₁ .before .before .before in
+    let c₃ = c₂ .before in
+    let c₄ = c₃ .before in
+    let c₅ = c₄ .before in
+    let e1 = sym (c₅ .is-host-letter .ensures) ∙ c₄ .if1 .left in
+    let e2 = sym (c₃ .is-field-letter .ensures) ∙ c₂ .if2 .left in
+    let d = c₁ .call-block .ensures in
     record { answer = rw (e1, e2) (d .answer); memory = rw (e1, e2) (d .memory); list = rw (e1, e2) (d .list) }
 
 pub call-lent-spec : {M : Type 1} → statement M

@@ -21,8 +21,10 @@ same-length c = search needs
 returns : tie.Need-returns
 unfolding field-answer field-memory
 returns c =
-    let e = eq-eqb _ _ (c .before .before .before .if1 .taken) in
-    record { answer = rw e (c .answer .ensures ∙ ap (taken-done (c .before .before .before .before .before .before .args .s)) (c .before .take-out .ensures)); memory = rw e }
+    let c₁ = c .before .before .before in
+    let c₂ = c₁ .before .before .before in
+    let e = eq-eqb _ _ (c₁ .if1 .taken) in
+    record { answer = rw e (c .answer .ensures ∙ ap (taken-done (c₂ .args .s)) (c .before .take-out .ensures)); memory = rw e }
 
 take-out-signed-requires : tie.Need-take-out-signed-requires
 take-out-signed-requires c κs = tt
@@ -39,12 +41,17 @@ same-length-2 c = search needs
 returns-2 : tie.Need-returns-2
 unfolding field-answer field-memory
 returns-2 c =
-    let e = ne-eqb _ _ (c .before .before .before .before .before .before .before .if1 .left) in
-    let f = eq-eqb _ _ (c .before .before .before .before .before .if2 .taken) in
-    let t = c .before .before .before .take-out-signed in
-    let same : toZ w32 (ofZ w32 (t .result .value)) ≡ t .result .value = toZ-ofZ (record { sfits = c .before .before .struct-told .given .1 .0 .1 }) in
+    let c₁ = c .before .before .before in
+    let c₂ = c₁ .before .before in
+    let c₃ = c₂ .before .before in
+    let c₄ = c₃ .before .before .before in
+    let e = ne-eqb _ _ (c₃ .if1 .left) in
+    let f = eq-eqb _ _ (c₂ .if2 .taken) in
+    let t = c₁ .take-out-signed in
+    let same : toZ w32 (ofZ w32 (t .result .value)) ≡ t .result .value =
+    toZ-ofZ (record { sfits = c .before .before .struct-told .given .1 .0 .1 }) in
     record {
-      answer = rw (e, f, c .answer2 .ensures, c .before .modulo-of .ensures ∙ ap modulo same) (ap (signed-done (c .before .before .before .before .before .before .before .before .before .before .args .s)) (t .ensures));
+      answer = rw (e, f, c .answer2 .ensures, c .before .modulo-of .ensures ∙ ap modulo same) (ap (signed-done (c₄ .args .s)) (t .ensures));
       memory = rw (e, f);
     }
 
@@ -60,10 +67,14 @@ same-length-3 c = search needs
 returns-3 : tie.Need-returns-3
 unfolding field-answer field-memory
 returns-3 c =
-    let e = ne-eqb _ _ (c .before .before .before .before .before .before .before .if1 .left) in
-    let f = ne-eqb _ _ (c .before .before .before .before .before .if2 .left) in
-    let p = c .before .before .before .put-in .ensures in
-    record { answer = rw (e, f) (c .answer3 .ensures ∙ ap (put-done (c .before .before .before .before .before .before .before .before .before .before .args .s)) (p .answer)); memory = rw (e, f) (p .memory) }
+    let c₁ = c .before .before .before in
+    let c₂ = c₁ .before .before in
+    let c₃ = c₂ .before .before in
+    let c₄ = c₃ .before .before .before in
+    let e = ne-eqb _ _ (c₃ .if1 .left) in
+    let f = ne-eqb _ _ (c₂ .if2 .left) in
+    let p = c₁ .put-in .ensures in
+    record { answer = rw (e, f) (c .answer3 .ensures ∙ ap (put-done (c₄ .args .s)) (p .answer)); memory = rw (e, f) (p .memory) }
 
 pub call-fields-spec : {M : Type 1} → statement M
 call-fields-spec =

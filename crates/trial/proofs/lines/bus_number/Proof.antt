@@ -46,7 +46,15 @@ add-result-4 c = search needs
 returns : tie.Need-returns
 unfolding bus-number
 returns c =
-    rw (c .before .before .before .before .one-if .ensures .0, c .before .before .before .one-if2 .ensures .0, c .before .before .one-if3 .ensures .0, c .before .one-if4 .ensures .0, c .one-if5 .ensures .0)
+    let c₁ = c .before .before .before in
+    let c₂ = c₁ .before in
+    rw (
+      c₂ .one-if .ensures .0,
+      c₁ .one-if2 .ensures .0,
+      c .before .before .one-if3 .ensures .0,
+      c .before .one-if4 .ensures .0,
+      c .one-if5 .ensures .0,
+    )
 
 pub bus-number-spec : {M : Type 1} → statement M
 bus-number-spec =

@@ -43,12 +43,15 @@ same-length c = search needs
 
 returns : tie.Need-returns
 returns c =
-    let a = c .before .before .before .before .before .before .before .before .before .args in
-    let line = c .before .before .before .before .before .before .put-byte .last .0 in
-    let fits : a .at + 1 + a .count ≤ length line = omega (arith, c .before .before .before .before .before .before .put-byte .kept .0, c .before .before .before .before .before .before .before .before .before .pre) in
+    let c₁ = c .before .before .before .before .before .before in
+    let c₂ = c₁ .before .before .before in
+    let a = c₂ .args in
+    let line = c₁ .put-byte .last .0 in
+    let fits : a .at + 1 + a .count ≤ length line = omega (arith, c₁ .put-byte .kept .0, c₂ .pre) in
     let made = c .before .before .put-digits .ensures ∙ ap (λ (n : ℕ). digits n (a .value)) (part-length (a .at + 1) (a .count) line fits) in
-    let all = pushed (a .at + 1) (a .count) line (c .before .before .put-digits .last .0) fits (ap length made ∙ length-digits (a .count) (a .value)) in
-    follows (c .before .before .before .before .before .before .put-byte .ensures) (record { laid = all ∙ ap (λ (t : List ℕ). take (a .at + 1) line ++ t) made })
+    let all = pushed (a .at + 1) (a .count) line (c .before .before .put-digits .last .0) fits
+    (ap length made ∙ length-digits (a .count) (a .value)) in
+    follows (c₁ .put-byte .ensures) (record { laid = all ∙ ap (λ (t : List ℕ). take (a .at + 1) line ++ t) made })
 
 pub put-number-spec : {M : Type 1} → statement M
 put-number-spec =

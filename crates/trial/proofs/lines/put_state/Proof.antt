@@ -39,10 +39,16 @@ same-length c = search needs
 returns : tie.Need-returns
 unfolding state-text
 returns c =
-    let mark = rw (c .before .before .before .before .before .before .before .before .one-if .ensures .0) at (c .before .before .before .before .before .before .before .put-number4 .ensures) in
-    let bus = rw (c .before .before .before .bus-number .ensures) at (c .before .before .put-number5 .ensures) in
-    follows (c .before .before .before .before .before .before .before .before .before .before .before .before .before .before .before .before .before .before .before .before .before .before .put-number .ensures)
-    (follows (c .before .before .before .before .before .before .before .before .before .before .before .before .before .before .before .before .before .put-number2 .ensures) (follows (c .before .before .before .before .before .before .before .before .before .before .before .before .put-number3 .ensures) (follows mark bus)))
+    let c₁ = c .before .before .before in
+    let c₂ = c₁ .before .before .before .before in
+    let c₃ = c₂ .before in
+    let c₄ = c₃ .before .before .before .before in
+    let c₅ = c₄ .before .before .before .before .before in
+    let c₆ = c₅ .before .before .before .before .before in
+    let mark = rw (c₃ .one-if .ensures .0) at (c₂ .put-number4 .ensures) in
+    let bus = rw (c₁ .bus-number .ensures) at (c .before .before .put-number5 .ensures) in
+    follows (c₆ .put-number .ensures)
+    (follows (c₅ .put-number2 .ensures) (follows (c₄ .put-number3 .ensures) (follows mark bus)))
 
 pub put-state-spec : {M : Type 1} → statement M
 put-state-spec =

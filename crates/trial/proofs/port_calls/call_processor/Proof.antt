@@ -17,7 +17,10 @@ answer-requires c κs = tt
 
 returns : tie.Need-returns
 unfolding processor-answer
-returns c = rw (eq-eqb _ _ (c .before .before .before .if1 .taken)) (c .answer .ensures ∙ ap (read-done (c .before .before .before .before .before .before .args .s)) (c .before .before .processor-read .ensures))
+returns c =
+    let c₁ = c .before .before .before in
+    let c₂ = c₁ .before .before .before in
+    rw (eq-eqb _ _ (c₁ .if1 .taken)) (c .answer .ensures ∙ ap (read-done (c₂ .args .s)) (c .before .before .processor-read .ensures))
 
 cast-processor-write : tie.Need-cast-processor-write
 cast-processor-write c = search needs
@@ -31,7 +34,9 @@ answer-with-requires c κs = tt
 returns-2 : tie.Need-returns-2
 unfolding processor-answer
 returns-2 c =
-    rw (ne-eqb _ _ (c .before .before .before .before .if1 .left)) (c .answer-with .ensures ∙ ap (written-done (c .before .before .before .before .before .before .before .args .s)) (c .before .before .processor-write .ensures))
+    let c₁ = c .before .before .before .before in
+    let c₂ = c₁ .before .before .before in
+    rw (ne-eqb _ _ (c₁ .if1 .left)) (c .answer-with .ensures ∙ ap (written-done (c₂ .args .s)) (c .before .before .processor-write .ensures))
 
 pub call-processor-spec : {M : Type 1} → statement M
 call-processor-spec =

@@ -40,7 +40,9 @@ loop-less c = omega arith
 
 loop-again : tie.Need-loop-again Inv-loop μ-loop
 unfolding digits-from
-loop-again c = (omega arith, rw (add-one, c .both .ensures, c .before .is-digit .ensures, c .before .before .before .before .loop .inv .1))
+loop-again c =
+    let c₁ = c .before .before .before .before in
+    (omega arith, rw (add-one, c .both .ensures, c .before .is-digit .ensures, c₁ .loop .inv .1))
 
 returns : tie.Need-returns Inv-loop μ-loop
 returns c =

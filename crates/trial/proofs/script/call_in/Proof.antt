@@ -21,7 +21,9 @@ number-at-requires-4 c κs = search needs
 
 returns : tie.Need-returns
 unfolding call-in
-returns c = rw (c .before .before .before .number-at .ensures, c .before .before .number-at2 .ensures, c .before .number-at3 .ensures, c .number-at4 .ensures)
+returns c =
+    let c₁ = c .before .before .before in
+    rw (c₁ .number-at .ensures, c .before .before .number-at2 .ensures, c .before .number-at3 .ensures, c .number-at4 .ensures)
 
 pub call-in-spec : {M : Type 1} → statement M
 call-in-spec =

@@ -21,7 +21,15 @@ either-requires-2 c κs = tt
 returns : tie.Need-returns
 unfolding lent-letter
 returns c =
-    rw (c .either2 .ensures, c .before .either .ensures, c .before .before .before .before .is-host-letter .ensures, c .before .before .before .is-field-letter .ensures, c .before .before .is-block-letter .ensures)
+    let c₁ = c .before .before .before in
+    let c₂ = c₁ .before in
+    rw (
+      c .either2 .ensures,
+      c .before .either .ensures,
+      c₂ .is-host-letter .ensures,
+      c₁ .is-field-letter .ensures,
+      c .before .before .is-block-letter .ensures,
+    )
 
 pub is-lent-letter-spec : {M : Type 1} → statement M
 is-lent-letter-spec =

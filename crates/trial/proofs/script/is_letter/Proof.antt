@@ -21,7 +21,15 @@ either-requires-2 c κs = tt
 returns : tie.Need-returns
 unfolding known
 returns c =
-    rw (c .either2 .ensures, c .before .either .ensures, c .before .before .before .before .is-plain-letter .ensures, c .before .before .before .is-whole-letter .ensures, c .before .before .is-lent-letter .ensures)
+    let c₁ = c .before .before .before in
+    let c₂ = c₁ .before in
+    rw (
+      c .either2 .ensures,
+      c .before .either .ensures,
+      c₂ .is-plain-letter .ensures,
+      c₁ .is-whole-letter .ensures,
+      c .before .before .is-lent-letter .ensures,
+    )
 
 pub is-letter-spec : {M : Type 1} → statement M
 is-letter-spec =

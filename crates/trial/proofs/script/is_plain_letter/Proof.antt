@@ -21,7 +21,15 @@ either-requires-2 c κs = tt
 returns : tie.Need-returns
 unfolding plain-letter
 returns c =
-    rw (c .either2 .ensures, c .before .either .ensures, c .before .before .before .before .is-processor-letter .ensures, c .before .before .before .is-bus-letter .ensures, c .before .before .is-setting-letter .ensures)
+    let c₁ = c .before .before .before in
+    let c₂ = c₁ .before in
+    rw (
+      c .either2 .ensures,
+      c .before .either .ensures,
+      c₂ .is-processor-letter .ensures,
+      c₁ .is-bus-letter .ensures,
+      c .before .before .is-setting-letter .ensures,
+    )
 
 pub is-plain-letter-spec : {M : Type 1} → statement M
 is-plain-letter-spec =

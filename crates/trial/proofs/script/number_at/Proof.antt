@@ -42,7 +42,9 @@ unfolding number-from
 loop-holds c = (omega arith, refl)
 
 mul-number : tie.Need-mul-number Inv-loop μ-loop
-mul-number c = omega (arith, small (c .before .before .before .args .line .now) (c .before .before .before .args .at) (c .before .loop .i) (omega arith), c .before .loop .inv .1)
+mul-number c =
+    let c₁ = c .before .before .before in
+    omega (arith, small (c₁ .args .line .now) (c₁ .args .at) (c .before .loop .i) (omega arith), c .before .loop .inv .1)
 
 add-value-of : tie.Need-add-value-of Inv-loop μ-loop
 add-value-of c = search needs
@@ -55,7 +57,9 @@ value-of-requires c κs = tt
 
 add-number : tie.Need-add-number Inv-loop μ-loop
 add-number c =
-    omega (arith, small (c .before .before .before .before .before .args .line .now) (c .before .before .before .before .before .args .at) (c .before .before .before .loop .i) (omega arith), c .before .before .before .loop .inv .1, c .value-of .ensures .1)
+    let c₁ = c .before .before .before in
+    let c₂ = c₁ .before .before in
+    omega (arith, small (c₂ .args .line .now) (c₂ .args .at) (c₁ .loop .i) (omega arith), c₁ .loop .inv .1, c .value-of .ensures .1)
 
 add-i : tie.Need-add-i Inv-loop μ-loop
 add-i c = omega arith

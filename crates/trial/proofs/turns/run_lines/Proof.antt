@@ -89,22 +89,36 @@ part-line-start : tie.Need-part-line-start Inv-loop μ-loop
 part-line-start c = search needs
 
 part-line-end : tie.Need-part-line-end Inv-loop μ-loop
-part-line-end c = in-script (c .before .before .before .before .before .before .args .input .now) (c .before .loop .i) (c .loop-test .taken)
+part-line-end c =
+    let c₁ = c .before .before .before .before .before .before in
+    in-script (c₁ .args .input .now) (c .before .loop .i) (c .loop-test .taken)
 
 is-call-requires : tie.Need-is-call-requires Inv-loop μ-loop
-is-call-requires c κs = part-length _ 38 _ (in-script (c .before .before .before .before .before .before .before .args .input .now) (c .before .before .loop .i) (c .before .loop-test .taken))
+is-call-requires c κs =
+    let c₁ = c .before .before .before .before .before .before .before in
+    part-length _ 38 _ (in-script (c₁ .args .input .now) (c .before .before .loop .i) (c .before .loop-test .taken))
 
 call-in-requires : tie.Need-call-in-requires Inv-loop μ-loop
-call-in-requires c κs = part-length _ 38 _ (in-script (c .before .before .before .before .before .before .before .before .before .args .input .now) (c .before .before .before .before .loop .i) (c .before .before .before .loop-test .taken))
+call-in-requires c κs =
+    let c₁ = c .before .before .before in
+    let c₂ = c₁ .before in
+    let c₃ = c₂ .before .before .before .before .before in
+    part-length _ 38 _ (in-script (c₃ .args .input .now) (c₂ .loop .i) (c₁ .loop-test .taken))
 
 carry-out-requires : tie.Need-carry-out-requires Inv-loop μ-loop
 carry-out-requires c κs = tt
 
 mul-at : tie.Need-mul-at Inv-loop μ-loop
-mul-at c = omega (arith, c .before .before .before .before .before .before .before .before .before .before .before .loop-test .taken, c .before .before .before .before .before .before .before .before .before .before .before .before .before .before .before .before .before .pre, c .before .before .before .before .before .before .before .before .before .before .before .before .before .before .before .before .before .good)
+mul-at c =
+    let c₁ = c .before .before .before .before .before .before .before .before .before .before .before in
+    let c₂ = c₁ .before .before .before .before .before .before in
+    omega (arith, c₁ .loop-test .taken, c₂ .pre, c₂ .good)
 
 add-end : tie.Need-add-end Inv-loop μ-loop
-add-end c = omega (arith, c .before .before .before .before .before .before .before .before .before .before .before .loop-test .taken, c .before .before .before .before .before .before .before .before .before .before .before .before .before .before .before .before .before .pre, c .before .before .before .before .before .before .before .before .before .before .before .before .before .before .before .before .before .good)
+add-end c =
+    let c₁ = c .before .before .before .before .before .before .before .before .before .before .before in
+    let c₂ = c₁ .before .before .before .before .before .before in
+    omega (arith, c₁ .loop-test .taken, c₂ .pre, c₂ .good)
 
 sub-put-line : tie.Need-sub-put-line Inv-loop μ-loop
 sub-put-line c = search needs
@@ -113,27 +127,48 @@ part-put-line-start : tie.Need-part-put-line-start Inv-loop μ-loop
 part-put-line-start c = search needs
 
 part-put-line-end : tie.Need-part-put-line-end Inv-loop μ-loop
-part-put-line-end c = in-output (c .before .before .before .before .before .before .before .before .before .before .before .before .loop .inv) (c .before .before .before .before .before .before .before .before .before .before .before .loop-test .taken) (c .before .before .before .before .before .before .before .before .before .before .before .before .before .before .before .before .before .pre)
+part-put-line-end c =
+    let c₁ = c .before .before .before .before .before .before .before .before .before .before .before in
+    let c₂ = c₁ .before in
+    let c₃ = c₂ .before .before .before .before .before in
+    in-output (c₂ .loop .inv) (c₁ .loop-test .taken) (c₃ .pre)
 
 put-line-requires : tie.Need-put-line-requires Inv-loop μ-loop
-put-line-requires c κs = part-length _ 47 _ (in-output (c .before .before .before .before .before .before .before .before .before .before .before .before .before .loop .inv) (c .before .before .before .before .before .before .before .before .before .before .before .before .loop-test .taken) (c .before .before .before .before .before .before .before .before .before .before .before .before .before .before .before .before .before .before .pre))
+put-line-requires c κs =
+    let c₁ = c .before .before .before .before .before .before .before .before .before .before .before .before in
+    let c₂ = c₁ .before in
+    let c₃ = c₂ .before .before .before .before .before in
+    part-length _ 47 _ (in-output (c₂ .loop .inv) (c₁ .loop-test .taken) (c₃ .pre))
 
 add-i : tie.Need-add-i Inv-loop μ-loop
-add-i c = omega (arith, c .before .before .before .before .before .before .before .before .before .before .before .before .before .before .before .before .loop-test .taken, c .before .before .before .before .before .before .before .before .before .before .before .before .before .before .before .before .before .before .before .before .before .before .good)
+add-i c =
+    let c₁ = c .before .before .before .before .before .before .before .before .before .before .before .before .before .before .before .before in
+    let c₂ = c₁ .before .before .before .before .before .before in
+    omega (arith, c₁ .loop-test .taken, c₂ .good)
 
 loop-less : tie.Need-loop-less Inv-loop μ-loop
-loop-less c = omega (arith, c .before .before .before .before .before .before .before .before .before .before .before .before .before .before .before .before .loop-test .taken)
+loop-less c =
+    let c₁ = c .before .before .before .before .before .before .before .before .before .before .before .before .before .before .before .before in
+    omega (arith, c₁ .loop-test .taken)
 
 loop-again : tie.Need-loop-again Inv-loop μ-loop
 loop-again c =
-    let k = c .before .before .before .before .before .before .before .before .before .before .before .before .before .before .before .before .before .loop .inv in
-    let more = c .before .before .before .before .before .before .before .before .before .before .before .before .before .before .before .before .loop-test .taken in
-    let line = part-is (38 * c .before .before .before .before .before .before .before .before .before .before .before .before .before .before .before .before .before .loop .i) 38 (c .before .before .before .before .before .before .before .before .before .before .before .before .before .before .before .before .before .before .before .before .before .before .args .input .now) in
-    let call = c .before .before .before .before .before .before .before .before .before .before .before .before .call-in .ensures ∙ ap call-in line in
-    let good = sym (ap is-call line) ∙ sym (c .before .before .before .before .before .before .before .before .before .before .before .before .before .before .is-call .ensures) ∙ c .before .before .before .before .before .before .before .before .before .before .before .before .before .if1 .taken in
-    let done = c .before .before .before .before .before .before .before .before .before .carry-out .ensures in
-    let long = c .before .before .before .put-line .kept .0 ∙ part-length (47 * c .before .before .before .before .before .before .before .before .before .before .before .before .before .before .before .before .before .loop .i) 47 (c .before .before .before .before .before .before .before .before .before .before .before .before .before .before .before .before .before .loop .output) (in-output k more (c .before .before .before .before .before .before .before .before .before .before .before .before .before .before .before .before .before .before .before .before .before .before .pre)) in
-    turned k more (c .before .before .before .before .before .before .before .before .before .before .before .before .before .before .before .before .before .before .before .before .before .before .pre) good call done (c .before .before .before .before .before .before .before .before .before .carry-out .kept .1 .0) (c .before .before .before .before .before .before .before .before .before .carry-out .kept .1 .1 .0) (c .before .before .before .put-line .ensures) long
+    let c₁ = c .before .before .before in
+    let c₂ = c₁ .before .before .before .before .before .before in
+    let c₃ = c₂ .before .before .before in
+    let c₄ = c₃ .before in
+    let c₅ = c₄ .before in
+    let c₆ = c₅ .before .before in
+    let c₇ = c₆ .before in
+    let c₈ = c₇ .before .before .before .before .before in
+    let k = c₇ .loop .inv in
+    let more = c₆ .loop-test .taken in
+    let line = part-is (38 * c₇ .loop .i) 38 (c₈ .args .input .now) in
+    let call = c₃ .call-in .ensures ∙ ap call-in line in
+    let good = sym (ap is-call line) ∙ sym (c₅ .is-call .ensures) ∙ c₄ .if1 .taken in
+    let done = c₂ .carry-out .ensures in
+    let long = c₁ .put-line .kept .0 ∙ part-length (47 * c₇ .loop .i) 47 (c₇ .loop .output) (in-output k more (c₈ .pre)) in
+    turned k more (c₈ .pre) good call done (c₂ .carry-out .kept .1 .0) (c₂ .carry-out .kept .1 .1 .0) (c₁ .put-line .ensures) long
 
 same-length : tie.Need-same-length Inv-loop μ-loop
 same-length c = c .before .before .before .before .loop .inv .rooms
@@ -146,8 +181,10 @@ same-length-3 c = c .before .before .before .before .loop .inv .size
 
 returns : tie.Need-returns Inv-loop μ-loop
 returns c =
-    let k = c .before .before .before .before .loop .inv in
-    let line = part-is (38 * c .before .before .before .before .loop .i) 38 (c .before .before .before .before .before .before .before .before .before .args .input .now) in
+    let c₁ = c .before .before .before .before in
+    let c₂ = c₁ .before .before .before .before .before in
+    let k = c₁ .loop .inv in
+    let line = part-is (38 * c₁ .loop .i) 38 (c₂ .args .input .now) in
     let bad = sym (ap is-call line) ∙ sym (c .before .is-call .ensures) ∙ c .if1 .left in
     record { most = k .most; calls = k .calls; cut = λ _. bad; left = k .left; written = k .out }
 

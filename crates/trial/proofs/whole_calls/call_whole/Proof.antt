@@ -24,8 +24,10 @@ same-length-2 c = search needs
 returns : tie.Need-returns
 unfolding whole-answer whole-room whole-list
 returns c =
-    let e = eq-eqb _ _ (c .before .before .before .before .before .if1 .taken) in
-    record { answer = rw (e, c .answer .ensures, c .before .before .before .digest-of .ensures, c .before .digest-of2 .ensures); left = rw e; list-left = rw e }
+    let c₁ = c .before .before .before in
+    let c₂ = c₁ .before .before in
+    let e = eq-eqb _ _ (c₂ .if1 .taken) in
+    record { answer = rw (e, c .answer .ensures, c₁ .digest-of .ensures, c .before .digest-of2 .ensures); left = rw e; list-left = rw e }
 
 fill-requires : tie.Need-fill-requires
 fill-requires c κs = tt
