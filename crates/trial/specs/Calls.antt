@@ -7,7 +7,7 @@
 --   lent n l, given-back n l part   the first n words of l, and l when they come back as part
 --   answer-to, room-after, list-after, Carried   any call
 use Prim.Native.Nat.{ℕ, zero, suc, _+_, _*_, _-_, _%_, _^_, min}
-use mathlib.Core.Bool.{Bool, cond}
+use mathlib.Core.Bool.{cond}
 use mathlib.Core.List.{List, [], _∷_, _++_}
 use mathlib.Core.Path.{_≡_}
 use lib.Dec.{eqb}

@@ -1,5 +1,5 @@
 -- `trial::block_calls::call_block` meets its contract, by its test of the letter and by what each block ensures.
-use mathlib.Core.Path.{_≡_, refl, ap, _∙_}
+use mathlib.Core.Path.{ap, _∙_}
 use borrow.Author.Tests.{eq-eqb, ne-eqb}
 use Rattle.trial.specs.Calls.{block-answer, block-memory, block-list, block-read-done, block-write-done}
 use borrow.Author.Needs.{needs}

@@ -1,5 +1,5 @@
 -- `trial::calls::call_lent` meets its contract, by its tests of the letter.
-use mathlib.Core.Path.{refl, sym, _∙_}
+use mathlib.Core.Path.{sym, _∙_}
 use Rattle.trial.specs.Calls.{lent-answer, lent-memory, lent-list}
 use borrow.Author.Needs.{needs}
 use Rattle.trial.proofs.calls.call_lent.Statement.{statement}

@@ -1,5 +1,5 @@
 -- `trial::field_calls::call_fields` meets its contract, by its tests of the letter and by what each call ensures.
-use mathlib.Core.Path.{_≡_, refl, ap, _∙_}
+use mathlib.Core.Path.{_≡_, ap, _∙_}
 use mir.Facts.{toZ-ofZ}
 use mir.Syntax.{w32}
 use mir.Val.{toZ, ofZ}

@@ -1,5 +1,4 @@
 -- `trial::lines::put_state` meets its contract: five numbers, each after what stands before it.
-use mathlib.Core.Path.{_∙_}
 use Rattle.trial.proofs.Lent.{follows}
 use Rattle.trial.specs.Answers.{state-text}
 use borrow.Author.Needs.{needs}

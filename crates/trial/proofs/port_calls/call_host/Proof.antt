@@ -1,5 +1,5 @@
 -- `trial::port_calls::call_host` meets its contract, by what the access ensures.
-use mathlib.Core.Path.{_≡_, ap, _∙_}
+use mathlib.Core.Path.{ap, _∙_}
 use Rattle.port.specs.Host.{access, access-memory}
 use Rattle.trial.specs.Calls.{host-done}
 use borrow.Author.Needs.{needs}

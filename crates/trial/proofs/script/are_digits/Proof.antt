@@ -3,7 +3,7 @@ use borrow.Author.Needs.{needs}
 use Prim.Native.Nat.{_-_, _≤_}
 use native.Mathlib.Numerals.{add-one}
 use native.Mathlib.Omega.{arith}
-use mathlib.Core.Path.{_≡_, refl, sym}
+use mathlib.Core.Path.{_≡_, refl}
 use Rattle.trial.specs.Script.{digits-from}
 use Rattle.trial.proofs.script.are_digits.Statement.{statement}
 use Rattle.trial.proofs.script.are_digits.Tie as tie

@@ -1,5 +1,4 @@
 -- `trial::turns::take_turn` meets its contract: the bytes that it read are the script.
-use native.Mathlib.Omega.{arith}
 use borrow.Author.Needs.{needs}
 use Rattle.trial.proofs.turns.take_turn.Statement.{statement}
 use Rattle.trial.proofs.turns.take_turn.Tie as tie

@@ -1,5 +1,4 @@
 -- `trial::whole_calls::call_whole` meets its contract, by its tests of the letter.
-use mathlib.Core.Path.{refl}
 use borrow.Author.Tests.{eq-eqb, ne-eqb}
 use Rattle.trial.specs.Calls.{whole-answer, whole-room, whole-list}
 use borrow.Author.Needs.{needs}
