@@ -36,11 +36,11 @@ use Rattle.fields.specs.declared.Put.{Put}
 use Rattle.block.specs.Block.{block-read, block-write, memory-left, list-after as read-list}
 use Rattle.block.specs.declared.BlockRead.{BlockRead}
 use Rattle.block.specs.declared.BlockWrite.{BlockWrite}
-use Rattle.trial.specs.Script.{host-letter, processor-letter, field-letter, bus-letter, whole-letter, plain-letter}
-use Rattle.trial.specs.Answers.{counted}
-use Rattle.trial.specs.declared.Call.{Call}
-use Rattle.trial.specs.declared.State.{State}
-use Rattle.trial.specs.declared.Done.{Done}
+use Rattle.script.specs.Script.{host-letter, processor-letter, field-letter, bus-letter, whole-letter, plain-letter}
+use Rattle.script.specs.Answers.{counted}
+use Rattle.script.specs.declared.Call.{Call}
+use Rattle.script.specs.declared.State.{State}
+use Rattle.script.specs.declared.Done.{Done}
 
 abbrev pub with-registers : State → Registers → State
 with-registers s r = record { registers = r; bus = s .bus; length = s .length; size = s .size }

@@ -1,4 +1,2 @@
-pub mod Script
-pub mod Answers
 pub mod Calls
 pub mod Runs

@@ -12,12 +12,12 @@ use mathlib.Core.Bool.{Bool, true, false, _&&_}
 use mathlib.Core.List.{List, [], _++_}
 use mathlib.Core.Path.{_≡_}
 use lib.ListN.{length, take, drop}
-use Rattle.trial.specs.Script.{is-call, call-in}
-use Rattle.trial.specs.Answers.{line-of}
+use Rattle.script.specs.Script.{is-call, call-in}
+use Rattle.script.specs.Answers.{line-of}
 use Rattle.trial.specs.Calls.{answer-to, room-after, list-after}
-use Rattle.trial.specs.declared.Call.{Call}
-use Rattle.trial.specs.declared.State.{State}
-use Rattle.trial.specs.declared.Done.{Done}
+use Rattle.script.specs.declared.Call.{Call}
+use Rattle.script.specs.declared.State.{State}
+use Rattle.script.specs.declared.Done.{Done}
 use Rattle.trial.specs.declared.turns.Ran.{Ran}
 use Rattle.trial.specs.declared.turns.Turn.{Turn}
 

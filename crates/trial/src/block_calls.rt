@@ -2,10 +2,10 @@
 ghost use mathlib.Core.Path.{_≡_};
 ghost use Rattle.trial.specs.Calls.{BlockDone};
 ghost use Rattle.trial.specs.Calls.{place-of as Calls·place-of};
-use crate::Call;
-use crate::Done;
-use crate::State;
 use crate::setting::answer_with;
+use script::Call;
+use script::Done;
+use script::State;
 
 // A place in two numbers.
 fn place_of(low: u32, high: u32) -> usize

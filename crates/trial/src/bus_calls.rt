@@ -1,11 +1,11 @@
 // The calls on the bus: A asks, B grants, C releases hold.
 ghost use mathlib.Core.Path.{_≡_};
 ghost use Rattle.trial.specs.Calls.{with-bus, done, bus-answer};
-use crate::Call;
-use crate::Done;
-use crate::State;
 use crate::setting::answer;
 use bus::Bus;
+use script::Call;
+use script::Done;
+use script::State;
 
 // The state with another bus.
 fn set_bus(s: State, b: Bus) -> State

@@ -1,24 +1,24 @@
 // A call of a script, carried out.
 ghost use mathlib.Core.Path.{_≡_};
 ghost use Rattle.trial.specs.Calls.{plain-answer, LentDone, Carried};
-use crate::Call;
-use crate::Done;
-use crate::State;
 use crate::block_calls::call_block;
 use crate::bus_calls::call_bus;
 use crate::field_calls::call_fields;
 use crate::port_calls::call_host;
 use crate::port_calls::call_processor;
-use crate::script::is_bus_letter;
-use crate::script::is_field_letter;
-use crate::script::is_host_letter;
-use crate::script::is_plain_letter;
-use crate::script::is_processor_letter;
-use crate::script::is_whole_letter;
 use crate::setting::answer;
 use crate::setting::least;
 use crate::setting::set_state;
 use crate::whole_calls::call_whole;
+use script::Call;
+use script::Done;
+use script::State;
+use script::is_bus_letter;
+use script::is_field_letter;
+use script::is_host_letter;
+use script::is_plain_letter;
+use script::is_processor_letter;
+use script::is_whole_letter;
 
 // A call that is lent nothing: of the processor or the bus, or one that sets the state.
 fn call_plain(s: State, call: Call) -> Done

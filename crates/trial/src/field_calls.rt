@@ -1,10 +1,10 @@
 // The calls on fields: T and S take one out, F puts one in.
 ghost use mathlib.Core.Path.{_≡_};
 ghost use Rattle.trial.specs.Calls.{modulo, FieldDone};
-use crate::Call;
-use crate::Done;
-use crate::State;
 use crate::setting::answer;
+use script::Call;
+use script::Done;
+use script::State;
 use words::BitAddress;
 
 // A signed number modulo 2^32.

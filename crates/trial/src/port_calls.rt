@@ -3,16 +3,16 @@ ghost use mathlib.Core.Path.{_≡_};
 ghost use Prim.Native.Nat.{_≤_};
 ghost use Rattle.trial.specs.Calls.{marks, access-in, HostDone, processor-answer};
 ghost use Rattle.trial.specs.Calls.{cycle-number as Calls·cycle-number, host-done as Calls·host-done};
-use crate::Call;
-use crate::Done;
-use crate::State;
-use crate::lines::one_if;
 use crate::setting::answer;
 use crate::setting::answer_with;
 use port::Access;
 use port::Answer;
 use port::Cycle;
 use port::Outcome;
+use script::Call;
+use script::Done;
+use script::State;
+use script::one_if;
 
 // The cycle as a number.
 fn cycle_number(cycle: Cycle) -> u32

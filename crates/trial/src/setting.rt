@@ -2,10 +2,10 @@
 ghost use mathlib.Core.Path.{_≡_};
 ghost use Prim.Native.Nat.{min};
 ghost use Rattle.trial.specs.Calls.{with-registers, with-lengths, registers-in, woken, first-state, state-set, done};
-use crate::Call;
-use crate::Done;
-use crate::State;
 use registers::Registers;
+use script::Call;
+use script::Done;
+use script::State;
 use words::BitAddress;
 
 // The smaller of two numbers.

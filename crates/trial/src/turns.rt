@@ -3,12 +3,12 @@ ghost use mathlib.Core.Path.{_≡_};
 ghost use Prim.Native.Nat.{_*_, _/_, _≤_};
 ghost use lib.ListN.{length};
 ghost use Rattle.trial.specs.Runs.{world, RanLines, TookTurn};
-use crate::State;
 use crate::calls::carry_out;
-use crate::lines::put_line;
-use crate::script::call_in;
-use crate::script::is_call;
 use crate::setting::first_state;
+use script::State;
+use script::call_in;
+use script::is_call;
+use script::put_line;
 
 // The state after some lines, and how many of them were carried out.
 struct Ran {

@@ -2,10 +2,10 @@
 ghost use mathlib.Core.Path.{_≡_};
 ghost use lib.ListN.{length};
 ghost use Rattle.trial.specs.Calls.{filled, digest, WholeDone};
-use crate::Call;
-use crate::Done;
-use crate::State;
 use crate::setting::answer;
+use script::Call;
+use script::Done;
+use script::State;
 
 // Word k becomes (first + k * step) mod 65,536.
 fn fill(words: &mut [u16], first: u32, step: u32)

@@ -10,13 +10,13 @@ use lib.ListN.{length, take}
 use borrow.Rule.Slice.PartMut.{putMid, same-len-mid}
 use Rattle.block.proofs.Lent.{part-length, part-is}
 use Rattle.trial.proofs.Lent.{pushed}
-use Rattle.trial.specs.Script.{is-call, call-in}
-use Rattle.trial.specs.Answers.{line-of}
+use Rattle.script.specs.Script.{is-call, call-in}
+use Rattle.script.specs.Answers.{line-of}
 use Rattle.trial.specs.Calls.{Carried}
 use Rattle.trial.specs.Runs.{World, world, line-at, answered, called, all-calls, after-lines, printed}
-use Rattle.trial.specs.declared.Call.{Call}
-use Rattle.trial.specs.declared.State.{State}
-use Rattle.trial.specs.declared.Done.{Done}
+use Rattle.script.specs.declared.Call.{Call}
+use Rattle.script.specs.declared.State.{State}
+use Rattle.script.specs.declared.Done.{Done}
 use Rattle.trial.proofs.turns.run_lines.Statement.{statement}
 use Rattle.trial.proofs.turns.run_lines.Tie as tie
 
