@@ -11,6 +11,13 @@ use Rattle.script.specs.Answers.{digits}
 use Rattle.script.proofs.printing.put_digits.Statement.{statement}
 use Rattle.script.proofs.printing.put_digits.Tie as tie
 
+-- The digit for a number is that for its last digit.
+last-digit : (n : ℕ) → digit-for (n % 16) ≡ digit-for n
+unfolding digit-for
+last-digit n =
+    let e : n % 16 % 16 ≡ n % 16 = omega arith in
+    rw e
+
 record Laid (value : ℕ) (places₀ places : List ℕ) (rest i : ℕ) : Type 0 where
   most : i ≤ length places₀
   room : length places ≡ length places₀
@@ -60,8 +67,11 @@ loop-holds c = begun _ _
 sub-i : tie.Need-sub-i Inv-loop μ-loop
 sub-i c = search needs
 
+cast-digit-for : tie.Need-cast-digit-for Inv-loop μ-loop
+cast-digit-for c = search needs
+
 digit-for-requires : tie.Need-digit-for-requires Inv-loop μ-loop
-digit-for-requires c κs = omega arith
+digit-for-requires c κs = tt
 
 slice-write-places : tie.Need-slice-write-places Inv-loop μ-loop
 slice-write-places c = omega (arith, c .before .before .loop .inv .most, c .before .before .loop .inv .room)
@@ -70,7 +80,7 @@ loop-less : tie.Need-loop-less Inv-loop μ-loop
 loop-less c = omega arith
 
 loop-again : tie.Need-loop-again Inv-loop μ-loop
-loop-again c = rw (c .digit-for .ensures) (turned (c .before .before .loop .inv) (c .before .loop-test .taken))
+loop-again c = rw (c .digit-for .ensures, last-digit (c .before .before .loop .rest)) (turned (c .before .before .loop .inv) (c .before .loop-test .taken))
 
 same-length : tie.Need-same-length Inv-loop μ-loop
 same-length c = c .before .loop .inv .room
@@ -86,6 +96,7 @@ put-digits-spec =
     μ-loop
     loop-holds
     sub-i
+    cast-digit-for
     digit-for-requires
     slice-write-places
     loop-less

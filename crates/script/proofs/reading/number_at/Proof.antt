@@ -24,7 +24,8 @@ loop-holds c = (omega arith, refl)
 mul-number : tie.Need-mul-number Inv-loop μ-loop
 mul-number c =
     let c₁ = c .before .before .before in
-    omega (arith, number-small (c₁ .args .line .now) (c₁ .args .at) (c .before .loop .i) (omega arith), c .before .loop .inv .1)
+    let small = number-small (c₁ .args .line .now) (c₁ .args .at) (c .before .loop .i) (omega arith) (c₁ .pre .1) in
+    omega (arith, small, c .before .loop .inv .1)
 
 add-hex-value : tie.Need-add-hex-value Inv-loop μ-loop
 add-hex-value c = search needs
@@ -35,11 +36,16 @@ shared-slice-read-hex-value c = search needs
 hex-value-requires : tie.Need-hex-value-requires Inv-loop μ-loop
 hex-value-requires c κs = tt
 
+cast-number : tie.Need-cast-number Inv-loop μ-loop
+cast-number c = search needs
+
 add-number : tie.Need-add-number Inv-loop μ-loop
 add-number c =
     let c₁ = c .before .before .before in
     let c₂ = c₁ .before .before in
-    omega (arith, number-small (c₂ .args .line .now) (c₂ .args .at) (c₁ .loop .i) (omega arith), c₁ .loop .inv .1, c .hex-value .ensures .1)
+    let small = number-small (c₂ .args .line .now) (c₂ .args .at) (c₁ .loop .i) (omega arith) (c₂ .pre .1) in
+    let digit = digit-small (c₂ .args .line .now) (c₂ .args .at) (c₁ .loop .i) (omega arith) (c₂ .pre .1) in
+    omega (arith, small, c₁ .loop .inv .1, digit, c .hex-value .ensures)
 
 add-i : tie.Need-add-i Inv-loop μ-loop
 add-i c = omega arith
@@ -49,7 +55,7 @@ loop-less c = omega arith
 
 loop-again : tie.Need-loop-again Inv-loop μ-loop
 unfolding number-from
-loop-again c = (omega arith, rw (add-one, c .hex-value .ensures .0, c .before .before .before .loop .inv .1))
+loop-again c = (omega arith, rw (add-one, c .hex-value .ensures, c .before .before .before .loop .inv .1))
 
 returns : tie.Need-returns Inv-loop μ-loop
 returns c =
@@ -67,6 +73,7 @@ number-at-spec =
     add-hex-value
     shared-slice-read-hex-value
     hex-value-requires
+    cast-number
     add-number
     add-i
     loop-less
