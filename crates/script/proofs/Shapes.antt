@@ -2,16 +2,19 @@
 use Prim.Native.Nat.{ℕ, zero, suc, _+_, _^_, _≤_, _<_}
 use native.Mathlib.Nat.{pow-suc, pow-le-pow-right}
 use native.Mathlib.Omega.{arith}
-use mathlib.Core.Bool.{Bool, true, false, _&&_}
+use mathlib.Core.Bool.{Bool, true, false, cond, _&&_}
 use mathlib.Core.List.{List}
 use mathlib.Core.Logic.{⊎-elim, _≢_}
-use mathlib.Core.Path.{_≡_, ap, sym, _∙_}
+use mathlib.Core.Path.{_≡_, refl, ap, sym, _∙_}
 use lib.Dec.{eqb}
 use lib.ListN.{length, getD}
 use borrow.Author.Tests.{eqb-true, ltb-true}
 use Rattle.words.proofs.Choices.{both-true, same-or-not}
 use Rattle.digits.specs.Digits.{value-of, is-hex}
-use Rattle.script.specs.Script.{digits-from, number-from, has-number, known, shaped, is-call}
+use Rattle.script.specs.Script.{digits-from, number-from, has-number, known, shaped, is-call, call-in, line-in}
+use Rattle.script.specs.declared.Call.{Call}
+use Rattle.script.specs.declared.Line.{Line}
+use Rattle.script.specs.declared.Line.the-variants.{Good, Bad}
 
 pub record Shape (s : List ℕ) : Type 0 where
   pub long : length s ≡ 38
@@ -76,3 +79,32 @@ pub number-small : (s : List ℕ) (at n : ℕ) → n < 8 → digits-from s at 8 
 number-small s at n h e =
     let small = below s at n (first-digits s at 8 n (omega (arith, h)) e) in
     omega (arith, small, pow-le-pow-right {n = 16} (omega arith) {i = n} {j = 7} (omega (arith, h)))
+
+-- ---- what a line is read as
+
+abbrev said : Line → Bool
+said (Good c) = true
+said Bad = false
+
+abbrev call-or : Call → Line → Call
+call-or none (Good c) = c
+call-or none Bad = none
+
+said-is : (s : List ℕ) → said (line-in s) ≡ is-call s
+unfolding line-in
+said-is s = go (is-call s)
+  where
+    go : (t : Bool) → said (cond t (Good (call-in s)) Bad) ≡ t
+    go true = refl
+    go false = refl
+
+-- A call only if it is one, and then that one.
+pub read-good : (s : List ℕ) (c : Call) → line-in s ≡ Good c → (is-call s ≡ true) × (c ≡ call-in s)
+unfolding line-in
+read-good s c e =
+    let good : is-call s ≡ true = sym (said-is s) ∙ ap said e in
+    let same : line-in s ≡ Good (call-in s) = rw good refl in
+    (good, ap (call-or c) (sym e ∙ same))
+
+pub read-bad : (s : List ℕ) → line-in s ≡ Bad → is-call s ≡ false
+read-bad s e = sym (said-is s) ∙ ap said e

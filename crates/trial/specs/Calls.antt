@@ -1,4 +1,4 @@
--- A call of a script, carried out: src/main.rt, the table of 'A script' and the second one of 'What is printed'.
+-- A call of a script, carried out: crates/script/src/lib.rt, the table of 'A script' and the second one of 'What is printed'.
 --   with-registers, with-bus, with-lengths, woken, first-state   the state: with a part replaced, after reset, at the start
 --   done s n x y                a call's answer, beside the state that it leaves
 --   .. -answer, .. -memory, .. -room, .. -list   what calls of one kind answer, and leave of what they have

@@ -5,10 +5,10 @@ ghost use lib.ListN.{length};
 ghost use Rattle.trial.specs.Runs.{world, RanLines, TookTurn};
 use crate::calls::carry_out;
 use crate::setting::first_state;
+use script::Line;
 use script::State;
-use script::call_in;
-use script::is_call;
 use script::put_line;
+use script::read_line;
 
 // The state after some lines, and how many of them were carried out.
 struct Ran {
@@ -33,17 +33,19 @@ fn run_lines(s: State, room: &mut [u16], list: &mut [u16], input: &[u8], output:
         let from = 38 * i;
         let to = from + 38;
         let line = &input[from..to];
-        if is_call(line) {
-            let call = call_in(line);
-            let d = carry_out(state, room, list, call);
-            let at = 47 * i;
-            let end = at + 47;
-            put_line(&mut output[at..end], call.letter, d);
-            let next = d.state;
-            state = next;
-            i += 1;
-        } else {
-            return Ran { state, calls: i };
+        match read_line(line) {
+            Line::Good(call) => {
+                let d = carry_out(state, room, list, call);
+                let at = 47 * i;
+                let end = at + 47;
+                put_line(&mut output[at..end], call.letter, d);
+                let next = d.state;
+                state = next;
+                i += 1;
+            }
+            Line::Bad => {
+                return Ran { state, calls: i };
+            }
         }
     }
     Ran { state, calls: i }

@@ -9,8 +9,9 @@ use mathlib.Core.List.{List, _++_}
 use lib.ListN.{length, take}
 use borrow.Rule.Slice.PartMut.{putMid, same-len-mid}
 use Rattle.block.proofs.Lent.{part-length, part-is}
-use Rattle.trial.proofs.Lent.{pushed}
-use Rattle.script.specs.Script.{is-call, call-in}
+use Rattle.script.proofs.Laying.{pushed, whole-line}
+use Rattle.script.proofs.Shapes.{read-good, read-bad}
+use Rattle.script.specs.Script.{is-call, call-in, line-in}
 use Rattle.script.specs.Answers.{line-of}
 use Rattle.trial.specs.Calls.{Carried}
 use Rattle.trial.specs.Runs.{World, world, line-at, answered, called, all-calls, after-lines, printed}
@@ -93,30 +94,24 @@ part-line-end c =
     let c₁ = c .before .before .before .before .before .before in
     in-script (c₁ .args .input .now) (c .before .loop .i) (c .loop-test .taken)
 
-is-call-requires : tie.Need-is-call-requires Inv-loop μ-loop
-is-call-requires c κs =
-    let c₁ = c .before .before .before .before .before .before .before in
-    part-length _ 38 _ (in-script (c₁ .args .input .now) (c .before .before .loop .i) (c .before .loop-test .taken))
+read-line-requires : tie.Need-read-line-requires Inv-loop μ-loop
+read-line-requires c κs = tt
 
-call-in-requires : tie.Need-call-in-requires Inv-loop μ-loop
-call-in-requires c κs =
-    let c₁ = c .before .before .before in
-    let c₂ = c₁ .before in
-    let c₃ = c₂ .before .before .before .before .before in
-    part-length _ 38 _ (in-script (c₃ .args .input .now) (c₂ .loop .i) (c₁ .loop-test .taken))
+enum-known-call : tie.Need-enum-known-call Inv-loop μ-loop
+enum-known-call c = search needs
 
 carry-out-requires : tie.Need-carry-out-requires Inv-loop μ-loop
 carry-out-requires c κs = tt
 
 mul-at : tie.Need-mul-at Inv-loop μ-loop
 mul-at c =
-    let c₁ = c .before .before .before .before .before .before .before .before .before .before .before in
+    let c₁ = c .before .before .before .before .before .before .before .before .before .before .before .before in
     let c₂ = c₁ .before .before .before .before .before .before in
     omega (arith, c₁ .loop-test .taken, c₂ .pre, c₂ .good)
 
 add-end : tie.Need-add-end Inv-loop μ-loop
 add-end c =
-    let c₁ = c .before .before .before .before .before .before .before .before .before .before .before in
+    let c₁ = c .before .before .before .before .before .before .before .before .before .before .before .before in
     let c₂ = c₁ .before .before .before .before .before .before in
     omega (arith, c₁ .loop-test .taken, c₂ .pre, c₂ .good)
 
@@ -128,64 +123,63 @@ part-put-line-start c = search needs
 
 part-put-line-end : tie.Need-part-put-line-end Inv-loop μ-loop
 part-put-line-end c =
-    let c₁ = c .before .before .before .before .before .before .before .before .before .before .before in
+    let c₁ = c .before .before .before .before .before .before .before .before .before .before .before .before in
     let c₂ = c₁ .before in
     let c₃ = c₂ .before .before .before .before .before in
     in-output (c₂ .loop .inv) (c₁ .loop-test .taken) (c₃ .pre)
 
 put-line-requires : tie.Need-put-line-requires Inv-loop μ-loop
-put-line-requires c κs =
-    let c₁ = c .before .before .before .before .before .before .before .before .before .before .before .before in
-    let c₂ = c₁ .before in
-    let c₃ = c₂ .before .before .before .before .before in
-    part-length _ 47 _ (in-output (c₂ .loop .inv) (c₁ .loop-test .taken) (c₃ .pre))
+put-line-requires c κs = tt
 
 add-i : tie.Need-add-i Inv-loop μ-loop
 add-i c =
-    let c₁ = c .before .before .before .before .before .before .before .before .before .before .before .before .before .before .before .before in
+    let c₁ = c .before .before .before .before .before .before .before .before .before .before .before .before .before .before .before .before .before in
     let c₂ = c₁ .before .before .before .before .before .before in
     omega (arith, c₁ .loop-test .taken, c₂ .good)
 
 loop-less : tie.Need-loop-less Inv-loop μ-loop
 loop-less c =
-    let c₁ = c .before .before .before .before .before .before .before .before .before .before .before .before .before .before .before .before in
+    let c₁ = c .before .before .before .before .before .before .before .before .before .before .before .before .before .before .before .before .before in
     omega (arith, c₁ .loop-test .taken)
 
 loop-again : tie.Need-loop-again Inv-loop μ-loop
 loop-again c =
     let c₁ = c .before .before .before in
     let c₂ = c₁ .before .before .before .before .before .before in
-    let c₃ = c₂ .before .before .before in
-    let c₄ = c₃ .before in
-    let c₅ = c₄ .before in
-    let c₆ = c₅ .before .before in
-    let c₇ = c₆ .before in
-    let c₈ = c₇ .before .before .before .before .before in
-    let k = c₇ .loop .inv in
-    let more = c₆ .loop-test .taken in
-    let line = part-is (38 * c₇ .loop .i) 38 (c₈ .args .input .now) in
-    let call = c₃ .call-in .ensures ∙ ap call-in line in
-    let good = sym (ap is-call line) ∙ sym (c₅ .is-call .ensures) ∙ c₄ .if1 .taken in
+    let c₃ = c₂ .before .before .before .before in
+    let c₄ = c₃ .before .before in
+    let c₅ = c₄ .before .before in
+    let c₆ = c₅ .before in
+    let c₇ = c₆ .before .before .before .before .before in
+    let k = c₆ .loop .inv in
+    let more = c₅ .loop-test .taken in
+    let line = part-is (38 * c₆ .loop .i) 38 (c₇ .args .input .now) in
+    let read = read-good _ _ (sym (ap line-in line) ∙ sym (c₄ .read-line .ensures) ∙ c₃ .call .given .1) in
     let done = c₂ .carry-out .ensures in
-    let long = c₁ .put-line .kept .0 ∙ part-length (47 * c₇ .loop .i) 47 (c₇ .loop .output) (in-output k more (c₈ .pre)) in
-    turned k more (c₈ .pre) good call done (c₂ .carry-out .kept .1 .0) (c₂ .carry-out .kept .1 .1 .0) (c₁ .put-line .ensures) long
+    let part = part-length (47 * c₆ .loop .i) 47 (c₆ .loop .output) (in-output k more (c₇ .pre)) in
+    let long = c₁ .put-line .kept .0 ∙ part in
+    let written = c₁ .put-line .ensures ∙ whole-line _ _ _ part in
+    turned k more (c₇ .pre) (read .0) (read .1) done (c₂ .carry-out .kept .1 .0) (c₂ .carry-out .kept .1 .1 .0) written long
+
+enum-told : tie.Need-enum-told Inv-loop μ-loop
+enum-told c = search needs
 
 same-length : tie.Need-same-length Inv-loop μ-loop
-same-length c = c .before .before .before .before .loop .inv .rooms
+same-length c = c .before .before .before .before .before .loop .inv .rooms
 
 same-length-2 : tie.Need-same-length-2 Inv-loop μ-loop
-same-length-2 c = c .before .before .before .before .loop .inv .lists
+same-length-2 c = c .before .before .before .before .before .loop .inv .lists
 
 same-length-3 : tie.Need-same-length-3 Inv-loop μ-loop
-same-length-3 c = c .before .before .before .before .loop .inv .size
+same-length-3 c = c .before .before .before .before .before .loop .inv .size
 
 returns : tie.Need-returns Inv-loop μ-loop
 returns c =
-    let c₁ = c .before .before .before .before in
+    let c₁ = c .before .before .before .before .before in
     let c₂ = c₁ .before .before .before .before .before in
     let k = c₁ .loop .inv in
     let line = part-is (38 * c₁ .loop .i) 38 (c₂ .args .input .now) in
-    let bad = sym (ap is-call line) ∙ sym (c .before .is-call .ensures) ∙ c .if1 .left in
+    let bad = read-bad _ (sym (ap line-in line) ∙ sym (c .before .before .read-line .ensures) ∙ c .enum-told .given .1) in
     record { most = k .most; calls = k .calls; cut = λ _. bad; left = k .left; written = k .out }
 
 same-length-4 : tie.Need-same-length-4 Inv-loop μ-loop
@@ -215,8 +209,8 @@ run-lines-spec =
     sub-line
     part-line-start
     part-line-end
-    is-call-requires
-    call-in-requires
+    read-line-requires
+    enum-known-call
     carry-out-requires
     mul-at
     add-end
@@ -227,6 +221,7 @@ run-lines-spec =
     add-i
     loop-less
     loop-again
+    enum-told
     same-length
     same-length-2
     same-length-3
