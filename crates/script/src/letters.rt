@@ -11,36 +11,42 @@ pub fn is_host_letter(l: u8) -> bool
     either(l == b'R', l == b'W')
 }
 
+// Of the processor.
 pub fn is_processor_letter(l: u8) -> bool
     ensures { λ r. ⌜ r ≡ processor-letter l ⌝ }
 {
     either(l == b'P', l == b'Q')
 }
 
+// Of fields.
 pub fn is_field_letter(l: u8) -> bool
     ensures { λ r. ⌜ r ≡ field-letter l ⌝ }
 {
     either(l == b'T', either(l == b'S', l == b'F'))
 }
 
+// Of the bus.
 pub fn is_bus_letter(l: u8) -> bool
     ensures { λ r. ⌜ r ≡ bus-letter l ⌝ }
 {
     either(l == b'A', either(l == b'B', l == b'C'))
 }
 
+// Of blocks.
 fn is_block_letter(l: u8) -> bool
     ensures { λ r. ⌜ r ≡ block-letter l ⌝ }
 {
     either(l == b'I', l == b'O')
 }
 
+// Of the calls that set the state.
 fn is_setting_letter(l: u8) -> bool
     ensures { λ r. ⌜ r ≡ setting-letter l ⌝ }
 {
     either(either(l == b'N', l == b'L'), either(l == b'G', l == b'Z'))
 }
 
+// Of the whole room and the whole list.
 pub fn is_whole_letter(l: u8) -> bool
     ensures { λ r. ⌜ r ≡ whole-letter l ⌝ }
 {
@@ -67,6 +73,7 @@ fn is_lent_letter(l: u8) -> bool
     )
 }
 
+// Of any call.
 pub(crate) fn is_letter(l: u8) -> bool
     ensures { λ r. ⌜ r ≡ known l ⌝ }
 {
