@@ -11,7 +11,7 @@ use Rattle.control.specs.Control.{closes, fetches, bare, low-parts, host-low}
 use Rattle.registers.specs.Registers.{register-word, written, half-written}
 use Rattle.port.specs.Cycle.{carried, memory-after, after-fetch, after-store, mark, stepped}
 use Rattle.port.specs.Host.{access, access-memory, done, refusal, begin-access, read-due, write-due}
-use Rattle.listing.specs.Digits.{is-decimal, value-of, digit-for}
+use Rattle.digits.specs.Digits.{is-decimal, value-of, digit-for}
 use Rattle.listing.specs.Line.{headed, tailed, line-of}
 use Rattle.listing.specs.Answer.{head-text, shows-mark, mark-text, cycle-text, answer-text}
 use Rattle.listing.specs.Listing.{next, listing}

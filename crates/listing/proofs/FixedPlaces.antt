@@ -7,7 +7,7 @@ use lib.Dec.{eqb, ltb}
 use lib.ListN.{length}
 use borrow.Author.Tests.{eqb-true, ltb-false}
 use Rattle.words.proofs.Choices.{both-true}
-use Rattle.listing.specs.Digits.{is-decimal, is-hex}
+use Rattle.digits.specs.Digits.{is-decimal, is-hex}
 use Rattle.listing.specs.Line.{byte, headed, tailed}
 use Rattle.listing.specs.Parts.{reads, writes}
 

@@ -11,12 +11,12 @@ use lib.Seq.{getD-at, split-at, take-suc, take-length, length-take-le}
 use borrow.Author.Tests.{eqb-true, eq-eqb, le-ltb}
 use Rattle.words.proofs.Choices.{either-way, both-true}
 use Rattle.port.specs.declared.Access.{Access}
-use Rattle.listing.specs.Digits.{is-decimal}
+use Rattle.digits.specs.Digits.{is-decimal}
 use Rattle.listing.specs.Line.{bad, byte, headed, tailed, read-in, write-in, line-of, before-feed, has-feed, with-length, front-line}
 use Rattle.listing.specs.Parts.{reads, writes, other-front}
 use Rattle.listing.specs.Pieces.{No-feed}
 use Rattle.listing.specs.declared.Front.the-variants.{Good, Bad, Open}
-use Rattle.listing.proofs.DigitValues.{decimal-is, hex-apart}
+use Rattle.digits.proofs.DigitValues.{decimal-is, hex-apart}
 use Rattle.listing.proofs.Feeds.{none-joined, split-feed, laid-before, has-laid}
 use Rattle.listing.proofs.FixedPlaces.{Head, Tail, head-is, tail-is, read-line, write-line}
 

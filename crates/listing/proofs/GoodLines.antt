@@ -12,10 +12,10 @@ use borrow.Author.Tests.{eqb-true, ltb-true}
 use Rattle.words.proofs.Choices.{either-way, both-true}
 use Rattle.port.specs.declared.Access.{Access}
 use Rattle.port.specs.declared.Access.the-variants.{Read, Write}
-use Rattle.listing.specs.Digits.{is-decimal, word-from}
-use Rattle.listing.specs.Line.{Line, good, bad, byte, hex, headed, tailed, read-in, write-in, line-of}
+use Rattle.digits.specs.Digits.{is-decimal}
+use Rattle.listing.specs.Line.{Line, good, bad, byte, hex, word-from, headed, tailed, read-in, write-in, line-of}
 use Rattle.listing.specs.Spelled.{line-text, Sayable}
-use Rattle.listing.proofs.DigitValues.{decimal, decimal-is, value-of-digit, digit-is-hex, digit-of-value}
+use Rattle.digits.proofs.DigitValues.{decimal, decimal-is, value-of-digit, digit-is-hex, digit-of-value}
 use Rattle.listing.proofs.FixedPlaces.{Head, Tail, head-is, tail-is}
 
 one-digit : (n : ℕ) → n < 10 → is-decimal (48 + n) ≡ true

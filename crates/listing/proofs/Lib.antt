@@ -1,5 +1,4 @@
 -- what the definitions mean
-pub mod DigitValues
 pub mod GoodLines
 pub mod LastLine
 pub mod AnswerTexts

@@ -14,7 +14,7 @@ use Rattle.port.specs.declared.Access.the-variants.{Read, Write}
 use Rattle.port.specs.declared.Answer.{Answer}
 use Rattle.port.specs.declared.Cycle.{Cycle}
 use Rattle.port.specs.declared.Cycle.the-variants.{None, Inside, Empty}
-use Rattle.listing.specs.Digits.{digit-for}
+use Rattle.digits.specs.Digits.{digit-for}
 
 -- the number's digit (a host's answer has no number above 3), a space, the word's four digits
 unfoldable pub head-text : ℕ → ℕ → List ℕ

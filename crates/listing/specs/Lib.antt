@@ -1,5 +1,4 @@
 -- what document 01 says of the program's lines
-pub mod Digits
 pub mod Line
 pub mod Answer
 pub mod Listing

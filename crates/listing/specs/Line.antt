@@ -1,14 +1,15 @@
 -- A line of text to an access: document 01, 'Blocks and the two doors', "lines `R reg lanes` and `W reg lanes hhhh` (decimal digit, four
 -- upper-case hex digits, one space, line feed), at most 32 bytes each".
 --   Line, line-of u          an access or bad; what a line u says, without its line feed
+--   word-from                the word that four digits' values make
 --   before-feed, has-feed    the bytes before a text's first line feed, and whether it has one
 --   front-line t             the line that a text begins with
-use Prim.Native.Nat.{ℕ, _+_}
+use Prim.Native.Nat.{ℕ, _+_, _*_}
 use mathlib.Core.Bool.{Bool, false, cond, _&&_, _||_}
 use mathlib.Core.List.{List, [], _∷_}
 use lib.Dec.{eqb, ltb}
 use lib.ListN.{length, getD}
-use Rattle.listing.specs.Digits.{is-decimal, decimal-of, value-of, is-hex, word-from}
+use Rattle.digits.specs.Digits.{is-decimal, decimal-of, value-of, is-hex}
 use Rattle.port.specs.declared.Access.{Access}
 use Rattle.port.specs.declared.Access.the-variants.{Read, Write}
 use Rattle.listing.specs.declared.Front.{Front}
@@ -38,6 +39,10 @@ unfoldable pub tailed : List ℕ → Bool
 tailed u =
     eqb (byte u 5) 32 &&
     (is-hex (byte u 6) && (is-hex (byte u 7) && (is-hex (byte u 8) && is-hex (byte u 9))))
+
+-- the word that four digits' values make, the highest first
+abbrev pub word-from : ℕ → ℕ → ℕ → ℕ → ℕ
+word-from a b c d = a * 4096 + b * 256 + c * 16 + d
 
 abbrev pub read-in : List ℕ → Access
 read-in u = Read (digit u 2) (digit u 4)

@@ -5,7 +5,7 @@ use Prim.Native.Nat.{ℕ, _+_, _/_, _<_}
 use mathlib.Core.List.{List, [], _∷_}
 use Rattle.port.specs.declared.Access.{Access}
 use Rattle.port.specs.declared.Access.the-variants.{Read, Write}
-use Rattle.listing.specs.Digits.{digit-for}
+use Rattle.digits.specs.Digits.{digit-for}
 
 -- `R reg lanes` and `W reg lanes hhhh`
 abbrev pub line-text : Access → List ℕ

@@ -4,7 +4,7 @@ ghost use Prim.Native.Nat.{_+_, _≤_, _<_};
 ghost use lib.ListN.{length};
 ghost use Rattle.listing.specs.Answer.{shows-mark, head-text, mark-text, cycle-text, answer-text};
 ghost use Rattle.listing.specs.Parts.{Put};
-use crate::digits::digit_for;
+use digits::digit_for;
 use port::Access;
 use port::Answer;
 use port::Cycle;

@@ -1,7 +1,6 @@
 // The text of `portlist`: a line to an access, an answer to a line, a stretch of input to a stretch of output.
 // Document 01, "Blocks and the two doors", its last part.
 mod answers;
-mod digits;
 mod lines;
 mod stretches;
 

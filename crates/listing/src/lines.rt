@@ -5,15 +5,14 @@
 // for its line feed.
 ghost use mathlib.Core.Path.{_≡_};
 ghost use mathlib.Core.Bool.{true};
-ghost use Prim.Native.Nat.{_≤_};
+ghost use Prim.Native.Nat.{_≤_, _<_};
 ghost use lib.ListN.{length};
-ghost use Rattle.listing.specs.Line.{headed, tailed, read-in, write-in, front-line};
+ghost use Rattle.digits.specs.Digits.{is-decimal, decimal-of};
+ghost use Rattle.listing.specs.Line.{word-from, headed, tailed, read-in, write-in, front-line};
 ghost use Rattle.listing.specs.Parts.{reads, writes, other-front};
 use crate::Front;
-use crate::digits::decimal_of;
-use crate::digits::hex_value;
-use crate::digits::is_decimal;
-use crate::digits::word_from;
+use digits::hex_value;
+use digits::is_decimal;
 use port::Access;
 use words::both;
 
@@ -69,6 +68,22 @@ fn begins_with_write(s: &[u8]) -> bool
         return false;
     }
     both(s[10] == 10, both(is_headed(s, 87), is_tailed(s)))
+}
+
+// What a decimal digit stands for.
+fn decimal_of(b: u8) -> u32
+    requires { ⌜ is-decimal b ≡ true ⌝ }
+    ensures { λ r. ⌜ r ≡ decimal-of b ⌝ }
+{
+    (b - 48) as u32
+}
+
+// The word that four digits' values make.
+fn word_from(a: u8, b: u8, c: u8, d: u8) -> u16
+    requires { ⌜ (a < 16) × (b < 16) × (c < 16) × (d < 16) ⌝ }
+    ensures { λ r. ⌜ r ≡ word-from a b c d ⌝ }
+{
+    a as u16 * 4096 + b as u16 * 256 + c as u16 * 16 + d as u16
 }
 
 // What a line `R reg lanes` asks for.

@@ -1,0 +1,51 @@
+//! The five sources of bus requests and the order of their grants: document 01, "Bus order".
+
+use crate::fault::{instead, planted, Fault};
+
+const HOLD: usize = 0;
+
+#[derive(Default)]
+pub struct Bus {
+    waits: [bool; 5],
+}
+
+impl Bus {
+    pub fn reset(&mut self) {
+        self.waits = instead(Fault::ResetKeepsBus, self.waits, [false; 5]);
+    }
+
+    pub fn ask(&mut self, source: u32) -> u8 {
+        match self.waits.get_mut(source as usize) {
+            Some(true) => 7,
+            Some(waits) => {
+                *waits = true;
+                0
+            }
+            None => 9,
+        }
+    }
+
+    /// Number and source.
+    pub fn grant(&mut self) -> (u8, u32) {
+        let order = instead(Fault::HostAfterProcessor, [0, 1, 2, 4, 3], [0, 1, 2, 3, 4]);
+        let Some(source) = order.into_iter().find(|&source| self.waits[source]) else {
+            return (8, 0);
+        };
+        self.waits[source] = source == HOLD && !planted(Fault::HoldCleared);
+        (0, source as u32)
+    }
+
+    pub fn release(&mut self) -> u8 {
+        let waited = std::mem::replace(&mut self.waits[HOLD], false);
+        if waited {
+            0
+        } else {
+            8
+        }
+    }
+
+    /// Bit s is set if source s waits.
+    pub fn number(&self) -> u32 {
+        (0..5).fold(0, |sum, s| sum | u32::from(self.waits[s]) << s)
+    }
+}

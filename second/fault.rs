@@ -1,0 +1,68 @@
+//! Planted faults: mistakes that a person could make when writing the model, one of which may be
+//! switched on for a run, to show that the scripts would notice it. The first five are those of
+//! document 01, "Mistakes that look right".
+
+use std::sync::OnceLock;
+
+macro_rules! faults {
+    ($($fault:ident $name:literal: $lie:literal)*) => {
+        #[derive(Clone, Copy, PartialEq)]
+        pub enum Fault {
+            $(#[doc = $lie] $fault,)*
+        }
+
+        pub const NAMED: &[(&str, Fault)] = &[$(($name, Fault::$fault),)*];
+    };
+}
+
+faults! {
+    LastWordRefused "last-word-refused": "The read whose fetch ahead leaves memory is refused."
+    FetchBeforeAnswer "fetch-before-answer": "Each read hands out the word after."
+    ReadGoesToMemory "read-goes-to-memory": "A store is followed by a fetch, as if a read went there."
+    FirstByteCycles "first-byte-cycles": "The cycle starts on the byte that doesn't close the word."
+    HostClearsIntin "host-clears-intin": "The host's 0 clears INTIN."
+    LanesSwapped "lanes-swapped": "Lane 1 is the high byte."
+    LblIgnored "lbl-ignored": "The closing byte is the high byte, whatever LBL says."
+    LoadIncrements "load-increments": "The fetch of a pointer load increments by INCR."
+    StepOfOne "step-of-one": "The pointer is taken for a word number and gains 1."
+    PointerStops "pointer-stops": "The pointer stops at its top instead of wrapping."
+    LowBitsLost "low-bits-lost": "A step clears the pointer's four low bits."
+    StoreKeepsMark "store-keeps-mark": "A store leaves the hollow mark."
+    AnyByteClearsMark "any-byte-clears-mark": "The first byte written clears the hollow mark."
+    EmptyFetchKeeps "empty-fetch-keeps": "An empty fetch leaves the old word in HSTDATA."
+    ProcessorKeepsMark "processor-keeps-mark": "The processor's write leaves the hollow mark."
+    BitTenShown "bit-10-shown": "Bit 10 of a record passed in is read as it is."
+    BitTenKept "bit-10-kept": "Bit 10 can be written."
+    LimitOneOver "limit-one-over": "32,769 words are accepted."
+    LanesBeforeRegister "lanes-before-register": "Wrong lanes are refused before a wrong register."
+    ResetHeld "reset-held": "Reset leaves the word held."
+    ResetKeepsBus "reset-keeps-bus": "Reset leaves the requests waiting."
+    HoldCleared "hold-cleared": "The grant of hold clears it."
+    HostAfterProcessor "host-after-processor": "The processor is granted before the host."
+    BlockFeigned "block-feigned": "A block does its first word and feigns the others."
+    BlockPlaceWraps "block-place-wraps": "Place plus count is taken modulo 2^64."
+    BlockCountsFiller "block-counts-filler": "A held FFFFh is counted as hollow."
+    FieldSignedEdge "field-signed-edge": "The least number of a signed field stays positive."
+    FieldWholeTwice "field-whole-twice": "A wholly covered word costs two cycles."
+    FieldThirdWord "field-third-word": "A put of 18 to 31 bits loses its third word."
+    FieldMemoryFirst "field-memory-first": "A missing word is refused before a wrong size."
+}
+
+static PLANTED: OnceLock<Fault> = OnceLock::new();
+
+pub fn plant(fault: Fault) {
+    let _ = PLANTED.set(fault);
+}
+
+pub fn planted(fault: Fault) -> bool {
+    PLANTED.get() == Some(&fault)
+}
+
+/// The right value, or the wrong one where that fault is planted.
+pub fn instead<T>(fault: Fault, wrong: T, right: T) -> T {
+    if planted(fault) {
+        wrong
+    } else {
+        right
+    }
+}
