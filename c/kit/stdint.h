@@ -1,5 +1,6 @@
 #ifndef KIT_STDINT_H
 #define KIT_STDINT_H
+typedef __INT32_TYPE__ int32_t;
 typedef __UINT8_TYPE__ uint8_t;
 typedef __UINT16_TYPE__ uint16_t;
 typedef __UINT32_TYPE__ uint32_t;

@@ -16,6 +16,7 @@ use port::Due;
 use port::Outcome;
 use registers::Registers;
 use registers::read_register;
+use registers::set_latch;
 use registers::write_register;
 use words::both;
 use words::is_over_limit;
@@ -150,15 +151,34 @@ pub fn finish(b: Begun, c: Carried) -> Outcome
 }
 
 // One access by the host, on the lent memory.
+//
+// Three things here are for speed alone. The record is made anew, or its bytes of padding are carried along; each kind of access
+// has its own cycle, or the compiler joins the two and tests the kind again; and a write asks for its cycle apart, since a case
+// that is copied out of a record is a packed number to the compiler.
 pub fn host_access(r: Registers, memory: &mut [u16], a: Access) -> Outcome
     ensures { λ o. ⌜ Accessed r (now (memory .entry)) a o (now (memory .exit)) ⌝ }
 {
     let number = number_of(memory.len(), a);
+    let s = set_latch(r, r.latch, r.hollow);
     if number != 0 {
-        return refuse(number, r);
+        return refuse(number, s);
     }
-    let b = begin(r, a);
-    let q = b.registers;
-    let due = b.due;
-    finish(b, carry(q, due, memory))
+    match a {
+        Access::Read { register, lanes } => {
+            let b = begin_read(s, register, lanes);
+            let q = b.registers;
+            let due = b.due;
+            finish(b, carry(q, due, memory))
+        }
+        Access::Write {
+            register,
+            lanes,
+            word,
+        } => {
+            let b = begin_write(s, register, lanes, word);
+            let q = b.registers;
+            let due = due_of_write(s.control, register, lanes);
+            finish(b, carry(q, due, memory))
+        }
+    }
 }

@@ -1,7 +1,7 @@
 -- An answer to a line of text: document 01, 'Blocks and the two doors', "(number, word, hollow or held, cycle)".
 --   head-text      the number and the word
 --   shows-mark     whether a line tells the hollow mark
---   mark-text      that mark, between its spaces
+--   mark-text      that mark, between its spaces: hollow-mark, held-mark or no-mark
 --   cycle-text     the cycle, with the line feed
 --   answer-text    the whole line
 --   bad-line       what a bad line prints
@@ -26,12 +26,20 @@ unfoldable pub shows-mark : Access → ℕ → Bool
 shows-mark (Read register lanes) number = eqb register 2 && eqb number 0
 shows-mark (Write register lanes w) number = false
 
--- " hollow ", " held ", " - "
+-- " hollow "
+abbrev pub hollow-mark : List ℕ
+hollow-mark = 32 ∷ 104 ∷ 111 ∷ 108 ∷ 108 ∷ 111 ∷ 119 ∷ 32 ∷ []
+
+-- " held "
+abbrev pub held-mark : List ℕ
+held-mark = 32 ∷ 104 ∷ 101 ∷ 108 ∷ 100 ∷ 32 ∷ []
+
+-- " - "
+abbrev pub no-mark : List ℕ
+no-mark = 32 ∷ 45 ∷ 32 ∷ []
+
 unfoldable pub mark-text : Bool → Bool → List ℕ
-mark-text shown hollow =
-    cond shown
-    (cond hollow (32 ∷ 104 ∷ 111 ∷ 108 ∷ 108 ∷ 111 ∷ 119 ∷ 32 ∷ []) (32 ∷ 104 ∷ 101 ∷ 108 ∷ 100 ∷ 32 ∷ []))
-    (32 ∷ 45 ∷ 32 ∷ [])
+mark-text shown hollow = cond shown (cond hollow hollow-mark held-mark) no-mark
 
 -- "none", "in"; "An empty cycle prints `empty`"
 unfoldable pub cycle-text : Cycle → List ℕ

@@ -27,17 +27,10 @@ fn answer_line(
 {
     let done = host_access(r, memory, a);
     let answer = done.answer;
-    // Field by field: assigned whole, the record's unused bytes would go round the loop through memory.
-    let left = done.registers;
-    let pointer = left.pointer;
+    let registers = done.registers;
     let end = put_answer(output, wrote, a, answer);
     Answered {
-        registers: Registers {
-            pointer,
-            latch: left.latch,
-            control: left.control,
-            hollow: left.hollow,
-        },
+        registers,
         wrote: end,
     }
 }

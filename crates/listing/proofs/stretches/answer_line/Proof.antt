@@ -15,12 +15,11 @@ host-access-requires c κs = tt
 
 put-answer-requires : tie.Need-put-answer-requires
 put-answer-requires c κs =
-    let at-host-access = c .before .before .before .before .before .before in
-    let start = at-host-access .before .before .before .before in
+    let call = c .before .before .before .before .before in
+    let start = call .before .before .before .before in
     let a = start .args in
-    let access = at-host-access .host-access in
     let listed = numbered (a .r) (a .memory .now) (a .a) .listed in
-    let same = ap (λ (o : Outcome). o .answer .number) (access .ensures .outcome) in
+    let same = ap (λ (o : Outcome). o .answer .number) (call .host-access .ensures .outcome) in
     (start .pre, omega (arith, listed, same))
 
 same-length : tie.Need-same-length
@@ -31,14 +30,13 @@ same-length-2 c = search needs
 
 returns : tie.Need-returns
 returns c =
-    let at-host-access = c .before .before .before .before .before .before .before .before .before in
-    let start = at-host-access .before .before .before .before in
-    let a = start .args in
-    let outcome = at-host-access .host-access .ensures .outcome in
     let put = c .before .before .put-answer in
+    let call = c .before .before .before .before .before .before .before .before in
+    let a = call .before .before .before .before .args in
+    let outcome = call .host-access .ensures .outcome in
     record {
       registers = ap (λ (o : Outcome). o .registers) outcome;
-      memory = at-host-access .host-access .ensures .memory;
+      memory = call .host-access .ensures .memory;
       text =
           subst
           (λ (x : Answer). Put (a .output .now) (a .wrote) (answer-text (a .a) x) (put .result) (put .last .0))

@@ -1,4 +1,5 @@
-/* ratio DOOR-MODEL-OR-NOTHING KIND COUNT: makes so many calls of one kind, for c/ratio to count their instructions. */
+/* door DOOR-MODEL-OR-NOTHING KIND COUNT: makes so many calls of one kind, for bench/run to count their instructions, and prints a sum of
+ * what they answer and of the image that they leave. */
 #include <stdint.h>
 #include <stdio.h>
 #include <stdlib.h>
@@ -6,7 +7,7 @@
 #include "host_port.h"
 /* Compiled together with this file, as the door's parts are compiled together. */
 #define WITHOUT_LIES
-#include "model.c"
+#include "../c/model.c"
 
 typedef uint64_t reading(uint8_t *image, size_t image_length, uint8_t *memory, size_t memory_length, uint32_t reg,
                          uint32_t lanes);
@@ -57,14 +58,22 @@ int main(int count, char **words)
     }
     int who = words[1][0] == 'd' ? 0 : words[1][0] == 'm' ? 1 : 2;
     uint32_t lanes = words[2][1] == 'b' ? HOST_PORT_LOW : HOST_PORT_BOTH;
+    for (size_t i = 0; i < sizeof memory; i++) {
+        memory[i] = (uint8_t)(i * 7);
+    }
     host_port_reset(image);
     image[7] = (HOST_PORT_INCR | HOST_PORT_INCW) >> 8;
+    uint64_t sum = 0;
     for (int left = atoi(words[3]); left > 0; left--) {
         if (words[2][0] == 'r') {
-            reads[who](image, sizeof image, memory, sizeof memory, HOST_PORT_HSTDATA, lanes);
+            sum = 3 * sum + reads[who](image, sizeof image, memory, sizeof memory, HOST_PORT_HSTDATA, lanes);
         } else {
-            writes[who](image, sizeof image, memory, sizeof memory, HOST_PORT_HSTDATA, lanes, 0x1234);
+            sum = 3 * sum + writes[who](image, sizeof image, memory, sizeof memory, HOST_PORT_HSTDATA, lanes, 0x1234);
         }
     }
+    for (int i = 0; i < HOST_PORT_IMAGE_BYTES; i++) {
+        sum = 3 * sum + image[i];
+    }
+    printf("%016lx\n", (unsigned long)sum);
     return EXIT_SUCCESS;
 }
