@@ -1,5 +1,6 @@
 -- Where HSTCTL's parts stand: document 01, "MSGIN 0-2, INTIN 3, MSGOUT 4-6, INTOUT 7, .. INCW 11, INCR 12, LBL 13".
--- NMI, NMIM, CF and HLT have no name here, since nothing obeys them: `Written` says of each high bit but 10 that a write replaces it.
+-- NMI, NMIM, CF and HLT have no name here, since nothing obeys them: `Written` says of all high bits but 10 that a
+-- write of that byte replaces them.
 use Prim.Native.Nat.{ℕ, _+_, _/_, _<_}
 use native.Mathlib.Nat.{zero-add}
 use mathlib.Core.Path.{_≡_, refl, _∙_}
