@@ -10,7 +10,8 @@
  *     0-3   the pointer, low byte first: HSTADRL is its low half, HSTADRH its high half
  *     4-5   HSTDATA, low byte first
  *     6-7   HSTCTL, low byte first; bit 10 is 0
- *     8     the hollow mark, 0 or 1: HSTDATA is filler, since a fetch missed memory or nothing was fetched since reset
+ *     8     the hollow mark, 0 or 1: set by reset and by a fetch that missed memory, cleared by a fetch inside memory and by
+ *           the write of HSTDATA that ends its word
  *
  * After reset every byte is 0 but for HLT (HSTCTL is 8000h) and the mark, which is 1: host_port_reset makes it.
  *
@@ -62,7 +63,8 @@ enum {
 };
 
 /* The bits of HSTCTL. With LBL 0 a word done by bytes ends with its high byte, and loading the pointer with HSTADRH; with
- * LBL 1 the word ends with its low byte, and the loading with HSTADRL. What ends it starts the memory cycle. */
+ * LBL 1 the word ends with its low byte, and the loading with HSTADRL. A memory cycle is started by the byte that ends a word of
+ * HSTDATA, read or written, and by the byte that ends the loading, when it is written; by nothing else. */
 enum {
     HOST_PORT_MSGIN = 0x0007,
     HOST_PORT_INTIN = 0x0008,

@@ -78,11 +78,11 @@ module _ (s : Machine) (k : Memory (s .memory)) (i : incr (s .registers .control
       let told = handed-out (n + j) (words ++ replicate j 0xffff) j f (held-then-hollow _ words j given-so) in
       record { number = told .0; words = told .1; hollows = told .2 }
 
-  -- Begun past the end of memory, every word of the block is filler, and counted.
+  -- Begun past the end of memory, the block is done, and every word of it is filler, and counted.
   pub block-beyond : (j : ℕ) → a .0 < 2 ^ 32 → length (s .memory) ≤ word-at a .0 → word-at a .0 + j ≤ 2 ^ 28 → Fits l place j →
-      (stretch (list-after (loaded s a .registers) (s .memory) l place j) place j ≡ replicate j 0xffff)
+      (block-read (loaded s a .registers) (s .memory) l place j .number ≡ 0)
+      × (stretch (list-after (loaded s a .registers) (s .memory) l place j) place j ≡ replicate j 0xffff)
       × (block-read (loaded s a .registers) (s .memory) l place j .hollows ≡ j)
   block-beyond j b h q f =
       let given-so = ap (λ (t : Machine). map given (answers t (reading j))) (just-loaded b) ∙ only-hollow s k i a j b h q in
-      let told = handed-out j (replicate j 0xffff) j f (held-then-hollow _ [] j given-so) in
-      (told .1, told .2)
+      handed-out j (replicate j 0xffff) j f (held-then-hollow _ [] j given-so)

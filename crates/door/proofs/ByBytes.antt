@@ -9,6 +9,7 @@ use Rattle.words.proofs.Choices.{either-way}
 use Rattle.port.specs.Runs.{Machine, Sixteen, on, joined, answer-of, after}
 use Rattle.port.specs.declared.Access.{Access}
 use Rattle.port.specs.declared.Answer.{Answer}
+use Rattle.port.specs.declared.Cycle.the-variants.{None}
 use Rattle.port.proofs.Alike.{alike}
 use Rattle.door.specs.Bytes.{words-of, bytes-of}
 use Rattle.door.specs.Image.{registers-of, image-of}
@@ -21,8 +22,12 @@ use Rattle.door.proofs.Refusals.{refuses}
 use Rattle.door.proofs.AsByValue.{tells-as-access, image-as-access, memory-as-access, registers-left, words-left}
 use Rattle.door.proofs.AsByValue.{fits-again, image-bytes-again, memory-bytes-again}
 
--- the two byte calls of x, one after the other, against one call
+-- The two byte calls of x, one after the other, against one call. The first shows the number and the hollow mark that the whole
+-- call shows, and has no cycle; together they tell and leave what it does.
 pub record Alike (l : Lent) (x : Sixteen) : Type 0 where
+  pub first-number : told l (opening l x) .number ≡ told l (on 3 x) .number
+  pub first-hollow : told l (opening l x) .hollow ≡ told l (on 3 x) .hollow
+  pub first-cycle : told l (opening l x) .cycle ≡ None
   pub answer : joined (told l (opening l x)) (told (left l (opening l x)) (closing l x)) ≡ told l (on 3 x)
   pub end : left (left l (opening l x)) (closing l x) ≡ left l (on 3 x)
 
@@ -71,12 +76,17 @@ module _ (l : Lent) (s : AreBytes (l .image)) (t : AreBytes (l .memory)) (x : Si
       let t₁ = memory-bytes-again (l .image) (l .memory) f s t a in
       let e = stands-by-value l f s t a in
       let p = alike (stands l) x in
+      let first = told-by-value l f s t a in
+      let whole = told-by-value l f s t (on 3 x) in
       record {
+        first-number = rw (first, whole) (p .first-number);
+        first-hollow = rw (first, whole) (p .first-hollow);
+        first-cycle = rw first (p .first-cycle);
         answer =
-            ap (λ (u : Answer). joined u (told (left l a) b)) (told-by-value l f s t a) ∙
+            ap (λ (u : Answer). joined u (told (left l a) b)) first ∙
             ap (λ (u : Answer). joined (answer-of (stands l) a) u)
             (told-by-value (left l a) f₁ s₁ t₁ b ∙ ap (λ (m : Machine). answer-of m b) e) ∙
-            p .answer ∙ sym (told-by-value l f s t (on 3 x));
+            p .answer ∙ sym whole;
         end =
             left-by-value (left l a) f₁ s₁ t₁ b ∙
             ap (λ (m : Machine). bytes (after m b)) e ∙
@@ -86,15 +96,20 @@ module _ (l : Lent) (s : AreBytes (l .image)) (t : AreBytes (l .memory)) (x : Si
   alike-unfit : misfit (l .image) (l .memory) ≡ true → Alike l x
   alike-unfit e =
       let stood = left-unfit l e a in
+      let first = told-unfit l e a in
+      let whole = told-unfit l e (on 3 x) in
       record {
+        first-number = rw (first, whole);
+        first-hollow = rw (first, whole);
+        first-cycle = rw first;
         answer =
-            ap (λ (u : Answer). joined u (told (left l a) b)) (told-unfit l e a) ∙
+            ap (λ (u : Answer). joined u (told (left l a) b)) first ∙
             ap (λ (u : Answer). joined (refusing 11) u) (ap (λ (k : Lent). told k b) stood ∙ told-unfit l e b) ∙
-            sym (told-unfit l e (on 3 x));
+            sym whole;
         end = ap (λ (k : Lent). left k b) stood ∙ left-unfit l e b ∙ sym (left-unfit l e (on 3 x));
       }
 
-  -- Any sixteen-bit access done as two byte calls ends alike, whatever is lent.
+  -- Any sixteen-bit access done as two byte calls tells and leaves the same as one call, whatever is lent.
   pub calls-alike : Alike l x
   calls-alike =
       ⊎-elim alike-unfit (λ e. alike-fit (fitting (l .image) (l .memory) e)) (either-way (misfit (l .image) (l .memory)))

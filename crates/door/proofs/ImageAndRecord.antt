@@ -48,10 +48,11 @@ places i s =
       hollow = refl;
     }
 
--- The image 78 56 34 12 CD AB 01 98 01 stands for pointer 12345678h, HSTDATA ABCDh, HSTCTL 9801h, hollow.
+-- An image with no two parts alike.
 pub an-image : List ℕ
 an-image = 0x78 ∷ 0x56 ∷ 0x34 ∷ 0x12 ∷ 0xcd ∷ 0xab ∷ 0x01 ∷ 0x98 ∷ 0x01 ∷ []
 
+-- 78 56 34 12 CD AB 01 98 01 stands for pointer 12345678h, HSTDATA ABCDh, HSTCTL 9801h, hollow.
 pub its-registers : registers-of an-image ≡ record { pointer = address 0x12345678; latch = 0xabcd; control = 0x9801; hollow = true }
 unfolding registers-of an-image
 its-registers = refl

@@ -17,11 +17,13 @@ use Rattle.field_bits.proofs.WordBits.{bits-above, bits-below, bits-fit
 -- ---- a bit above a number of i bits
 
 module _ (i r : ℕ) (h : r < 2 ^ i) where
+  -- A bit laid above a number of i bits is bit i of both together.
   pub top-is : (v : Bool) → bit (cond v (2 ^ i) 0 + r) i ≡ v
   unfolding bit
   top-is true = let e : (2 ^ i + r) / 2 ^ i ≡ 1 = subst (λ (x : ℕ). (x + r) / 2 ^ i ≡ 1) (one-mul (2 ^ i)) (high 1 i h) in rw e
   top-is false = rw (zero-add r) (bit-above i h (omega arith))
 
+  -- Below bit i lies that number.
   pub rest-is : (v : Bool) → (cond v (2 ^ i) 0 + r) % 2 ^ i ≡ r
   rest-is true = subst (λ (x : ℕ). (x + r) % 2 ^ i ≡ r) (one-mul (2 ^ i)) (low 1 i h)
   rest-is false = rw (zero-add r) (mod-eq-of-lt h)

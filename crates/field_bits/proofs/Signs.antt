@@ -18,6 +18,7 @@ use Rattle.field_bits.proofs.WordBits.{one-bit-more}
 
 -- ---- the top bit
 
+-- Bit n - 1 of a number below 2^(n - 1) is clear.
 pub top-clear : (n x : ℕ) → x < 2 ^ (n - 1) → bit x (n - 1) ≡ false
 top-clear n x h = bit-above (n - 1) h (omega arith)
 
@@ -31,6 +32,7 @@ is-set : (b : Bool) (p x r : ℕ) → x ≡ cond b p 0 + r → r < p → p ≤ x
 is-set true p x r e l h = refl
 is-set false p x r e l h = absurd (omega arith)
 
+-- Bit n - 1 of a number of n bits that is 2^(n - 1) or more is set.
 pub top-set : (n x : ℕ) → 1 ≤ n → x < 2 ^ n → 2 ^ (n - 1) ≤ x → bit x (n - 1) ≡ true
 top-set n x s l h =
     let k : ℕ = n - 1 in

@@ -18,6 +18,7 @@ use Rattle.field_bits.proofs.Readings.{bit-in, set-bit-in, put-length}
 use Rattle.field_bits.proofs.WordBits.{weight-up, one-bit-more, no-bits, next-bit}
 
 module _ (m : List ℕ) (a : BitAddress) (d w o : ℕ) (e : a .0 + d ≡ w * 16 + o) where
+  -- The field of d + n bits is that of d bits with n bits of the word, from its bit o on, above them.
   pub take-part : (n : ℕ) → o + n ≤ 16 → field-at m a (d + n) ≡ field-at m a d + getD m w 0 / 2 ^ o % 2 ^ n * 2 ^ d
   unfolding field-at
   take-part zero l = rw (add-zero d, mod-one (getD m w 0 / 2 ^ o)) (omega arith)
@@ -29,6 +30,7 @@ module _ (m : List ℕ) (a : BitAddress) (d w o : ℕ) (e : a .0 + d ≡ w * 16 
       ∙ ap (λ (y : ℕ). y + x / 2 ^ o % 2 ^ n * 2 ^ d) (weight-up (bit (x / 2 ^ o) n) n d ∙ rw (bit-of-quotient x o n))
       in rw (add-suc d n, here, take-part n (omega arith), ← add-one n, more) (omega arith)
 
+  -- Putting in d + n bits is putting in d of them and then replacing n bits of the word, from its bit o on, by the value's next n.
   pub put-part : (v n : ℕ) → o + n ≤ 16 → w < length m
       → with-field m a (d + n) v ≡ set (with-field m a d v) w (with-bits (getD (with-field m a d v) w 0) o n (v / 2 ^ d % 2 ^ n))
   unfolding with-field

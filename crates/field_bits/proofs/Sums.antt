@@ -36,7 +36,7 @@ sum-alike f g w zero h = refl
 sum-alike f g w (suc k) h =
     rw (sum-alike f g w k (λ v l m. h v l (omega (arith, m))), h (record { 0 = w .0 + k }) (omega arith) (omega arith))
 
--- The sums over a field's words are over exactly the counted ones.
+-- The sum over a field's words depends on no other word: two sums are the same if every counted word adds the same to both.
 pub sum-counted : (f g : WordNumber → ℕ) (a : BitAddress) (n : ℕ) → ((w : WordNumber) → Counted a n w → f w ≡ g w)
     → sum-over f (word-at a) (touched a n) ≡ sum-over g (word-at a) (touched a n)
 sum-counted f g a n h = sum-alike f g (word-at a) (touched a n) (λ w l m. h w (record { from = l; to = m }))

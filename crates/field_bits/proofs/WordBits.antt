@@ -38,9 +38,11 @@ module _ (w o n b : ℕ) (h : b < 2 ^ n) where
   unfolding with-bits
   as-two = add-assoc _ _ _
 
+  -- What lies above the new bits stays.
   pub bits-above : with-bits w o n b / 2 ^ (o + n) ≡ w / 2 ^ (o + n)
   bits-above = rw as-two (high (w / 2 ^ (o + n)) (o + n) below-top)
 
+  -- Below bit o + n lie the new bits, and below these the o low bits, which stay.
   pub bits-below : with-bits w o n b % 2 ^ (o + n) ≡ b * 2 ^ o + w % 2 ^ o
   bits-below = rw as-two (low (w / 2 ^ (o + n)) (o + n) below-top)
 

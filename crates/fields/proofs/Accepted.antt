@@ -23,6 +23,7 @@ pub record Tested (words n t l v : ℕ) : Type 0 where
   pub missing : v ≡ 6 ↔ (words ≤ 32768) × (1 ≤ n) × (n ≤ 32) × (t ≤ 3) × (words ≤ l)
   pub done : v ≡ 0 ↔ (words ≤ 32768) × (1 ≤ n) × (n ≤ 32) × (t ≤ 3) × (l < words)
 
+-- The number that `refusal` gives is that one.
 pub tested : (words : ℕ) (a : BitAddress) (n : ℕ) → Tested words n (touched a n) (last-word a n .0) (refusal words a n)
 unfolding refusal no-size
 tested words a n = go (touched a n) (last-word a n .0) (ltb 32768 words) (ltb n 1) (ltb 32 n) _ _ refl refl refl refl refl

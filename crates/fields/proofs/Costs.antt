@@ -21,6 +21,7 @@ pub record Spent (f : WordNumber → ℕ) (a : BitAddress) (c s : ℕ) : Type 0 
   pub sum : s ≡ sum-over f (word-at a) c
   pub little : s ≤ 2 * c
 
+-- Before the first word nothing is spent.
 pub spent-start : (f : WordNumber → ℕ) (a : BitAddress) → Spent f a 0 0
 unfolding sum-over
 spent-start f a = record { sum = refl; little = omega arith }
@@ -29,6 +30,7 @@ sum-more : (f : WordNumber → ℕ) (w : WordNumber) (k : ℕ) → sum-over f w 
 unfolding sum-over
 sum-more f w k = rw (add-one k)
 
+-- The word that comes next, which costs two cycles at most, adds its own.
 pub spent-next : (f : WordNumber → ℕ) (a : BitAddress) (n c s : ℕ) (p : Place) → Spent f a c s → Reached a n c p
     → f (p .word) ≤ 2 → Spent f a (c + 1) (s + f (p .word))
 spent-next f a n c s p h r l =
@@ -44,10 +46,12 @@ few-cycles f a c s h l = omega (arith, h .little)
 
 -- ---- the cost of a word
 
+-- A word of a field taken out costs two cycles at most.
 pub take-little : take-cost ≤ 2
 unfolding take-cost
 take-little = omega arith
 
+-- So does one of a field put in, wholly covered or not.
 pub put-little : (whole : Bool) → put-cost whole ≤ 2
 unfolding put-cost
 put-little true = omega arith

@@ -92,6 +92,7 @@ module _ (m : List ℕ) (a : BitAddress) (n : ℕ) where
   signed-number : taken-signed m a n .number ≡ refusal (length m) a n
   signed-number = answer-number (λ (r : SignedTaken). r .number) _ (signed-done m a n) refl (signed-refused m a n) refl
 
+  -- A putting in answers the number that applies.
   pub put-number : put-answer (length m) a n .number ≡ refusal (length m) a n
   put-number = answer-number (λ (r : Put). r .number) _ (put-done m a n) refl (put-refused m a n) refl
 

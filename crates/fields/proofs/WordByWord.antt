@@ -22,9 +22,11 @@ pub record Reached (a : BitAddress) (n c : ℕ) (p : Place) : Type 0 where
 abbrev pub address-of : Place → BitAddress
 address-of p = address (p .word .0 * 16 + p .from)
 
+-- The first place of a field lies at the field's address.
 pub address-is : (a : BitAddress) (p : Place) → p ≡ first-place a → address-of p ≡ a
 address-is a p e = ap address-of e ∙ ap address (omega arith)
 
+-- Before the first word the field goes on at its first place.
 pub reached-start : (a : BitAddress) (n : ℕ) → Reached a n 0 (first-place a)
 reached-start a n =
     record { words = omega arith; word-is = omega arith; done-is = omega arith; bit = omega arith; goes-on = λ l. omega arith }
@@ -60,6 +62,7 @@ next-touched a n c w e l = omega arith
 
 -- ---- one turn
 
+-- Where a word is left, the place that was reached makes a turn of the bits that `count-at` counts.
 pub turn : (a : BitAddress) (n c : ℕ) (p : Place) (k : ℕ) → Reached a n c p → 1 ≤ n → c < touched a n → k ≡ count-at p n
     → Turn a n c p k
 turn a n c p k h s l e =

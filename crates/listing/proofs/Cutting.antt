@@ -30,8 +30,13 @@ parts x (b ∷ u) v = parts (next x b) u v
 
 behind-line : (t : List ℕ) (n : ℕ) (x : Listing) (l : Line) → line-ends (behind t n x) l ≡ behind t n (line-ends x l)
 behind-line t n x (good a) =
-    ap (λ (y : List ℕ). record { machine = after (x .machine) a; text = y; used = n + x .used + (length (x .begun) + 1); begun = []; ended = false }) (append-assoc t (x .text) (answer-text a (answer-of (x .machine) a))) ∙
-    ap (λ (k : ℕ). record { machine = after (x .machine) a; text = t ++ (x .text ++ answer-text a (answer-of (x .machine) a)); used = k; begun = []; ended = false }) (add-assoc n (x .used) (length (x .begun) + 1))
+    let s : Machine = after (x .machine) a in
+    let said : List ℕ = answer-text a (answer-of (x .machine) a) in
+    let long : ℕ = length (x .begun) + 1 in
+    ap (λ (y : List ℕ). record { machine = s; text = y; used = n + x .used + long; begun = []; ended = false })
+    (append-assoc t (x .text) said) ∙
+    ap (λ (k : ℕ). record { machine = s; text = t ++ (x .text ++ said); used = k; begun = []; ended = false })
+    (add-assoc n (x .used) long)
 behind-line t n x bad =
     ap (λ (y : List ℕ). record { machine = x .machine; text = y; used = n + x .used; begun = []; ended = true }) (append-assoc t (x .text) bad-line)
 

@@ -36,18 +36,18 @@ module _ (r : Registers) (m : List ℕ) where
     read-open e = left-by r m (Read 2 lanes) n ∙ rw e
 
   module _ (lanes w : ℕ) (n : access r m (Write 2 lanes w) .answer .number ≡ 0) where
-    -- "the whole of HSTDATA is stored at the pointer, the hollow mark clears, then with INCW 1 the pointer gains 16": the step
-    -- comes last, and all but the storing happens beyond memory too.
+    -- "the whole of HSTDATA is stored at the pointer": with the written bytes in it, and at the pointer as it stood before any step.
     pub write-stores : closes c lanes ≡ true → access-memory r m (Write 2 lanes w) ≡ store-at m (word-at (r .pointer)) (replaced lanes (r .latch) w)
     unfolding begin-access write-due written memory-after
     write-stores e = as-done-memory r m (Write 2 lanes w) n ∙ rw e
 
-    -- The registers after that store: HSTDATA as written, held, the pointer stepped where INCW is set.
+    -- "the hollow mark clears, then with INCW 1 the pointer gains 16", wherever the pointer was: the registers after that store
+    -- have HSTDATA as written, held, and the pointer stepped where INCW is set.
     pub write-steps : closes c lanes ≡ true → access r m (Write 2 lanes w) .registers ≡ after-storing r (replaced lanes (r .latch) w) (incw c)
     unfolding begin-access write-due written
     write-steps e = left-by r m (Write 2 lanes w) n ∙ rw e (store-leaves (with-latch r (replaced lanes (r .latch) w) (r .hollow)) m (incw c))
 
-    -- A byte that does not close the word is laid into HSTDATA, and nothing else happens.
+    -- A byte that does not close the word is laid into HSTDATA; the mark and the other registers stay.
     pub write-open : closes c lanes ≡ false → access r m (Write 2 lanes w) .registers ≡ with-latch r (replaced lanes (r .latch) w) (r .hollow)
     unfolding begin-access write-due written carried
     write-open e = left-by r m (Write 2 lanes w) n ∙ rw e

@@ -56,7 +56,9 @@ module _ (s : Machine) (k : Memory (s .memory)) where
   -- ---- loading the pointer
   -- The two writes that load the pointer fetch the word there; memory and the control register stay.
   pub loads : (a : BitAddress) → a .0 < 2 ^ 32 → loaded s a ≡ stands s a
-  unfolding loading ends after access access-memory refusal are-lanes done begin-access write-due half-written written closes fetches takes-low takes-high carried memory-after stepped after-fetch fetch-at standing
+  unfolding
+      loading ends after access access-memory refusal are-lanes done begin-access write-due half-written written closes fetches
+      takes-low takes-high carried memory-after stepped after-fetch fetch-at standing
   loads a h =
       ⊎-elim
       (λ e. rw e (rw (not-over, e) (rw (not-over, e, high-then-low a h))))

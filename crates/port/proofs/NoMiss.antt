@@ -1,6 +1,6 @@
 -- The keeper's law: no miss looks good. Document 01, 'Memory and addresses', 'The four host registers' and 'The processor's side'.
 --   the rule       a read hands out the word already held, with its mark; the fetch after it has a mark of its own
---   true marks     a cycle is marked inside exactly if its word is in the lent memory
+--   true marks     when, and only then, a cycle is marked inside, empty or none
 --   after a miss   the next read hands out the filler, and says so
 --   the onlooker   over any run of deeds, each hollow mark shown is the one that the marks of the cycles call for
 --   the story      over any run of deeds, a word handed out as held came out of memory or was written, and is that word
@@ -73,6 +73,7 @@ says r m lanes n k =
 pub record TrueMark (x : Cycle) (called there : Bool) : Type 0 where
   pub inside : x ≡ Inside ↔ (called ≡ true) × (there ≡ true)
   pub empty : x ≡ Empty ↔ (called ≡ true) × (there ≡ false)
+  pub none : x ≡ None ↔ called ≡ false
 
 marked : (called there : Bool) → TrueMark (cond called (mark there) None) called there
 unfolding mark
@@ -80,20 +81,23 @@ marked true true =
     record {
       inside = (λ _. (refl, refl), λ _. refl);
       empty = (λ e. absurd (false≢true (cc)), λ h. absurd (true≢false (h .1)));
+      none = (λ e. absurd (false≢true (cc)), λ h. absurd (true≢false h));
     }
 marked true false =
     record {
       inside = (λ e. absurd (false≢true (cc)), λ h. absurd (false≢true (h .1)));
       empty = (λ _. (refl, refl), λ _. refl);
+      none = (λ e. absurd (false≢true (cc)), λ h. absurd (true≢false h));
     }
 marked false there =
     record {
       inside = (λ e. absurd (false≢true (cc)), λ h. absurd (false≢true (h .0)));
       empty = (λ e. absurd (false≢true (cc)), λ h. absurd (false≢true (h .0)));
+      none = (λ _. refl, λ _. refl);
     }
 
--- The cycle of an access that is done is marked inside exactly if one was called for and its word is in the lent memory, and empty
--- exactly if one was called for and its word is not there.
+-- The cycle of an access that is done is marked inside exactly if one was called for and its word is in the lent memory, empty
+-- exactly if one was called for and its word is not there, and none exactly if none was called for.
 pub true-mark : (r : Registers) (m : List ℕ) (a : Access) → access r m a .answer .number ≡ 0 →
     TrueMark (access r m a .answer .cycle) (has-cycle r a) (in-memory m (word-used r a))
 true-mark r m a n = rw (cycle-done r m a n) (marked (has-cycle r a) (in-memory m (word-used r a)))

@@ -15,6 +15,7 @@ use Rattle.port.specs.Host.{read-due, write-due, begin-access, access, a
 use Rattle.port.specs.declared.Access.{Access}
 use Rattle.port.specs.declared.Access.the-variants.{Read, Write}
 use Rattle.port.specs.declared.Cycle.the-variants.{None}
+use Rattle.port.specs.declared.Due.{Due}
 use Rattle.port.specs.declared.Due.the-variants.{Nothing, Fetch}
 use Rattle.port.proofs.Taken.{as-done-memory}
 use Rattle.port.proofs.OpenByte.{uncalled-cycle, uncalled-memory, uncalled-registers}
@@ -30,15 +31,23 @@ module _ (r : Registers) (m : List ℕ) where
     unfolding begin-access write-due
     load-fetches e f = left-by r m (Write k lanes w) n ∙ rw (e, h, f) (fetch-leaves (written r k lanes w) m false)
 
-    -- Any other write of these registers, or of HSTCTL, starts no cycle: the byte or the register is not the one.
-    pub load-open : (closes c lanes && fetches c k) ≡ false → access r m (Write k lanes w) .registers ≡ written r k lanes w
-    unfolding begin-access write-due carried
-    load-open e = left-by r m (Write k lanes w) n ∙ rw h (go (closes c lanes) (fetches c k) _ e)
+    load-calls-none : (closes c lanes && fetches c k) ≡ false → begin-access r (Write k lanes w) .due ≡ Nothing
+    unfolding begin-access write-due
+    load-calls-none e = rw h (go (closes c lanes) (fetches c k) _ e)
       where
-        go : (t u s : Bool) → (t && u) ≡ false → carried (written r k lanes w) (cond t (cond u (Fetch s) Nothing) Nothing) m .registers ≡ written r k lanes w
-        go true true s e = absurd (false≢true (sym e))
-        go true false s e = refl
-        go false u s e = refl
+        go : (t u : Bool) (d : Due) → (t && u) ≡ false → cond t (cond u d Nothing) Nothing ≡ Nothing
+        go true true d e = absurd (false≢true (sym e))
+        go true false d e = refl
+        go false u d e = refl
+
+    -- Any other write of these registers, where the byte or the register is not the one, starts no cycle.
+    pub load-has-no-cycle : (closes c lanes && fetches c k) ≡ false → access r m (Write k lanes w) .answer .cycle ≡ None
+    load-has-no-cycle e = uncalled-cycle r m (Write k lanes w) (load-calls-none e)
+
+    -- In the registers it leaves the write of its bytes and no more.
+    pub load-open : (closes c lanes && fetches c k) ≡ false → access r m (Write k lanes w) .registers ≡ written r k lanes w
+    unfolding begin-access carried
+    load-open e = left-by r m (Write k lanes w) n ∙ rw (load-calls-none e)
 
     -- No write of these registers stores to memory.
     pub load-keeps-memory : access-memory r m (Write k lanes w) ≡ m
@@ -71,7 +80,7 @@ module _ (r : Registers) (m : List ℕ) where
         cycle = uncalled-cycle r m (Read k lanes) e;
       }
 
-  -- "Writing register 3": the selected bytes of HSTCTL by the host's rule, and nothing besides.
+  -- "Writing register 3": in the registers, the selected bytes of HSTCTL by the host's rule, and nothing besides.
   pub control-written : (lanes w : ℕ) → access r m (Write 3 lanes w) .answer .number ≡ 0 →
       access r m (Write 3 lanes w) .registers ≡ with-control r (control-laid host-low lanes c w)
   unfolding written fetches

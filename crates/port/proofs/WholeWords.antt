@@ -100,5 +100,8 @@ lone-byte = host (Write 2 2 0x1200)
 
 -- A lone closing byte 12h gives a held 12FFh over the filler of a load that missed, and a held 1200h over the nothing of a reset.
 pub lone-closing-byte : HalfReal (host (Write 1 3 0) ∷ lone-byte ∷ []) 0x12ff × HalfReal (lone-byte ∷ []) 0x1200
-unfolding answer-of ran does after access access-memory refusal are-lanes done begin-access register-word half-written written read-due write-due closes fetches carried memory-after after-fetch after-store stepped mark fetch-at store-at bit lay takes-low takes-high story story-after landed looked has-cycle word-used real
+unfolding
+    answer-of ran does after access access-memory refusal are-lanes done begin-access register-word half-written written read-due
+    write-due closes fetches carried memory-after after-fetch after-store stepped mark fetch-at store-at bit lay takes-low takes-high
+    story story-after landed looked has-cycle word-used real
 lone-closing-byte = (record { answer = refl; low-byte = refl }, record { answer = refl; low-byte = refl })

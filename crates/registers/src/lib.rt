@@ -24,7 +24,8 @@ pub struct Registers {
     pub latch: u16,
     // HSTCTL.
     pub control: u16,
-    // HSTDATA is the filler of a fetch that missed memory, or nothing was fetched since reset.
+    // Set by reset and by a fetch that missed memory; cleared by a fetch inside memory, by the host's write of HSTDATA's closing byte
+    // and by the processor's write of HSTDATA.
     pub hollow: bool,
 }
 

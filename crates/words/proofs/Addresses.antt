@@ -6,7 +6,7 @@ use mathlib.Core.Bool.{Bool, true, false}
 use Rattle.words.specs.Addresses.{address, word-at, step, stepped-from}
 use Rattle.words.specs.declared.BitAddress.{BitAddress}
 
--- Bit address b is bit b mod 16 of word b div 16.
+-- A bit address is sixteen times its word number, plus its remainder by sixteen.
 pub bit-in-word : (a : BitAddress) → a .0 ≡ word-at a .0 * 16 + a .0 % 16
 bit-in-word a = omega arith
 

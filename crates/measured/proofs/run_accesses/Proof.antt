@@ -35,7 +35,9 @@ stir-requires : tie.Need-stir-requires Inv-loop μ-loop
 stir-requires c κs = tt
 
 add-i : tie.Need-add-i Inv-loop μ-loop
-add-i c = omega (arith, c .before .before .before .before .before .before .before .before .before .before .loop .inv .fits, c .before .before .before .before .before .before .before .before .before .before .before .before .before .before .before .good)
+add-i c =
+    let at-loop = c .before .before .before .before .before .before .before .before .before .before in
+    omega (arith, at-loop .loop .inv .fits, at-loop .before .before .before .before .before .good)
 
 loop-less : tie.Need-loop-less Inv-loop μ-loop
 loop-less c = omega arith

@@ -37,7 +37,14 @@ add-result c = search needs
 returns : tie.Need-returns
 unfolding lay
 returns c =
-    rw (c .before .before .before .choose-byte .ensures, c .before .before .before .before .before .selects-low .ensures, c .before .before .before .before .low-byte .ensures, c .choose-byte2 .ensures, c .before .before .selects-high .ensures, c .before .high-byte .ensures)
+    rw (
+      c .before .before .before .choose-byte .ensures,
+      c .before .before .before .before .before .selects-low .ensures,
+      c .before .before .before .before .low-byte .ensures,
+      c .choose-byte2 .ensures,
+      c .before .before .selects-high .ensures,
+      c .before .high-byte .ensures,
+    )
 
 pub lay-bytes-spec : {M : Type 1} → statement M
 lay-bytes-spec =

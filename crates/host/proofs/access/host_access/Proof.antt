@@ -54,10 +54,15 @@ same-length c = search needs
 returns-2 : tie.Need-returns-2
 unfolding done access access-memory
 returns-2 c =
-    let t = eq-eqb _ _ (rw (c .before .before .before .before .before .before .before .before .before .before .before .before .number-of .ensures) at (c .before .before .before .before .before .before .before .before .before .before .if1 .left)) in
-    let b = rw (c .before .before .before .before .before .before .before .before .before .before .before .set-latch .ensures) at (c .before .before .before .before .before .before .begin-read .ensures) in
+    let kind = c .before .before .before .before .before .before .before .before in
+    let judged = kind .before .before in
+    let b = rw (judged .before .set-latch .ensures) at (c .before .before .before .before .before .before .begin-read .ensures) in
     let e = rw b at (c .before .before .before .carry .ensures) in
-    record { outcome = rw (t, c .finish .ensures, c .before .before .before .before .before .before .before .before .a .given .1, b, e .outcome); memory = rw (t, c .before .before .before .before .before .before .before .before .a .given .1) (e .memory) }
+    let t = eq-eqb _ _ (rw (judged .before .before .number-of .ensures) at (judged .if1 .left)) in
+    record {
+      outcome = rw (t, c .finish .ensures, kind .a .given .1, b, e .outcome);
+      memory = rw (t, kind .a .given .1) (e .memory);
+    }
 
 same-length-2 : tie.Need-same-length-2
 same-length-2 c = search needs
@@ -65,11 +70,16 @@ same-length-2 c = search needs
 returns-3 : tie.Need-returns-3
 unfolding begin-access done access access-memory
 returns-3 c =
-    let t = eq-eqb _ _ (rw (c .before .before .before .before .before .before .before .before .before .before .before .before .before .number-of .ensures) at (c .before .before .before .before .before .before .before .before .before .before .before .if1 .left)) in
-    let b = rw (c .before .before .before .before .before .before .before .before .before .before .before .before .set-latch .ensures) at (c .before .before .before .before .before .before .before .begin-write .ensures) in
-    let d = rw (c .before .before .before .before .before .before .before .before .before .before .before .before .set-latch .ensures) at (c .before .before .before .before .before .due-of-write .ensures) in
+    let kind = c .before .before .before .before .before .before .before .before .before in
+    let judged = kind .before .before in
+    let b = rw (judged .before .set-latch .ensures) at (c .before .before .before .before .before .before .before .begin-write .ensures) in
+    let d = rw (judged .before .set-latch .ensures) at (c .before .before .before .before .before .due-of-write .ensures) in
     let e = rw (b, d) at (c .before .before .before .carry2 .ensures) in
-    record { outcome = rw (t, c .finish2 .ensures, c .before .before .before .before .before .before .before .before .before .a2 .given .1, b, e .outcome); memory = rw (t, c .before .before .before .before .before .before .before .before .before .a2 .given .1) (e .memory) }
+    let t = eq-eqb _ _ (rw (judged .before .before .number-of .ensures) at (judged .if1 .left)) in
+    record {
+      outcome = rw (t, c .finish2 .ensures, kind .a2 .given .1, b, e .outcome);
+      memory = rw (t, kind .a2 .given .1) (e .memory);
+    }
 
 pub host-access-spec : {M : Type 1} → statement M
 host-access-spec =

@@ -45,7 +45,13 @@ returns-2 : tie.Need-returns-2
 unfolding carried memory-after
 returns-2 c =
     record {
-      outcome = rw (c .before .before .before .before .before .before .before .due .given .1, c .settle-fetch .ensures, c .before .fetch-word .ensures, c .before .before .word-of .ensures, c .before .before .before .before .before .step-if .ensures);
+      outcome = rw (
+        c .before .before .before .before .before .before .before .due .given .1,
+        c .settle-fetch .ensures,
+        c .before .fetch-word .ensures,
+        c .before .before .word-of .ensures,
+        c .before .before .before .before .before .step-if .ensures,
+      );
       memory = rw (c .before .before .before .before .before .before .before .due .given .1);
     }
 
@@ -56,8 +62,17 @@ returns-3 : tie.Need-returns-3
 unfolding carried memory-after
 returns-3 c =
     record {
-      outcome = rw (c .before .before .before .before .before .before .before .before .due2 .given .1, c .settle-store .ensures, c .before .before .before .store-word .ensures .fell, c .before .before .before .before .word-of2 .ensures);
-      memory = rw (c .before .before .before .before .before .before .before .before .due2 .given .1, c .before .before .before .store-word .ensures .memory, c .before .before .before .before .word-of2 .ensures);
+      outcome = rw (
+        c .before .before .before .before .before .before .before .before .due2 .given .1,
+        c .settle-store .ensures,
+        c .before .before .before .store-word .ensures .fell,
+        c .before .before .before .before .word-of2 .ensures,
+      );
+      memory = rw (
+        c .before .before .before .before .before .before .before .before .due2 .given .1,
+        c .before .before .before .store-word .ensures .memory,
+        c .before .before .before .before .word-of2 .ensures,
+      );
     }
 
 pub carry-spec : {M : Type 1} → statement M

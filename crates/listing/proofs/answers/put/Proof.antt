@@ -70,10 +70,14 @@ same-length c =
 
 returns : tie.Need-returns Inv-loop μ-loop
 returns c =
-    let e : c .before .loop .i ≡ length (c .before .before .args .text .now) = omega arith in
+    let x = c .before .before .args in
+    let e : c .before .loop .i ≡ length (x .text .now) = omega arith in
     record {
-      end = ap (λ (n : ℕ). c .before .before .args .at + n) e;
-      output = c .before .loop .inv .pasted ∙ ap (paste (c .before .before .args .output .now) (c .before .before .args .at) (c .before .before .args .text .now)) e ∙ pasted (c .before .before .args .output .now) (c .before .before .args .at) (c .before .before .args .text .now);
+      end = ap (λ (n : ℕ). x .at + n) e;
+      output =
+          c .before .loop .inv .pasted ∙
+          ap (paste (x .output .now) (x .at) (x .text .now)) e ∙
+          pasted (x .output .now) (x .at) (x .text .now);
     }
 
 pub put-spec : {M : Type 1} → statement M

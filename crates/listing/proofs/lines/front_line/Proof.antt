@@ -34,7 +34,9 @@ judge-other-requires c κs = tt
 returns-3 : tie.Need-returns-3
 returns-3 c =
     let at-begins-with-read = c .before .before .before .before in
-    c .judge-other .ensures ∙ sym (others-front _ (sym (at-begins-with-read .begins-with-read .ensures) ∙ c .before .before .before .if1 .left) (sym (c .before .before .begins-with-write .ensures) ∙ c .before .if2 .left))
+    let no-read = sym (at-begins-with-read .begins-with-read .ensures) ∙ c .before .before .before .if1 .left in
+    let no-write = sym (c .before .before .begins-with-write .ensures) ∙ c .before .if2 .left in
+    c .judge-other .ensures ∙ sym (others-front _ no-read no-write)
 
 pub front-line-spec : {M : Type 1} → statement M
 front-line-spec =

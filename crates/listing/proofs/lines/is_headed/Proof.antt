@@ -43,7 +43,14 @@ unfolding headed
 returns c =
     let at-is-decimal2 = c .before .before .before .before in
     let at-is-decimal = at-is-decimal2 .before .before .before in
-    rw (c .both4 .ensures, c .before .both3 .ensures, c .before .before .both2 .ensures, c .before .before .before .both .ensures, at-is-decimal .is-decimal .ensures, at-is-decimal2 .is-decimal2 .ensures) refl
+    rw (
+      c .both4 .ensures,
+      c .before .both3 .ensures,
+      c .before .before .both2 .ensures,
+      c .before .before .before .both .ensures,
+      at-is-decimal .is-decimal .ensures,
+      at-is-decimal2 .is-decimal2 .ensures,
+    ) refl
 
 pub is-headed-spec : {M : Type 1} → statement M
 is-headed-spec =

@@ -51,7 +51,16 @@ returns c =
     let at-hex-value3 = at-hex-value4 .before .before in
     let at-hex-value2 = at-hex-value3 .before .before in
     let at-hex-value = at-hex-value2 .before .before in
-    rw (c .both4 .ensures, c .before .both3 .ensures, c .before .before .both2 .ensures, c .before .before .before .both .ensures, at-hex-value .hex-value .ensures, at-hex-value2 .hex-value2 .ensures, at-hex-value3 .hex-value3 .ensures, at-hex-value4 .hex-value4 .ensures) refl
+    rw (
+      c .both4 .ensures,
+      c .before .both3 .ensures,
+      c .before .before .both2 .ensures,
+      c .before .before .before .both .ensures,
+      at-hex-value .hex-value .ensures,
+      at-hex-value2 .hex-value2 .ensures,
+      at-hex-value3 .hex-value3 .ensures,
+      at-hex-value4 .hex-value4 .ensures,
+    ) refl
 
 pub is-tailed-spec : {M : Type 1} → statement M
 is-tailed-spec =

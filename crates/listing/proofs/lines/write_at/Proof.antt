@@ -63,8 +63,12 @@ word-from-requires c κs =
     let at-hex-value2 = c .before .before .before .before in
     let at-hex-value = at-hex-value2 .before .before in
     let start = at-hex-value .before .before .before .before .before .before .before in
-    let line = write-line _ (start .pre) .tail in
-    (rw (at-hex-value .hex-value .ensures) (ltb-true _ 16 (line .d6)), rw (at-hex-value2 .hex-value2 .ensures) (ltb-true _ 16 (line .d7)), rw (c .before .before .hex-value3 .ensures) (ltb-true _ 16 (line .d8)), rw (c .hex-value4 .ensures) (ltb-true _ 16 (line .d9)))
+    let line = write-line _ (start .pre) .tail in (
+      rw (at-hex-value .hex-value .ensures) (ltb-true _ 16 (line .d6)),
+      rw (at-hex-value2 .hex-value2 .ensures) (ltb-true _ 16 (line .d7)),
+      rw (c .before .before .hex-value3 .ensures) (ltb-true _ 16 (line .d8)),
+      rw (c .hex-value4 .ensures) (ltb-true _ 16 (line .d9)),
+    )
 
 returns : tie.Need-returns
 returns c =
@@ -72,7 +76,15 @@ returns c =
     let at-hex-value = at-hex-value2 .before .before in
     let at-decimal-of2 = at-hex-value .before .before in
     let at-decimal-of = at-decimal-of2 .before .before in
-    rw (c .word-from .ensures, at-decimal-of .decimal-of .ensures, at-decimal-of2 .decimal-of2 .ensures, at-hex-value .hex-value .ensures, at-hex-value2 .hex-value2 .ensures, c .before .before .before .hex-value3 .ensures, c .before .hex-value4 .ensures) refl
+    rw (
+      c .word-from .ensures,
+      at-decimal-of .decimal-of .ensures,
+      at-decimal-of2 .decimal-of2 .ensures,
+      at-hex-value .hex-value .ensures,
+      at-hex-value2 .hex-value2 .ensures,
+      c .before .before .before .hex-value3 .ensures,
+      c .before .hex-value4 .ensures,
+    ) refl
 
 pub write-at-spec : {M : Type 1} → statement M
 write-at-spec =
