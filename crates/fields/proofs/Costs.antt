@@ -10,7 +10,7 @@ use borrow.Author.Tests.{le-leb, lt-leb, leb-true, eqb-true, eqb-false}
 use Rattle.words.specs.Addresses.{word-at}
 use Rattle.words.specs.declared.BitAddress.{BitAddress}
 use Rattle.words.specs.declared.WordNumber.{WordNumber}
-use Rattle.field_bits.specs.Count.{wholly-covered, sum-over, take-cost, put-cost}
+use Rattle.field_bits.specs.Count.{wholly-covered, sum-over, put-cost}
 use Rattle.fields.specs.declared.places.Place.{Place}
 use Rattle.fields.proofs.WordByWord.{Reached, Turn}
 
@@ -43,10 +43,6 @@ pub few-cycles : (f : WordNumber → ℕ) (a : BitAddress) (c s : ℕ) → Spent
 few-cycles f a c s h l = omega (arith, h .little)
 
 -- ---- the cost of a word
-
-pub take-little : take-cost ≤ 2
-unfolding take-cost
-take-little = omega arith
 
 pub put-little : (whole : Bool) → put-cost whole ≤ 2
 unfolding put-cost
