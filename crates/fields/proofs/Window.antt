@@ -1,6 +1,6 @@
 -- The words that a field touches as one number: the field is that number without the bits before it in its first word, modulo 2^n.
 -- By induction on the words, as the whole memory is read as one number (`number-bit`).
-use Prim.Native.Nat.{ℕ, zero, suc, _+_, _-_, _*_, _/_, _%_, _^_, _≤_, _<_}
+use Prim.Native.Nat.{ℕ, zero, suc, _+_, _-_, _*_, _/_, _%_, _^_, _<_}
 use native.Mathlib.Numerals.{add-one}
 use native.Mathlib.Omega.{arith}
 use mathlib.Core.Path.{_≡_, sym, ap, subst, _∙_}
@@ -38,6 +38,11 @@ module _ (m : List ℕ) (i : ℕ) where
 
 -- ---- the bits
 
+-- Bit i of a field lies in the words touched.
+in-touched : (a : BitAddress) (n i : ℕ) → i < n → a .0 % 16 + i < 16 * touched a n
+unfolding touched
+in-touched a n i l = omega arith
+
 module _ (m : List ℕ) (h : AreWords m) where
   -- Bit b of the window is the memory's bit b, counted from the first word's bit 0.
   window-bit : (k i b : ℕ) → b < 16 * k → bit (window m i k) b ≡ memory-bit m (address (i * 16 + b))
@@ -61,16 +66,11 @@ module _ (m : List ℕ) (h : AreWords m) where
       (less-or-not b 16)
 
   -- The field in the window of the words that it touches.
-  pub field-in-window : (a : BitAddress) (n : ℕ) → 1 ≤ n
-      → field-at m a n ≡ window m (word-at a .0) (touched a n) / 2 ^ (a .0 % 16) % 2 ^ n
-  unfolding touched
-  field-in-window a n s =
+  pub field-in-window : (a : BitAddress) (n : ℕ) → field-at m a n ≡ window m (word-at a .0) (touched a n) / 2 ^ (a .0 % 16) % 2 ^ n
+  field-in-window a n =
+      let o : ℕ = a .0 % 16 in
       let w : ℕ = window m (word-at a .0) (touched a n) in
-      field-from-bits m a n (w / 2 ^ (a .0 % 16))
-      (λ i l. let e : word-at a .0 * 16 + (a .0 % 16 + i) ≡ a .0 + i = omega arith in
-      sym (ap (λ (j : ℕ). memory-bit m (address j)) e)
-      ∙ sym (window-bit (touched a n) (word-at a .0) (a .0 % 16 + i) (inside (a .0) n i l))
-      ∙ sym (bit-of-quotient w (a .0 % 16) i))
-    where
-      inside : (b n i : ℕ) → i < n → b % 16 + i < 16 * ((b + (n - 1)) / 16 + 1 - b / 16)
-      inside b n i l = omega arith
+      field-from-bits m a n (w / 2 ^ o)
+      (λ i l. let e : word-at a .0 * 16 + (o + i) ≡ a .0 + i = omega arith in
+      sym (window-bit (touched a n) (word-at a .0) (o + i) (in-touched a n i l) ∙ ap (λ (j : ℕ). memory-bit m (address j)) e)
+      ∙ sym (bit-of-quotient w o i))

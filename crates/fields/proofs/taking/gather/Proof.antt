@@ -41,7 +41,9 @@ pow2-wide-requires-2 : tie.Need-pow2-wide-requires-2
 pow2-wide-requires-2 c κs = search needs
 
 rem-value : tie.Need-rem-value
-rem-value c = rw (c .pow2-wide2 .ensures) (pow-pos _)
+rem-value c =
+    let n = c .before .before .before .before .before .before .before .before .args .size in
+    omega (arith, c .pow2-wide2 .ensures, pow-pos n)
 
 cast-t10 : tie.Need-cast-t10
 cast-t10 c =
@@ -64,7 +66,7 @@ returns c =
       w .window-at .ensures,
       o .word-of .ensures,
       t .touched-by .ensures,
-      ← field-in-window (s .args .memory .now) words (s .args .at) (s .args .size) (s .pre .some),
+      ← field-in-window (s .args .memory .now) words (s .args .at) (s .args .size),
       cycle-each,
     )
 
