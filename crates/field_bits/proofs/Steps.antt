@@ -1,35 +1,22 @@
--- The part of a field that lies in one word, done at once: n bits of that word from bit o on are the field's next n bits.
+-- The part of a field that lies in one word, put in at once: n bits of that word from bit o on are the field's next n bits.
 -- By induction on n, a bit at a time.
 use Prim.Native.Nat.{ℕ, zero, suc, _+_, _*_, _/_, _%_, _^_, _≤_, _<_}
-use native.Mathlib.Nat.{add-zero, add-suc, add-mul, mod-one}
+use native.Mathlib.Nat.{add-zero, add-suc, mod-one}
 use native.Mathlib.Numerals.{add-one}
 use native.Mathlib.Omega.{arith}
-use mathlib.Core.Path.{_≡_, ap, _∙_}
-use mathlib.Core.Bool.{cond}
+use mathlib.Core.Path.{_≡_}
 use mathlib.Core.List.{List}
 use lib.ListN.{length, getD, set}
 use lib.Seq.{getD-set-same, set-set, set-getD}
 use Rattle.words.specs.Bytes.{bit}
 use Rattle.words.specs.declared.BitAddress.{BitAddress}
 use Rattle.words.proofs.Bits.{bit-of-quotient}
-use Rattle.field_bits.specs.Field.{ahead, memory-bit, field-at, with-field}
+use Rattle.field_bits.specs.Field.{ahead, with-field}
 use Rattle.field_bits.specs.WithBits.{with-bits}
-use Rattle.field_bits.proofs.Readings.{bit-in, set-bit-in, put-length}
-use Rattle.field_bits.proofs.WordBits.{weight-up, one-bit-more, no-bits, next-bit}
+use Rattle.field_bits.proofs.Readings.{set-bit-in, put-length}
+use Rattle.field_bits.proofs.WordBits.{no-bits, next-bit}
 
 module _ (m : List ℕ) (a : BitAddress) (d w o : ℕ) (e : a .0 + d ≡ w * 16 + o) where
-  -- The field of d + n bits is that of d bits with n bits of the word, from its bit o on, above them.
-  pub take-part : (n : ℕ) → o + n ≤ 16 → field-at m a (d + n) ≡ field-at m a d + getD m w 0 / 2 ^ o % 2 ^ n * 2 ^ d
-  unfolding field-at
-  take-part zero l = rw (add-zero d, mod-one (getD m w 0 / 2 ^ o)) (omega arith)
-  take-part (suc n) l =
-      let x : ℕ = getD m w 0 in
-      let here : memory-bit m (ahead a (d + n)) ≡ bit x (o + n) = bit-in m (ahead a (d + n)) w (o + n) (omega arith) (omega arith) in
-      let more : x / 2 ^ o % 2 ^ (n + 1) * 2 ^ d ≡ cond (bit x (o + n)) (2 ^ (d + n)) 0 + x / 2 ^ o % 2 ^ n * 2 ^ d =
-      ap (λ (y : ℕ). y * 2 ^ d) (one-bit-more (x / 2 ^ o) n) ∙ add-mul _ _ _
-      ∙ ap (λ (y : ℕ). y + x / 2 ^ o % 2 ^ n * 2 ^ d) (weight-up (bit (x / 2 ^ o) n) n d ∙ rw (bit-of-quotient x o n))
-      in rw (add-suc d n, here, take-part n (omega arith), ← add-one n, more) (omega arith)
-
   -- Putting in d + n bits is putting in d of them and then replacing n bits of the word, from its bit o on, by the value's next n.
   pub put-part : (v n : ℕ) → o + n ≤ 16 → w < length m
       → with-field m a (d + n) v ≡ set (with-field m a d v) w (with-bits (getD (with-field m a d v) w 0) o n (v / 2 ^ d % 2 ^ n))

@@ -15,7 +15,7 @@ use Rattle.field_bits.specs.WithBits.{with-bits}
 -- ---- weights
 
 -- A bit of weight 2^n, moved up by d bits.
-pub weight-up : (b : Bool) (n d : ℕ) → cond b (2 ^ n) 0 * 2 ^ d ≡ cond b (2 ^ (d + n)) 0
+weight-up : (b : Bool) (n d : ℕ) → cond b (2 ^ n) 0 * 2 ^ d ≡ cond b (2 ^ (d + n)) 0
 weight-up true n d = mul-comm (2 ^ n) (2 ^ d) ∙ sym (pow-add 2 d n)
 weight-up false n d = zero-mul (2 ^ d)
 

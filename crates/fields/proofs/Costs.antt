@@ -10,7 +10,7 @@ use borrow.Author.Tests.{le-leb, lt-leb, leb-true, eqb-true, eqb-false}
 use Rattle.words.specs.Addresses.{word-at}
 use Rattle.words.specs.declared.BitAddress.{BitAddress}
 use Rattle.words.specs.declared.WordNumber.{WordNumber}
-use Rattle.field_bits.specs.Count.{wholly-covered, sum-over, take-cost, put-cost}
+use Rattle.field_bits.specs.Count.{wholly-covered, sum-over, put-cost}
 use Rattle.fields.specs.declared.places.Place.{Place}
 use Rattle.fields.proofs.WordByWord.{Reached, Turn}
 
@@ -46,12 +46,7 @@ few-cycles f a c s h l = omega (arith, h .little)
 
 -- ---- the cost of a word
 
--- A word of a field taken out costs two cycles at most.
-pub take-little : take-cost ≤ 2
-unfolding take-cost
-take-little = omega arith
-
--- So does one of a field put in, wholly covered or not.
+-- A word of a field put in costs two cycles at most, wholly covered or not.
 pub put-little : (whole : Bool) → put-cost whole ≤ 2
 unfolding put-cost
 put-little true = omega arith

@@ -7,6 +7,7 @@ pub mod One
 -- ---- what was put in is taken out, and back
 pub mod RoundTrips
 pub mod AfterPut
--- ---- the definitions word by word, as the code's loops go
+-- ---- the definitions by words, as the code goes
+pub mod Window
 pub mod WordByWord
 pub mod Costs

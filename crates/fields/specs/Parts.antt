@@ -1,12 +1,14 @@
--- An accepted field word by word: what the private functions state.
+-- An accepted field by its words: what the private functions state.
 --   Accepted words a n   a field that is accepted by a memory of so many words
+--   window m i k         k words of the memory from word i on, as one number
 --   first-place a        where a field at a begins
 --   count-at p n         how many bits of a field of n bits lie in the word that comes next
 --   place-after p k      the place when these k bits are done
 --   Scattered            what putting in an accepted field leaves
-use Prim.Native.Nat.{ℕ, _+_, _-_, _%_, _≤_, _<_, min}
+use Prim.Native.Nat.{ℕ, zero, suc, _+_, _-_, _*_, _%_, _^_, _≤_, _<_, min}
 use mathlib.Core.List.{List}
 use mathlib.Core.Path.{_≡_}
+use lib.ListN.{getD}
 use Rattle.words.specs.Addresses.{word-at}
 use Rattle.words.specs.declared.BitAddress.{BitAddress}
 use Rattle.field_bits.specs.Field.{with-field}
@@ -18,6 +20,11 @@ pub record Accepted (words : ℕ) (a : BitAddress) (n : ℕ) : Type 0 where
   pub some : 1 ≤ n
   pub most : n ≤ 32
   pub there : last-word a n .0 < words
+
+-- the first word lowest, so that the bits stand in the order of their addresses
+unfoldable pub window : List ℕ → ℕ → ℕ → ℕ
+window m i zero = 0
+window m i (suc k) = window m (suc i) k * 2 ^ 16 + getD m i 0
 
 abbrev pub first-place : BitAddress → Place
 first-place a = record { word = word-at a; from = a .0 % 16; done = 0 }

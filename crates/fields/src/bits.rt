@@ -12,6 +12,15 @@ pub(crate) fn pow2(n: u32) -> u32
     one << n
 }
 
+// Two to the n, where 32 bits would not hold it.
+pub(crate) fn pow2_wide(n: u32) -> u64
+    requires { ⌜ n < 64 ⌝ }
+    ensures { λ r. ⌜ r ≡ 2 ^ n ⌝ }
+{
+    let one: u64 = 1;
+    one << n
+}
+
 // The n bits of a number from bit o on.
 pub(crate) fn bits_of(x: u32, o: u32, n: u32) -> u32
     requires { ⌜ (o < 32) × (n < 32) ⌝ }

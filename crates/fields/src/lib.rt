@@ -1,7 +1,7 @@
 // Bit fields in a lent memory of 16-bit words: taking one out, taking it out signed, putting one in. Document 01, "Fields".
 //
-// A call judges its numbers first, and refuses by number. An accepted field is then done word by word, in numbers
-// of 32 bits.
+// A call judges its numbers first, and refuses by number. An accepted field is then taken out of the words touched, read as
+// one number of 64 bits, or put in word by word, in numbers of 32 bits.
 mod bits;
 mod judging;
 mod places;
