@@ -1,17 +1,18 @@
 -- What a stretch that was listed whole leaves for the next turn.
 use Prim.Native.Nat.{ℕ, _+_, _-_, _≤_}
 use native.Mathlib.Omega.{arith}
-use mathlib.Core.Path.{_≡_, refl, sym, ap, _∙_}
+use mathlib.Core.Path.{_≡_, refl, sym, ap, _∙_, subst}
 use mathlib.Core.Bool.{Bool, true, false}
-use mathlib.Core.List.{List}
+use mathlib.Core.List.{List, _++_}
+use mathlib.Core.Logic.{inl, inr}
 use lib.ListN.{length, take, drop, length-append, length-take, length-drop}
-use lib.Seq.{slice, length-take-le, take-all}
+use lib.Seq.{slice, length-take-le, take-all, take-add}
 use borrow.Author.Tests.{eqb-true, eqb-false}
 use Rattle.registers.specs.declared.Registers.{Registers}
 use Rattle.listing.specs.Listing.{Listing, fitting, listed, ListedStretch}
 use Rattle.listing.specs.declared.Listed.{Listed}
 use Rattle.listing.proofs.Cutting.{come, begun-is}
-use Rattle.portlist.specs.Turning.{at-hand, Turned, moved}
+use Rattle.portlist.specs.Turning.{at-hand, Turned, TookTurn, moved}
 use Rattle.portlist.specs.declared.Turn.{Turn}
 use Rattle.portlist.proofs.Moving.{count, front-moved}
 
@@ -94,3 +95,28 @@ pub have-within : {r : Registers} {m bytes : List ℕ} {t : Turn} {m′ input′
 have-within {t = t} {input′ = input′} x =
     let full : length (take (t .have) input′) ≡ t .have = ap length (x .begun) ∙ sym (x .have) in
     omega (arith, sym (length-take (t .have) input′) ∙ full)
+
+-- It is shorter than a line may be.
+pub have-short : {r : Registers} {m bytes : List ℕ} {t : Turn} {m′ input′ : List ℕ} → Turned r m bytes t m′ input′ → t .have ≤ 31
+have-short {r = r} {m = m} {bytes = bytes} x =
+    let short = come (record { registers = r; memory = m }) bytes .short in
+    omega (arith, short, x .have)
+
+-- The first `all` bytes of a buffer whose first `have` stayed: those, and the piece behind them.
+pub piece-came : {r : Registers} {m : List ℕ} {t : Turn} {m′ input′ : List ℕ} (input filled : List ℕ) (have all : ℕ) → have ≤ all →
+    take have filled ≡ take have input → Turned r m (take all filled) t m′ input′ →
+    (piece : List ℕ) × Turned r m (take have input ++ piece) t m′ input′
+piece-came {r = r} {m = m} {t = t} {m′ = m′} {input′ = input′} input filled have all h same x =
+    let piece : List ℕ = take (all - have) (drop have filled) in
+    let all-is : all ≡ have + (all - have) = omega (arith, h) in
+    let split : take all filled ≡ take have input ++ piece =
+    ap (λ (n : ℕ). take n filled) all-is ∙ take-add have (all - have) filled ∙ ap (λ (l : List ℕ). l ++ piece) same
+    in
+    (piece, subst (λ (bytes : List ℕ). Turned r m bytes t m′ input′) split x)
+
+-- So is what any turn leaves.
+pub took-short : {r : Registers} {m : List ℕ} {t : Turn} {m′ input′ : List ℕ} (begun : List ℕ) → TookTurn r m begun t m′ input′ → t .have ≤ 31
+took-short {t = t} begun (inl x) = have-short (x .1)
+took-short {t = t} begun (inr x) =
+    let none : t .have ≡ 0 = ap (λ (y : Turn). y .have) (x .0) in
+    omega (arith, none)

@@ -4,10 +4,10 @@
 // All that has a meaning is in crate `listing`; here are the reads, the writes and the loop. In each turn one read brings what it
 // brings, its whole lines are listed, one write prints them, and a line begun moves to the front.
 ghost use mathlib.Core.Path.{_≡_};
-ghost use Prim.Native.Nat.{_-_, _≤_};
+ghost use Prim.Native.Nat.{_-_, _≤_, _<_};
 ghost use lib.ListN.{length, take};
 ghost use Rattle.listing.specs.Listing.{fitting};
-ghost use Rattle.portlist.specs.Turning.{Turned, moved};
+ghost use Rattle.portlist.specs.Turning.{Turned, stopping, TookTurn, moved};
 use registers::Registers;
 
 // What a turn leaves for the next one, besides the memory and the input's front.
@@ -64,10 +64,12 @@ fn list_filled(
     }
 }
 
-// One read behind the first `have` bytes: how many bytes there are then.
+// One read behind the first `have` bytes, which stay: how many bytes there are then. There is room for one more at least, so that none
+// means the input's end.
 fn fill(input: &mut [u8], have: usize) -> usize
-    requires { ⌜ have ≤ length (now input) ⌝ }
+    requires { ⌜ have < length (now input) ⌝ }
     ensures { λ r. ⌜ (have ≤ r) × (r ≤ length (now (input .exit))) ⌝ }
+    ensures { λ r. ⌜ take have (now (input .exit)) ≡ take have (now (input .entry)) ⌝ }
 {
     let got = libc::read(0, &mut input[have..]);
     let n = io::count(got, &input[have..]);
@@ -76,7 +78,7 @@ fn fill(input: &mut [u8], have: usize) -> usize
 
 // The input's end: what is left is "a last one without its line feed".
 fn end(r: Registers, have: usize) -> Turn
-    ensures { λ t. ⌜ t .have ≡ 0 ⌝ }
+    ensures { λ t. ⌜ t ≡ stopping r ⌝ }
 {
     if have > 0 {
         io::write_all(1, b"bad line\n");
@@ -96,8 +98,8 @@ fn take_turn(
     output: &mut [u8],
     have: usize,
 ) -> Turn
-    requires { ⌜ (have ≤ length (now input)) × (length (now input) ≤ fitting (length (now output))) ⌝ }
-    ensures { λ t. ⌜ t .have ≤ length (now (input .exit)) ⌝ }
+    requires { ⌜ (have < length (now input)) × (length (now input) ≤ fitting (length (now output))) ⌝ }
+    ensures { λ t. ⌜ TookTurn r (now (memory .entry)) (take have (now (input .entry))) t (now (memory .exit)) (now (input .exit)) ⌝ }
 {
     let all = fill(input, have);
     if all == have {
@@ -108,7 +110,7 @@ fn take_turn(
 
 // A proved loop has to end, and nothing says that the input does: it counts its turns down, from a number that no run uses up.
 fn list(memory: &mut [u16], input: &mut [u8], output: &mut [u8])
-    requires { ⌜ length (now input) ≤ fitting (length (now output)) ⌝ }
+    requires { ⌜ (32 ≤ length (now input)) × (length (now input) ≤ fitting (length (now output))) ⌝ }
 {
     let woken = registers::reset();
     let mut registers = woken.registers;

@@ -1,14 +1,15 @@
--- `portlist::list` meets its contract: the line begun lies in the input, and the lent parts keep their lengths.
+-- `portlist::list` meets its contract: the line begun stays short, so that a read has room, and the lent parts keep their lengths.
 use Prim.Native.Nat.{ℕ, _≤_}
 use native.Mathlib.Omega.{arith}
 use mathlib.Core.Path.{_≡_, refl, _∙_}
 use mathlib.Core.List.{List}
-use lib.ListN.{length}
+use lib.ListN.{length, take}
+use Rattle.portlist.proofs.OneTurn.{took-short}
 use Rattle.portlist.proofs.list.Statement.{statement}
 use Rattle.portlist.proofs.list.Tie as tie
 
 record Kept (memory₀ input₀ output₀ memory input output : List ℕ) (have : ℕ) : Type 0 where
-  begun : have ≤ length input
+  begun : have ≤ 31
   memory-kept : length memory ≡ length memory₀
   input-kept : length input ≡ length input₀
   output-kept : length output ≡ length output₀
@@ -32,9 +33,8 @@ take-turn-requires : tie.Need-take-turn-requires Inv-loop μ-loop
 take-turn-requires c κs =
     let l = c .before .before .before .before in
     let start = l .before .before .before .before .before .before in
-    let l = l .loop .inv in
-    let p = start .pre in
-    (l .begun, omega (arith, p, l .input-kept, l .output-kept))
+    let k = l .loop .inv in
+    (omega (arith, k .begun, start .pre .0, k .input-kept), omega (arith, start .pre .1, k .input-kept, k .output-kept))
 
 sub-turns : tie.Need-sub-turns Inv-loop μ-loop
 sub-turns c =
@@ -71,7 +71,7 @@ loop-again c =
     let at-take-turn = c .before .before .before .before .before .before .before .before .before in
     let l = at-take-turn .before .before .before .before .before in
     record {
-      begun = at-take-turn .take-turn .ensures;
+      begun = took-short (take (l .loop .have) (l .loop .input)) (at-take-turn .take-turn .ensures);
       memory-kept = at-take-turn .take-turn .kept .1 .0 ∙ l .loop .inv .memory-kept;
       input-kept = at-take-turn .take-turn .kept .1 .1 .0 ∙ l .loop .inv .input-kept;
       output-kept = at-take-turn .take-turn .kept .1 .1 .1 .0 ∙ l .loop .inv .output-kept;
