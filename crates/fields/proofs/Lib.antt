@@ -10,3 +10,4 @@ pub mod AfterPut
 -- ---- the definitions word by word, as the code's loops go
 pub mod WordByWord
 pub mod Costs
+pub mod PutByWords
