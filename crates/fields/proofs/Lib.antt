@@ -11,3 +11,4 @@ pub mod AfterPut
 pub mod Window
 pub mod WordByWord
 pub mod Costs
+pub mod PutByWords

@@ -4,15 +4,17 @@
 --   first-place a        where a field at a begins
 --   count-at p n         how many bits of a field of n bits lie in the word that comes next
 --   place-after p k      the place when these k bits are done
+--   with-part            a memory with a part of a value put into one word
 --   Scattered            what putting in an accepted field leaves
-use Prim.Native.Nat.{ℕ, zero, suc, _+_, _-_, _*_, _%_, _^_, _≤_, _<_, min}
+use Prim.Native.Nat.{ℕ, zero, suc, _+_, _-_, _*_, _/_, _%_, _^_, _≤_, _<_, min}
 use mathlib.Core.List.{List}
 use mathlib.Core.Path.{_≡_}
-use lib.ListN.{getD}
+use lib.ListN.{getD, set}
 use Rattle.words.specs.Addresses.{word-at}
 use Rattle.words.specs.declared.BitAddress.{BitAddress}
 use Rattle.field_bits.specs.Field.{with-field}
 use Rattle.field_bits.specs.Count.{last-word, put-cycles}
+use Rattle.field_bits.specs.WithBits.{with-bits}
 use Rattle.fields.specs.declared.places.Place.{Place}
 
 pub record Accepted (words : ℕ) (a : BitAddress) (n : ℕ) : Type 0 where
@@ -36,6 +38,10 @@ count-at p n = min (16 - p .from) (n - p .done)
 -- the field goes on at the next word's first bit
 abbrev pub place-after : Place → ℕ → Place
 place-after p k = record { word = record { 0 = p .word .0 + 1 }; from = 0; done = p .done + k }
+
+-- of the memory m: k bits of the value v, those from its bit d on, are put into word w from its bit o on
+unfoldable pub with-part : List ℕ → ℕ → ℕ → ℕ → ℕ → ℕ → List ℕ
+with-part m w o k v d = set m w (with-bits (getD m w 0) o k (v / 2 ^ d % 2 ^ k))
 
 pub record Scattered (m : List ℕ) (a : BitAddress) (n v : ℕ) (cycles : ℕ) (m′ : List ℕ) : Type 0 where
   pub count : cycles ≡ put-cycles a n
