@@ -9,6 +9,4 @@ pub mod RoundTrips
 pub mod AfterPut
 -- ---- the definitions by words, as the code goes
 pub mod Window
-pub mod WordByWord
-pub mod Costs
 pub mod PutByWords

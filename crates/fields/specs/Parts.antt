@@ -1,21 +1,16 @@
 -- An accepted field by its words: what the private functions state.
 --   Accepted words a n   a field that is accepted by a memory of so many words
 --   window m i k         k words of the memory from word i on, as one number
---   first-place a        where a field at a begins
---   count-at p n         how many bits of a field of n bits lie in the word that comes next
---   place-after p k      the place when these k bits are done
 --   with-part            a memory with a part of a value put into one word
 --   Scattered            what putting in an accepted field leaves
-use Prim.Native.Nat.{ℕ, zero, suc, _+_, _-_, _*_, _/_, _%_, _^_, _≤_, _<_, min}
+use Prim.Native.Nat.{ℕ, zero, suc, _+_, _*_, _/_, _%_, _^_, _≤_, _<_}
 use mathlib.Core.List.{List}
 use mathlib.Core.Path.{_≡_}
 use lib.ListN.{getD, set}
-use Rattle.words.specs.Addresses.{word-at}
 use Rattle.words.specs.declared.BitAddress.{BitAddress}
 use Rattle.field_bits.specs.Field.{with-field}
 use Rattle.field_bits.specs.Count.{last-word, put-cycles}
 use Rattle.field_bits.specs.WithBits.{with-bits}
-use Rattle.fields.specs.declared.places.Place.{Place}
 
 pub record Accepted (words : ℕ) (a : BitAddress) (n : ℕ) : Type 0 where
   pub few : words ≤ 32768
@@ -27,17 +22,6 @@ pub record Accepted (words : ℕ) (a : BitAddress) (n : ℕ) : Type 0 where
 unfoldable pub window : List ℕ → ℕ → ℕ → ℕ
 window m i zero = 0
 window m i (suc k) = window m (suc i) k * 2 ^ 16 + getD m i 0
-
-abbrev pub first-place : BitAddress → Place
-first-place a = record { word = word-at a; from = a .0 % 16; done = 0 }
-
--- they go to the end of the word or of the field, whichever comes first
-abbrev pub count-at : Place → ℕ → ℕ
-count-at p n = min (16 - p .from) (n - p .done)
-
--- the field goes on at the next word's first bit
-abbrev pub place-after : Place → ℕ → Place
-place-after p k = record { word = record { 0 = p .word .0 + 1 }; from = 0; done = p .done + k }
 
 -- of the memory m: k bits of the value v, those from its bit d on, are put into word w from its bit o on
 unfoldable pub with-part : List ℕ → ℕ → ℕ → ℕ → ℕ → ℕ → List ℕ
