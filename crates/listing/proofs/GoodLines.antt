@@ -8,14 +8,15 @@ use mathlib.Core.Logic.{_⊎_, inl, inr}
 use lib.Dec.{eqb}
 use lib.ListN.{length, take}
 use lib.Seq.{take-suc, take-all}
-use borrow.Author.Tests.{eqb-true, ltb-true}
+use borrow.Author.Tests.{eqb-true, ltb-true, ne-eqb}
 use Rattle.words.proofs.Choices.{either-way, both-true}
 use Rattle.port.specs.declared.Access.{Access}
 use Rattle.port.specs.declared.Access.the-variants.{Read, Write}
-use Rattle.digits.specs.Digits.{is-decimal}
-use Rattle.listing.specs.Line.{Line, good, bad, byte, hex, word-from, headed, tailed, read-in, write-in, line-of}
+use Rattle.digits.specs.Digits.{is-decimal, digit-for}
+use Rattle.listing.specs.Line.{Line, good, bad, byte, hex, word-from, headed, tailed, read-in, write-in, line-of, has-feed}
 use Rattle.listing.specs.Spelled.{line-text, Sayable}
-use Rattle.digits.proofs.DigitValues.{decimal, decimal-is, value-of-digit, digit-is-hex, digit-of-value}
+use Rattle.listing.specs.Pieces.{No-feed}
+use Rattle.digits.proofs.DigitValues.{decimal, decimal-is, value-of-digit, digit-is-hex, digit-of-value, hex-apart}
 use Rattle.listing.proofs.FixedPlaces.{Head, Tail, head-is, tail-is}
 
 one-digit : (n : ℕ) → n < 10 → is-decimal (48 + n) ≡ true
@@ -153,3 +154,19 @@ spells u = go (either-way (eqb (length u) 5 && headed 82 u)) (either-way (eqb (l
 -- A good line is the text of what it asks for, and that is sayable.
 pub only-it : (u : List ℕ) (a : Access) → line-of u ≡ good a → (u ≡ line-text a) × Sayable a
 only-it u a e = subst (Spells u) e (spells u)
+
+-- ---- no byte of such a line is a line feed
+
+plain-digit : (n : ℕ) → eqb (48 + n) 10 ≡ false
+plain-digit n = ne-eqb (48 + n) 10 (λ g. absurd (omega (arith, g)))
+
+plain-hex : (n : ℕ) → eqb (digit-for n) 10 ≡ false
+plain-hex n = ne-eqb (digit-for n) 10 (hex-apart (digit-for n) (digit-is-hex n))
+
+pub no-feed-in : (a : Access) → No-feed (line-text a)
+unfolding has-feed
+no-feed-in (Read register lanes) = rw (plain-digit register, plain-digit lanes) refl
+no-feed-in (Write register lanes w) =
+    rw
+    (plain-digit register, plain-digit lanes, plain-hex (w / 4096), plain-hex (w / 256), plain-hex (w / 16), plain-hex w)
+    refl

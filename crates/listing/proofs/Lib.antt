@@ -6,6 +6,7 @@ pub mod Examples
 -- an input cut anywhere lists to the same text
 pub mod Cutting
 pub mod InPieces
+pub mod InOrder
 pub mod One
 -- what the functions' proofs rest on
 pub mod Feeds
