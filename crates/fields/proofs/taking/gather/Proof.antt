@@ -1,6 +1,5 @@
 -- `fields::taking::gather` meets its contract: the window holds the words touched, and the field is in it where
 -- `field-in-window` says; the cycles are as many as those words (`cycle-each`).
-use borrow.Author.Needs.{needs}
 use Prim.Native.Nat.{_/_, _%_, _^_, _<_}
 use native.Mathlib.Nat.{mod-lt, lt-of-lt-of-le}
 use native.Mathlib.Omega.{arith}
@@ -19,7 +18,7 @@ word-of-requires : tie.Need-word-of-requires
 word-of-requires c κs = tt
 
 cast-window-at : tie.Need-cast-window-at
-cast-window-at c = search needs
+cast-window-at c = omega arith
 
 window-at-requires : tie.Need-window-at-requires
 window-at-requires c κs =
@@ -32,13 +31,13 @@ window-at-requires c κs =
     )
 
 pow2-wide-requires : tie.Need-pow2-wide-requires
-pow2-wide-requires c κs = search needs
+pow2-wide-requires c κs = omega arith
 
 div-value : tie.Need-div-value
 div-value c = rw (c .pow2-wide .ensures) (pow-pos _)
 
 pow2-wide-requires-2 : tie.Need-pow2-wide-requires-2
-pow2-wide-requires-2 c κs = search needs
+pow2-wide-requires-2 c κs = omega arith
 
 rem-value : tie.Need-rem-value
 rem-value c =

@@ -1,6 +1,5 @@
 -- `fields::taking::window_at` meets its contract: each word has sixteen bits, so the sums fit, and they are the definition's
 -- for one, two and three words.
-use borrow.Author.Needs.{needs}
 use native.Mathlib.Omega.{arith}
 use Prim.Native.Nat.{_+_, _<_}
 use mathlib.Core.Path.{_≡_, sym}
@@ -10,10 +9,10 @@ use Rattle.fields.proofs.taking.window_at.Statement.{statement}
 use Rattle.fields.proofs.taking.window_at.Tie as tie
 
 mul-first : tie.Need-mul-first
-mul-first c = search needs
+mul-first c = omega arith
 
 shared-slice-read-first : tie.Need-shared-slice-read-first
-shared-slice-read-first c = search needs
+shared-slice-read-first c = omega arith
 
 cast-first : tie.Need-cast-first
 cast-first c = omega (arith, c .shared-slice-known .given (c .before .args .i))
@@ -22,13 +21,13 @@ returns : tie.Need-returns
 returns c = rw (c .if1 .taken) (sym (one-word _ _))
 
 add-second : tie.Need-add-second
-add-second c = search needs
+add-second c = omega arith
 
 mul-second : tie.Need-mul-second
-mul-second c = search needs
+mul-second c = omega arith
 
 shared-slice-read-second : tie.Need-shared-slice-read-second
-shared-slice-read-second c = search needs
+shared-slice-read-second c = omega arith
 
 cast-second : tie.Need-cast-second
 cast-second c = omega (arith, c .shared-slice-known2 .given (c .before .before .before .args .i + 1))
@@ -52,13 +51,13 @@ returns-2 : tie.Need-returns-2
 returns-2 c = rw (c .if2 .taken) (sym (two-words _ _))
 
 add-third : tie.Need-add-third
-add-third c = search needs
+add-third c = omega arith
 
 mul-third : tie.Need-mul-third
-mul-third c = search needs
+mul-third c = omega arith
 
 shared-slice-read-third : tie.Need-shared-slice-read-third
-shared-slice-read-third c = search needs
+shared-slice-read-third c = omega arith
 
 -- All three have.
 three : (c : tie.After-shared-slice-known3) →
