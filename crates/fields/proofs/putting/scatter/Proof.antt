@@ -43,7 +43,8 @@ put-part-requires-2 : tie.Need-put-part-requires-2
 put-part-requires-2 c κs = (there (c .before .before .before .before), omega arith, omega arith)
 
 -- So is the second, with the first part put in.
-second-there : (c : tie.After-put-part2) → c .before .before .before .before .before .word-of .result .0 + 1 < length (c .put-part2 .last .0)
+second-there : (c : tie.After-put-part2)
+    → c .before .before .before .before .before .word-of .result .0 + 1 < length (c .put-part2 .last .0)
 second-there c =
     let i = c .before .before in
     let w = i .before .before .before in
