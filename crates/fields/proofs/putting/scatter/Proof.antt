@@ -8,7 +8,7 @@ use Rattle.fields.proofs.putting.scatter.Statement.{statement}
 use Rattle.fields.proofs.putting.scatter.Tie as tie
 
 word-of-requires : tie.Need-word-of-requires
-word-of-requires c κs = search needs
+word-of-requires c κs = tt
 
 cast-word : tie.Need-cast-word
 cast-word c = search needs
@@ -24,7 +24,7 @@ put-part-requires : tie.Need-put-part-requires
 put-part-requires c κs = (there (c .before .before .before .before), c .before .if1 .taken, omega arith)
 
 cost-of-requires : tie.Need-cost-of-requires
-cost-of-requires c κs = search needs
+cost-of-requires c κs = tt
 
 same-length : tie.Need-same-length
 same-length c = search needs
@@ -43,7 +43,8 @@ put-part-requires-2 : tie.Need-put-part-requires-2
 put-part-requires-2 c κs = (there (c .before .before .before .before), omega arith, omega arith)
 
 -- So is the second, with the first part put in.
-second-there : (c : tie.After-put-part2) → c .before .before .before .before .before .word-of .result .0 + 1 < length (c .put-part2 .last .0)
+second-there : (c : tie.After-put-part2)
+    → c .before .before .before .before .before .word-of .result .0 + 1 < length (c .put-part2 .last .0)
 second-there c =
     let i = c .before .before in
     let w = i .before .before .before in
@@ -60,10 +61,10 @@ put-part-requires-3 c κs =
     (second-there (c .before .before .before .before), omega (arith, c .before .if2 .taken), omega arith)
 
 cost-of-requires-2 : tie.Need-cost-of-requires-2
-cost-of-requires-2 c κs = search needs
+cost-of-requires-2 c κs = tt
 
 cost-of-requires-3 : tie.Need-cost-of-requires-3
-cost-of-requires-3 c κs = search needs
+cost-of-requires-3 c κs = tt
 
 add-result : tie.Need-add-result
 add-result c =
