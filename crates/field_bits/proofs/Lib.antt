@@ -9,5 +9,5 @@ pub mod OneNumber
 pub mod Counted
 pub mod Sums
 pub mod Grants
--- ---- the part in one word, as a loop goes
+-- ---- the part in one word
 pub mod Steps
