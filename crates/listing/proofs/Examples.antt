@@ -3,8 +3,8 @@
 use Prim.Native.Nat.{ℕ}
 use mathlib.Core.Path.{_≡_, refl}
 use mathlib.Core.List.{List, [], _∷_}
-use Rattle.registers.specs.Processor.{at-reset}
 use Rattle.port.specs.Runs.{Machine, answer-of, after}
+use Rattle.port.specs.Deeds.{woken}
 use Rattle.words.specs.Bytes.{bit, takes-low, takes-high, are-lanes, lay}
 use Rattle.words.specs.Memory.{fetch-at, store-at}
 use Rattle.control.specs.Control.{closes, fetches, bare, low-parts, host-low}
@@ -16,9 +16,6 @@ use Rattle.listing.specs.Line.{headed, tailed, line-of}
 use Rattle.listing.specs.Answer.{head-text, shows-mark, mark-text, cycle-text, answer-text}
 use Rattle.listing.specs.Listing.{next, listing}
 use Rattle.listing.specs.Pieces.{printed}
-
-abbrev woken : List ℕ → Machine
-woken m = record { registers = at-reset .registers; memory = m }
 
 --   W 3 3 0800
 --   W 0 3 0000
