@@ -8,7 +8,8 @@ use mathlib.Core.List.{List, [], _∷_, _++_, map, append-nil}
 use lib.ListN.{replicate}
 use Rattle.port.specs.Table.{Given, given, held, filler}
 use Rattle.port.specs.declared.Answer.{Answer}
-use Rattle.block.specs.Block.{counted, tally, words-in, hollows-in}
+use Rattle.port.specs.Runs.{words-in}
+use Rattle.block.specs.Block.{counted, tally, hollows-in}
 
 words-given : (xs : List Answer) → words-in xs ≡ map (λ (g : Given). g .word) (map given xs)
 words-given [] = refl

@@ -1,40 +1,20 @@
 -- A run of accesses in two parts: the first, then the second from where the first ended. What they answer is joined, and
 -- their marks are added. So a block of n + k words is a block of n and then one of k.
-use Prim.Native.Nat.{ℕ, zero, suc, _+_, _≤_}
-use native.Mathlib.Nat.{zero-add, suc-add, add-assoc}
+use Prim.Native.Nat.{ℕ, suc, _+_, _≤_}
+use native.Mathlib.Nat.{zero-add, add-assoc}
 use native.Mathlib.Omega.{arith}
-use mathlib.Core.Path.{_≡_, refl, sym, ap, _∙_}
+use mathlib.Core.Path.{_≡_, sym, ap, _∙_}
 use mathlib.Core.Bool.{Bool, true, false}
 use mathlib.Core.List.{List, [], _∷_, _++_, map-append}
 use lib.ListN.{length, length-map}
 use Rattle.registers.specs.declared.Registers.{Registers}
-use Rattle.port.specs.Runs.{Machine, Sixteen, load, save, on, answer-of, after, answers, ends}
+use Rattle.port.specs.Runs.{Machine, machine, words-in, save, answers, ends}
 use Rattle.port.specs.Table.{reading}
 use Rattle.port.specs.declared.Answer.{Answer}
-use Rattle.port.specs.declared.Access.the-variants.{Read}
-use Rattle.port.proofs.DataRegister.{read-keeps-memory}
-use Rattle.block.specs.Block.{machine, writing, counted, tally, words-in, hollows-in, is-empty, empties-in}
+use Rattle.port.proofs.Joined.{ends-join, answers-join, answers-length, reading-join, reading-length, reads-keep-memory, filled-length}
+use Rattle.block.specs.Block.{writing, counted, tally, hollows-in, is-empty, empties-in}
 use Rattle.block.specs.Parts.{ReadInto, WrittenFrom}
 use Rattle.block.specs.declared.Run.{Run}
-
--- ---- any accesses
--- The second part goes on from where the first ended.
-pub ends-join : (s : Machine) (xs ys : List Sixteen) → ends s (xs ++ ys) ≡ ends (ends s xs) ys
-unfolding ends
-ends-join s [] ys = refl
-ends-join s (x ∷ xs) ys = ends-join (after s (on 3 x)) xs ys
-
--- Its answers come after the first part's.
-pub answers-join : (s : Machine) (xs ys : List Sixteen) → answers s (xs ++ ys) ≡ answers s xs ++ answers (ends s xs) ys
-unfolding answers ends
-answers-join s [] ys = refl
-answers-join s (x ∷ xs) ys = ap (λ (l : List Answer). answer-of s (on 3 x) ∷ l) (answers-join (after s (on 3 x)) xs ys)
-
--- There is an answer to each access.
-pub answers-length : (s : Machine) (xs : List Sixteen) → length (answers s xs) ≡ length xs
-unfolding answers
-answers-length s [] = refl
-answers-length s (x ∷ xs) = ap suc (answers-length (after s (on 3 x)) xs)
 
 -- ---- counting marks
 one-more : (b : Bool) {n k : ℕ} → n ≤ k → counted b + n ≤ suc k
@@ -55,32 +35,9 @@ module _ (marked : Answer → Bool) where
   tally-most (x ∷ xs) = one-more (marked x) (tally-most xs)
 
 -- ---- reads
--- n + k reads are n reads and then k.
-pub reading-join : (n k : ℕ) → reading (n + k) ≡ reading n ++ reading k
-unfolding reading
-reading-join zero k = ap reading (zero-add k)
-reading-join (suc n) k = ap reading (suc-add n k) ∙ ap (λ (l : List Sixteen). load 2 ∷ l) (reading-join n k)
-
--- n reads are n accesses.
-pub reading-length : (n : ℕ) → length (reading n) ≡ n
-unfolding reading
-reading-length zero = refl
-reading-length (suc n) = ap suc (reading-length n)
-
--- Reads leave the memory.
-pub reads-keep-memory : (s : Machine) (n : ℕ) → ends s (reading n) .memory ≡ s .memory
-unfolding reading ends after
-reads-keep-memory s zero = refl
-reads-keep-memory s (suc n) =
-    reads-keep-memory (after s (Read 2 3)) n ∙ read-keeps-memory (s .registers) (s .memory) 2 3
-
 -- Of n reads at most n hand out a hollow word.
 pub few-hollows : (s : Machine) (n : ℕ) → hollows-in (answers s (reading n)) ≤ n
 few-hollows s n = rw (answers-length s (reading n), reading-length n) at (tally-most (λ x. x .hollow) (answers s (reading n)))
-
--- A read hands out a word for each place.
-pub filled-length : (s : Machine) (n : ℕ) → length (words-in (answers s (reading n))) ≡ n
-filled-length s n = length-map (answers s (reading n)) (λ x. x .word) ∙ answers-length s (reading n) ∙ reading-length n
 
 -- So a part that is read into has as many places.
 pub read-length : {s : Machine} {n : ℕ} {o : Run} {part : List ℕ} → ReadInto s n o part → length part ≡ n

@@ -11,9 +11,9 @@ use lib.ListN.{length}
 use borrow.Author.Tests.{ltb-true, ltb-false, eq-eqb, ne-eqb}
 use Rattle.words.proofs.Choices.{same-or-not}
 use Rattle.registers.specs.declared.Registers.{Registers}
-use Rattle.port.specs.Runs.{Sixteen, answers, ends}
+use Rattle.port.specs.Runs.{machine, words-in, Sixteen, answers, ends}
 use Rattle.port.specs.Table.{reading}
-use Rattle.block.specs.Block.{machine, block-refusal, block-number, stretch, with-stretch, writing, words-in, hollows-in, empties-in}
+use Rattle.block.specs.Block.{block-refusal, block-number, stretch, with-stretch, writing, hollows-in, empties-in}
 use Rattle.block.specs.Block.{block-read, list-after, block-write, memory-left}
 use Rattle.block.specs.declared.BlockRead.{BlockRead}
 use Rattle.block.specs.declared.BlockWrite.{BlockWrite}

@@ -19,14 +19,14 @@ use Rattle.registers.specs.declared.Registers.{Registers}
 use Rattle.port.specs.Cycle.{standing, stepped}
 use Rattle.port.specs.Deeds.{ahead, has-cycle, word-used}
 use Rattle.port.specs.Host.{access}
-use Rattle.port.specs.Runs.{answer-of, after, answers, ends}
+use Rattle.port.specs.Runs.{machine, answer-of, after, answers, ends}
 use Rattle.port.specs.Table.{reading}
 use Rattle.port.specs.declared.Access.the-variants.{Read, Write}
 use Rattle.port.proofs.Numbers.{numbered}
 use Rattle.port.proofs.NoMiss.{rule, true-mark}
 use Rattle.port.proofs.Leaves.{after-storing}
 use Rattle.port.proofs.DataRegister.{read-fetches, write-stores, write-steps}
-use Rattle.block.specs.Block.{machine, counted, tally, is-empty}
+use Rattle.block.specs.Block.{counted, tally, is-empty}
 use Rattle.block.specs.Parts.{ReadInto, WrittenFrom}
 
 module _ (r : Registers) (m : List ℕ) (few : length m ≤ 32768) where

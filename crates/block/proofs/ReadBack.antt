@@ -14,7 +14,8 @@ use Rattle.words.proofs.Choices.{less-or-not}
 use Rattle.control.specs.Control.{incr, incw}
 use Rattle.registers.specs.declared.Registers.{Registers}
 use Rattle.port.specs.Table.{Memory, loaded, table, Lies}
-use Rattle.block.specs.Block.{machine, block-number, stretch, with-stretch, block-write, memory-left, block-read, list-after}
+use Rattle.port.specs.Runs.{machine}
+use Rattle.block.specs.Block.{block-number, stretch, with-stretch, block-write, memory-left, block-read, list-after}
 use Rattle.block.specs.Parts.{stepped-by, WrittenFrom}
 use Rattle.block.specs.declared.BlockWrite.{BlockWrite}
 use Rattle.block.proofs.Numbers.{when, write-taken, memory-taken}

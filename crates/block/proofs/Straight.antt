@@ -18,11 +18,11 @@ use Rattle.control.specs.Control.{incr, incw}
 use Rattle.registers.specs.Registers.{with-latch}
 use Rattle.registers.specs.declared.Registers.{Registers}
 use Rattle.port.specs.Cycle.{standing, stepped}
-use Rattle.port.specs.Runs.{Machine, answers, ends}
+use Rattle.port.specs.Runs.{Machine, machine, words-in, answers, ends}
 use Rattle.port.specs.Table.{Memory, stands, reading, on-by, table, Lies, given}
 use Rattle.port.proofs.Handed.{on-by-gains, reads-answer, reads-end}
 use Rattle.port.proofs.TableWords.{table-handed}
-use Rattle.block.specs.Block.{machine, counted, words-in, hollows-in}
+use Rattle.block.specs.Block.{counted, hollows-in}
 use Rattle.block.specs.Parts.{straight-reads, straight-writes, stepped-by, ReadInto, WrittenFrom}
 use Rattle.block.proofs.HandedOut.{all-held}
 use Rattle.block.proofs.Joining.{join-reads, join-writes}

@@ -3,9 +3,9 @@ use Prim.Native.Nat.{ℕ}
 use mathlib.Core.Path.{_≡_, sym, ap, _∙_}
 use mathlib.Core.List.{List}
 use Rattle.registers.specs.declared.Registers.{Registers}
-use Rattle.port.specs.Runs.{answers}
+use Rattle.port.specs.Runs.{machine, answers}
 use Rattle.port.specs.Table.{reading}
-use Rattle.block.specs.Block.{machine, block-number, stretch, with-stretch, writing, hollows-in, empties-in, ReadBlock, WrittenBlock}
+use Rattle.block.specs.Block.{block-number, stretch, with-stretch, writing, hollows-in, empties-in, ReadBlock, WrittenBlock}
 use Rattle.block.specs.Parts.{ReadInto, WrittenFrom}
 use Rattle.block.specs.declared.Run.{Run}
 use Rattle.block.proofs.Numbers.{read-taken, list-taken, write-taken, memory-taken}

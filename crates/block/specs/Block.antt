@@ -1,12 +1,11 @@
 -- Blocks: document 01, 'Blocks and the two doors' and number 10 of 'Numbers returned'.
---   machine r m                        the registers, with the lent memory
 --   block-refusal, block-number        number 1 or 10, or 0 where neither applies
 --   stretch l place count              the words of a list's stretch
 --   with-stretch l place count ws      the list with its stretch become ws
 --   writing ws                         two-lane writes of register 2, one for each word
 --   counted, tally f xs                a mark as a number, and how many of the answers xs bear the mark f
 --   is-empty                           the cycle of a store that was dropped
---   words-in, hollows-in, empties-in   what answers hand out, and how many of them are hollow, or fell empty
+--   hollows-in, empties-in             how many of the answers are hollow, or fell empty
 --   block-read, list-after             a block read: its outcome, and the list
 --   block-write, memory-left           a block write: its outcome, and the memory
 --   ReadBlock, WrittenBlock            these, as the contracts of the two calls
@@ -18,16 +17,13 @@ use lib.Dec.{eqb, ltb}
 use lib.ListN.{length, take, drop}
 use Rattle.words.specs.Memory.{over-limit}
 use Rattle.registers.specs.declared.Registers.{Registers}
-use Rattle.port.specs.Runs.{Machine, Sixteen, save, answers, ends}
+use Rattle.port.specs.Runs.{machine, Sixteen, save, answers, ends, words-in}
 use Rattle.port.specs.Table.{reading}
 use Rattle.port.specs.declared.Answer.{Answer}
 use Rattle.port.specs.declared.Cycle.{Cycle}
 use Rattle.port.specs.declared.Cycle.the-variants.{None, Inside, Empty}
 use Rattle.block.specs.declared.BlockRead.{BlockRead}
 use Rattle.block.specs.declared.BlockWrite.{BlockWrite}
-
-abbrev pub machine : Registers → List ℕ → Machine
-machine r m = record { registers = r; memory = m }
 
 -- "1 memory over 32,768 words; 10 block count over 4,096, or place plus count over the list's length", tested in this order
 unfoldable pub block-refusal : ℕ → ℕ → ℕ → ℕ → ℕ
@@ -54,9 +50,6 @@ abbrev pub writing : List ℕ → List Sixteen
 writing ws = map (save 2) ws
 
 -- ---- what their answers say
-
-abbrev pub words-in : List Answer → List ℕ
-words-in xs = map (λ x. x .word) xs
 
 -- a mark counts one
 abbrev pub counted : Bool → ℕ

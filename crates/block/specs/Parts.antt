@@ -10,9 +10,9 @@ use Rattle.words.specs.Addresses.{word-at}
 use Rattle.words.specs.declared.BitAddress.{BitAddress}
 use Rattle.control.specs.Control.{incr, incw}
 use Rattle.registers.specs.declared.Registers.{Registers}
-use Rattle.port.specs.Runs.{Machine, answers, ends}
+use Rattle.port.specs.Runs.{Machine, words-in, answers, ends}
 use Rattle.port.specs.Table.{reading}
-use Rattle.block.specs.Block.{writing, words-in, hollows-in, empties-in}
+use Rattle.block.specs.Block.{writing, hollows-in, empties-in}
 use Rattle.block.specs.declared.Run.{Run}
 
 -- a read fetches the word after the pointer's

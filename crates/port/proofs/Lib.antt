@@ -12,9 +12,10 @@ pub mod DataRegister
 pub mod OtherRegisters
 pub mod LowBits
 pub mod Widths
--- ---- demand 3: bytes and words end alike
+-- ---- demand 3: bytes and words end alike; a run in two parts
 pub mod Pairs
 pub mod Alike
+pub mod Joined
 -- ---- the tuner's law: every word is handed out
 pub mod Handed
 pub mod TableWords

@@ -1,12 +1,14 @@
 -- Sequences of sixteen-bit accesses, each done whole or as two byte accesses: the words of demand 3.
---   Machine, after, answer-of   registers with a memory, and what one access leaves and answers there
+--   Machine, machine r m        registers with a memory
+--   after, answer-of            what one access leaves and answers there
 --   Sixteen, on lanes a         a sixteen-bit access, and that access on some lanes
 --   opening, closing            its two byte accesses, in the order that LBL commands when it begins
 --   joined                      what two byte answers tell together
 --   answers, ends               a sequence done whole: what it answers, and where it ends
+--   words-in                    the words that answers hand out
 --   byte-answers, byte-ends     the same sequence done by bytes
 use Prim.Native.Nat.{ℕ, _+_}
-use mathlib.Core.List.{List, [], _∷_}
+use mathlib.Core.List.{List, [], _∷_, map}
 use Rattle.control.specs.Control.{first-lane, last-lane}
 use Rattle.registers.specs.declared.Registers.{Registers}
 use Rattle.port.specs.Host.{access, access-memory}
@@ -17,6 +19,9 @@ use Rattle.port.specs.declared.Answer.{Answer}
 pub record Machine : Type 0 where
   pub registers : Registers
   pub memory : List ℕ
+
+abbrev pub machine : Registers → List ℕ → Machine
+machine r m = record { registers = r; memory = m }
 
 unfoldable pub answer-of : Machine → Access → Answer
 answer-of s a = access (s .registers) (s .memory) a .answer
@@ -58,6 +63,9 @@ answers s (a ∷ rest) = answer-of s (on 3 a) ∷ answers (after s (on 3 a)) res
 unfoldable pub ends : Machine → List Sixteen → Machine
 ends s [] = s
 ends s (a ∷ rest) = ends (after s (on 3 a)) rest
+
+abbrev pub words-in : List Answer → List ℕ
+words-in xs = map (λ x. x .word) xs
 
 unfoldable pub byte-answers : Machine → List Sixteen → List Answer
 byte-answers s [] = []

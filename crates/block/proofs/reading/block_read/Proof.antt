@@ -6,7 +6,8 @@ use native.Mathlib.Omega.{arith}
 use mathlib.Core.Path.{_≡_, sym, ap, _∙_}
 use mathlib.Core.Logic.{_≢_}
 use lib.ListN.{length}
-use Rattle.block.specs.Block.{machine, block-number}
+use Rattle.port.specs.Runs.{machine}
+use Rattle.block.specs.Block.{block-number}
 use Rattle.block.specs.Parts.{ReadInto}
 use Rattle.block.proofs.Numbers.{when, read-barred, list-barred}
 use Rattle.block.proofs.Whole.{read-block}

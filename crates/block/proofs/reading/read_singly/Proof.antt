@@ -11,10 +11,10 @@ use borrow.Author.Needs.{needs}
 use Rattle.registers.specs.declared.Registers.{Registers}
 use Rattle.port.specs.Cycle.{standing}
 use Rattle.port.specs.Deeds.{ahead}
-use Rattle.port.specs.Runs.{answers, ends}
+use Rattle.port.specs.Runs.{machine, answers, ends}
 use Rattle.port.specs.Table.{Memory, reading}
 use Rattle.port.proofs.Handed.{shows-word}
-use Rattle.block.specs.Block.{machine, counted, tally}
+use Rattle.block.specs.Block.{counted, tally}
 use Rattle.block.specs.Parts.{ReadInto}
 use Rattle.block.proofs.Joining.{join-reads, few-hollows}
 use Rattle.block.proofs.OneAccess.{one-read}

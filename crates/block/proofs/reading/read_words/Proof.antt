@@ -7,7 +7,7 @@ use mathlib.Core.Path.{_≡_}
 use lib.ListN.{length}
 use Rattle.words.specs.Addresses.{word-at}
 use Rattle.control.specs.Control.{incr}
-use Rattle.block.specs.Block.{machine}
+use Rattle.port.specs.Runs.{machine}
 use Rattle.block.specs.Parts.{ReadInto}
 use Rattle.block.proofs.Joining.{few-hollows, read-length, join-reads}
 use Rattle.block.proofs.Lent.{between, first-length, rest-starts, rest-length, both-back}

@@ -16,8 +16,8 @@ use Rattle.control.specs.Control.{incw}
 use Rattle.registers.specs.Registers.{with-latch}
 use Rattle.registers.specs.declared.Registers.{Registers}
 use Rattle.port.specs.Cycle.{stepped}
-use Rattle.port.specs.Runs.{answers, ends}
-use Rattle.block.specs.Block.{machine, counted, tally}
+use Rattle.port.specs.Runs.{machine, answers, ends}
+use Rattle.block.specs.Block.{counted, tally}
 use Rattle.block.specs.Parts.{WrittenFrom}
 use Rattle.block.proofs.Joining.{join-writes, few-empties}
 use Rattle.block.proofs.OneAccess.{one-write}

@@ -6,7 +6,7 @@ use lib.ListN.{length, take, drop, length-drop, take-append-drop}
 use lib.Seq.{length-take-le}
 use Rattle.words.specs.Addresses.{word-at}
 use Rattle.control.specs.Control.{incw}
-use Rattle.block.specs.Block.{machine}
+use Rattle.port.specs.Runs.{machine}
 use Rattle.block.specs.Parts.{WrittenFrom}
 use Rattle.block.proofs.Joining.{few-empties, join-writes}
 use Rattle.block.proofs.Lent.{first-length, first-is, rest-is}
