@@ -1,0 +1,57 @@
+-- The parts of a sheet: what the private functions state.
+--   refused-sheet n r                a refusal, with the registers r
+--   ReadTicks                        what some reads leave: registers with memory, a hollow mark for all of them, and their words
+--   ticks-number                     number 42 or 44, or 0, of n ticks that are read from the machine s on
+--   ticks-sheet, ticks-list          a sheet whose count was right: what it answers, and the list
+--   TookTicks, ReadTable             what the two halves of a sheet leave
+use Prim.Native.Nat.{ℕ, _-_}
+use mathlib.Core.Path.{_≡_}
+use mathlib.Core.Bool.{cond}
+use mathlib.Core.List.{List, _++_}
+use lib.Dec.{eqb}
+use lib.Ieee.{Float}
+use lib.ListN.{drop, getD}
+use Rattle.words.specs.declared.BitAddress.{BitAddress}
+use Rattle.registers.specs.declared.Registers.{Registers}
+use Rattle.port.specs.Runs.{Machine, machine, answers, ends, words-in}
+use Rattle.port.specs.Table.{reading}
+use Rattle.tempo.specs.Tempo.{even-times}
+use Rattle.sheet.specs.Reading.{whole, any-hollow}
+use Rattle.sheet.specs.Sheet.{ticks-refusal, read-sheet, read-list}
+use Rattle.sheet.specs.declared.Sheet.{Sheet}
+use Rattle.strikes.specs.declared.Run.{Run}
+
+abbrev pub refused-sheet : ℕ → Registers → Sheet
+refused-sheet n r = record { number = n; strokes = 0; registers = r }
+
+-- n reads from the machine s, into all of a part of n places
+pub record ReadTicks (s : Machine) (n : ℕ) (o : Run) (m′ part : List ℕ) : Type 0 where
+  pub ends-at : machine (o .registers) m′ ≡ ends s (reading n)
+  pub hollow : o .hollow ≡ any-hollow (answers s (reading n))
+  pub words : part ≡ words-in (answers s (reading n))
+
+module _ (s : Machine) (n : ℕ) where
+  abbrev pub ticks-of : List ℕ
+  ticks-of = words-in (answers s (reading n))
+
+  unfoldable pub ticks-number : ℕ
+  ticks-number = ticks-refusal (any-hollow (answers s (reading n))) ticks-of
+
+  unfoldable pub ticks-sheet : Sheet
+  ticks-sheet =
+      record { number = ticks-number; strokes = cond (eqb ticks-number 0) n 0; registers = ends s (reading n) .registers }
+
+  unfoldable pub ticks-list : List Float → List Float
+  ticks-list l = cond (eqb ticks-number 0) (even-times (getD ticks-of 0 0) (getD ticks-of (n - 1) 0) n n ++ drop n l) l
+
+-- the ticks, read from the machine s on
+pub record TookTicks (s : Machine) (n : ℕ) (l : List Float) (o : Sheet) (m′ : List ℕ) (l′ : List Float) : Type 0 where
+  pub outcome : o ≡ ticks-sheet s n
+  pub memory : m′ ≡ s .memory
+  pub list : l′ ≡ ticks-list s n l
+
+-- the whole table at a, of n strokes
+pub record ReadTable (s : Machine) (a : BitAddress) (n : ℕ) (l : List Float) (o : Sheet) (m′ : List ℕ) (l′ : List Float) : Type 0 where
+  pub outcome : o ≡ read-sheet whole s a n
+  pub memory : m′ ≡ s .memory
+  pub list : l′ ≡ read-list whole s a n l

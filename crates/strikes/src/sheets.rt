@@ -1,0 +1,100 @@
+// A strike sheet, from its table in memory to the list of times.
+ghost use mathlib.Core.Path.{_≡_};
+ghost use mathlib.Core.Bool.{true};
+ghost use Prim.Native.Nat.{_≤_};
+ghost use lib.ListN.{length};
+ghost use Rattle.port.specs.Runs.{machine};
+ghost use Rattle.sheet.specs.Sheet.{Struck};
+ghost use Rattle.strikes.specs.Parts.{refused-sheet, TookTicks, ReadTable};
+use crate::judging::count_strokes;
+use crate::judging::number_before;
+use crate::judging::number_of_count;
+use crate::judging::number_of_ticks;
+use crate::reading::load_pointer;
+use crate::reading::read_ticks;
+use crate::timing::fill_times;
+use host::host_access;
+use port::Access;
+use registers::Registers;
+use sheet::Sheet;
+use sheet::TimeStruck;
+use words::BitAddress;
+
+// A refusal: its number and no strokes, with the registers as they are.
+fn refuse(number: u8, r: Registers) -> Sheet
+    ensures { λ o. ⌜ o ≡ refused-sheet number r ⌝ }
+{
+    Sheet {
+        number,
+        strokes: 0,
+        registers: r,
+    }
+}
+
+// The ticks: all are read before any is judged, and the list is written only if all are good.
+fn take_ticks(r: Registers, memory: &mut [u16], strokes: u16, list: &mut [f64]) -> Sheet
+    requires { ⌜ (1 ≤ strokes) × (strokes ≤ 29) × (strokes ≤ length (now list)) ⌝ }
+    ensures { λ o. ⌜ TookTicks (machine r (now (memory .entry))) strokes (now (list .entry)) o (now (memory .exit)) (now (list .exit)) ⌝ }
+{
+    let mut ticks = [0u16; 29];
+    let start = 0;
+    let end = strokes as usize;
+    let run = read_ticks(r, memory, &mut ticks[start..end]);
+    let q = run.registers;
+    let number = number_of_ticks(run.hollow, &ticks[start..end]);
+    if number != 0 {
+        return refuse(number, q);
+    }
+    fill_times(list, ticks[0], ticks[end - 1], strokes);
+    Sheet {
+        number: 0,
+        strokes,
+        registers: q,
+    }
+}
+
+// A sheet that is begun: the count word, then, if that is right, the ticks.
+fn read_table(
+    r: Registers,
+    memory: &mut [u16],
+    table: BitAddress,
+    strokes: u16,
+    list: &mut [f64],
+) -> Sheet
+    requires { ⌜ (1 ≤ strokes) × (strokes ≤ 29) × (strokes ≤ length (now list)) ⌝ }
+    ensures { λ o. ⌜ ReadTable (machine r (now (memory .entry))) table strokes (now (list .entry)) o (now (memory .exit)) (now (list .exit)) ⌝ }
+{
+    let loaded = load_pointer(r, memory, table);
+    let o = host_access(
+        loaded,
+        memory,
+        Access::Read {
+            register: 2,
+            lanes: 3,
+        },
+    );
+    let q = o.registers;
+    let x = o.answer;
+    let number = number_of_count(strokes, x.hollow, x.word);
+    if number != 0 {
+        return refuse(number, q);
+    }
+    take_ticks(q, memory, strokes, list)
+}
+
+// The strike sheet of the table at a bit address, for the time struck: what it answers, and the list of times.
+pub fn strike_sheet(
+    r: Registers,
+    memory: &mut [u16],
+    table: BitAddress,
+    t: TimeStruck,
+    list: &mut [f64],
+) -> Sheet
+    ensures { λ o. ⌜ Struck r (now (memory .entry)) table t (now (list .entry)) o (now (memory .exit)) (now (list .exit)) ⌝ }
+{
+    let number = number_before(memory.len(), list.len(), r.control, t);
+    if number != 0 {
+        return refuse(number, r);
+    }
+    read_table(r, memory, table, count_strokes(t), list)
+}
