@@ -1,0 +1,5 @@
+pub mod Taken
+pub mod Range
+pub mod Rising
+pub mod Heard
+pub mod Numbers

@@ -1,0 +1,164 @@
+-- Demand 1 for sheets: the number of a sheet is v exactly if the table, the time and the list say so (`Verdict`), for each v.
+-- A verdict's conditions decide every test on the way to the number; and one verdict or another always holds.
+use Prim.Native.Nat.{ℕ, suc, _+_, _^_, _<_, _≤_}
+use native.Mathlib.Omega.{arith}
+use mathlib.Core.Path.{_≡_, refl, sym, ap, _∙_, subst}
+use mathlib.Core.Bool.{Bool, true, false, cond}
+use mathlib.Core.List.{List}
+use mathlib.Core.Logic.{_⊎_, inl, inr, ⊎-elim, _↔_, _≢_}
+use lib.Dec.{eqb, ltb}
+use lib.ListN.{length, getD, drop}
+use borrow.Author.Tests.{lt-ltb, le-ltb, eq-eqb, ne-eqb}
+use Rattle.words.specs.Addresses.{word-at}
+use Rattle.words.specs.declared.BitAddress.{BitAddress}
+use Rattle.words.proofs.Choices.{either-way, less-or-not, same-or-not}
+use Rattle.control.specs.Control.{incr}
+use Rattle.port.specs.Runs.{Machine}
+use Rattle.port.specs.Table.{Memory, Lies}
+use Rattle.sheet.specs.InPlainWords.{Passed-in, InRange, OffRange, Begins, count-word, tick, Rises, Falls, Complete, Verdict, too-long, no-such-time, list-short, not-stepping, count-missed, count-wrong, tick-missed, not-rising, passes}
+use Rattle.sheet.specs.Reading.{whole, any-hollow, rising}
+use Rattle.sheet.specs.Sheet.{out-of-range, strokes-of, refusal-before, count-refusal, ticks-refusal, number-before, heard, ticks-heard, read-number, read-sheet, sheet-of}
+use Rattle.sheet.specs.declared.Sheet.{Sheet}
+use Rattle.sheet.specs.declared.TimeStruck.{TimeStruck}
+use Rattle.sheet.proofs.Heard.{count-missed-says, count-wrong-says, count-right-says, tick-missed-says, ticks-held, tick-told, ticks-count}
+use Rattle.sheet.proofs.Range.{accepted-time, time-accepted, refused-time, time-refused}
+use Rattle.sheet.proofs.Rising.{rises, falls}
+use Rattle.sheet.proofs.Taken.{sheet-begun, sheet-barred}
+
+-- ---- ticks that the reader is told, against the table
+module _ (s : Machine) (k : Memory (s .memory)) (i : incr (s .registers .control) ≡ true) (a : BitAddress) (h : a .0 < 2 ^ 32) (n : ℕ)
+    (l : Lies (s .memory) a (suc n)) where
+  abbrev ticks : List ℕ
+  ticks = ticks-heard whole s a n
+
+  they-rise : rising ticks ≡ true → Rises (s .memory) a n
+  they-rise e j q =
+      rw (sym (tick-told s k i a h n l j (omega arith)), sym (tick-told s k i a h n l (suc j) q))
+      (rises ticks e j (rw (ticks-count s k i a h n l) q))
+
+  they-fall : rising ticks ≡ false → Falls (s .memory) a n
+  they-fall e =
+      let f = falls ticks e in
+      let q = rw (ticks-count s k i a h n l) at (f .1) in
+      (f .0, q, rw (tick-told s k i a h n l (f .0) (omega arith), tick-told s k i a h n l (suc (f .0)) q) at (f .2))
+
+  not-both : Rises (s .memory) a n → Falls (s .memory) a n → ⊥
+  not-both r f = let x = r (f .0) (f .1) in omega (arith, f .2)
+
+  -- Ticks are found to rise if they do,
+  pub found-rising : Rises (s .memory) a n → rising ticks ≡ true
+  found-rising r = ⊎-elim (λ e. e) (λ e. absurd (not-both r (they-fall e))) (either-way (rising ticks))
+
+  -- and found not to if one does not.
+  pub found-falling : Falls (s .memory) a n → rising ticks ≡ false
+  found-falling f = ⊎-elim (λ e. absurd (not-both (they-rise e) f)) (λ e. e) (either-way (rising ticks))
+
+-- ---- any sheet
+module _ (s : Machine) (a : BitAddress) (p : Passed-in s a) (t : TimeStruck) (room : ℕ) where
+  abbrev number : ℕ
+  number = sheet-of whole s a t room .number
+
+  abbrev n : ℕ
+  n = strokes-of t
+
+  barred : (v : ℕ) → v ≢ 0 → number-before s t room ≡ v → number ≡ v
+  barred v d e = ap (λ (o : Sheet). o .number) (sheet-barred whole s a t room (λ z. d (sym e ∙ z))) ∙ e
+
+  -- A sheet that begins is not refused before the port is touched.
+  pub begun : Begins s t room → number-before s t room ≡ 0
+  unfolding refusal-before
+  begun b = rw (le-ltb _ _ (b .size), time-accepted t (b .time), le-ltb _ _ (b .fits), b .steps)
+
+  begun-number : Begins s t room → number ≡ read-number whole s a n
+  unfolding read-sheet
+  begun-number b = ap (λ (o : Sheet). o .number) (sheet-begun whole s a t room (begun b))
+
+  known : Begins s t room → Memory (s .memory)
+  known b = record { size = b .size; words = p .words }
+
+  -- ---- a verdict says the number
+  says-missed : Begins s t room → length (s .memory) ≤ word-at a .0 → number ≡ 42
+  unfolding read-number
+  says-missed b h = begun-number b ∙ rw (count-missed-says s (known b) (b .steps) a (p .address) n h)
+
+  says-wrong : Begins s t room → word-at a .0 < length (s .memory) → count-word (s .memory) a ≢ n → number ≡ 43
+  unfolding read-number
+  says-wrong b h d = begun-number b ∙ rw (count-wrong-says s (known b) (b .steps) a (p .address) n h d)
+
+  -- the count is right: the ticks decide
+  counted : (b : Begins s t room) → word-at a .0 < length (s .memory) → count-word (s .memory) a ≡ n →
+      number ≡ ticks-refusal (any-hollow (drop 1 (heard whole s a n))) (ticks-heard whole s a n)
+  unfolding read-number
+  counted b h e = begun-number b ∙ rw (count-right-says s (known b) (b .steps) a (p .address) n h e)
+
+  says-tick-missed : (b : Begins s t room) → word-at a .0 < length (s .memory) → count-word (s .memory) a ≡ n →
+      length (s .memory) < word-at a .0 + suc n → number ≡ 42
+  unfolding ticks-refusal
+  says-tick-missed b h e l = counted b h e ∙ rw (tick-missed-says s (known b) (b .steps) a (p .address) n h l)
+
+  complete : (b : Begins s t room) → (c : Complete (s .memory) a n) → number ≡ cond (rising (ticks-heard whole s a n)) 0 44
+  unfolding ticks-refusal
+  complete b c =
+      counted b (omega (arith, c .lies)) (c .count) ∙ rw (ticks-held s (known b) (b .steps) a (p .address) n (c .lies))
+
+  says-falling : (b : Begins s t room) → (c : Complete (s .memory) a n) → Falls (s .memory) a n → number ≡ 44
+  says-falling b c f = complete b c ∙ rw (found-falling s (known b) (b .steps) a (p .address) n (c .lies) f)
+
+  says-passed : (b : Begins s t room) → (c : Complete (s .memory) a n) → Rises (s .memory) a n → number ≡ 0
+  says-passed b c r = complete b c ∙ rw (found-rising s (known b) (b .steps) a (p .address) n (c .lies) r)
+
+  says : (v : ℕ) → Verdict s a t room v → number ≡ v
+  unfolding refusal-before
+  says _ (too-long h) = barred 1 (λ e. omega arith) (rw (lt-ltb _ _ h))
+  says _ (no-such-time h o) = barred 40 (λ e. omega arith) (rw (le-ltb _ _ h, time-refused t o))
+  says _ (list-short h r f) = barred 41 (λ e. omega arith) (rw (le-ltb _ _ h, time-accepted t r, lt-ltb _ _ f))
+  says _ (not-stepping h r f i) = barred 46 (λ e. omega arith) (rw (le-ltb _ _ h, time-accepted t r, le-ltb _ _ f, i))
+  says _ (count-missed b h) = says-missed b h
+  says _ (count-wrong b h d) = says-wrong b h d
+  says _ (tick-missed b h e l) = says-tick-missed b h e l
+  says _ (not-rising b c f) = says-falling b c f
+  says _ (passes b c r) = says-passed b c r
+
+  -- ---- one or another always holds
+  abbrev Some : Type 0
+  Some = (v : ℕ) × Verdict s a t room v
+
+  with-table : (b : Begins s t room) → Complete (s .memory) a n → Some
+  with-table b c =
+      ⊎-elim
+      (λ e. (0, passes b c (they-rise s (known b) (b .steps) a (p .address) n (c .lies) e)))
+      (λ e. (44, not-rising b c (they-fall s (known b) (b .steps) a (p .address) n (c .lies) e)))
+      (either-way (rising (ticks-heard whole s a n)))
+
+  with-count : (b : Begins s t room) → word-at a .0 < length (s .memory) → count-word (s .memory) a ≡ n → Some
+  with-count b h e =
+      ⊎-elim
+      (λ l. (42, tick-missed b h e l))
+      (λ l. with-table b (record { lies = l; count = e }))
+      (less-or-not (length (s .memory)) (word-at a .0 + suc n))
+
+  with-port : Begins s t room → Some
+  with-port b =
+      ⊎-elim
+      (λ h. ⊎-elim (with-count b h) (λ d. (43, count-wrong b h d)) (same-or-not (count-word (s .memory) a) n))
+      (λ h. (42, count-missed b h))
+      (less-or-not (word-at a .0) (length (s .memory)))
+
+  with-time : length (s .memory) ≤ 32768 → InRange t → Some
+  with-time h r =
+      ⊎-elim
+      (λ f. (41, list-short h r f))
+      (λ f. ⊎-elim (λ i. with-port (record { size = h; time = r; fits = f; steps = i })) (λ i. (46, not-stepping h r f i))
+      (either-way (incr (s .registers .control))))
+      (less-or-not room n)
+
+  some : Some
+  some =
+      ⊎-elim
+      (λ h. (1, too-long h))
+      (λ h. ⊎-elim (λ o. (40, no-such-time h (refused-time t o))) (λ o. with-time h (accepted-time t o)) (either-way (out-of-range t)))
+      (less-or-not 32768 (length (s .memory)))
+
+  -- The number of a sheet is v exactly if v's row of the table of refusals holds, or for 0 none of them.
+  pub numbered : (v : ℕ) → number ≡ v ↔ Verdict s a t room v
+  numbered v = (λ e. subst (Verdict s a t room) (sym (says (some .0) (some .1)) ∙ e) (some .1), says v)
