@@ -1,0 +1,74 @@
+-- What a refused sheet leaves, and what one that passes does: demand 1. By the number, judged before the port is touched and after.
+use Prim.Native.Nat.{ℕ, _-_}
+use mathlib.Core.Path.{_≡_, refl, sym, ap, _∙_}
+use mathlib.Core.Bool.{cond}
+use mathlib.Core.List.{List, _++_}
+use mathlib.Core.Logic.{⊎-elim, _≢_}
+use lib.Dec.{eqb}
+use lib.Ieee.{Float}
+use lib.ListN.{length, drop, getD}
+use borrow.Author.Tests.{eq-eqb, ne-eqb}
+use Rattle.words.specs.declared.BitAddress.{BitAddress}
+use Rattle.words.proofs.Choices.{same-or-not}
+use Rattle.port.specs.Runs.{Machine}
+use Rattle.tempo.specs.Tempo.{even-times}
+use Rattle.sheet.specs.Reading.{Way}
+use Rattle.sheet.specs.Sheet.{strokes-of, number-before, ticks-heard, read-number, read-sheet, read-list, sheet-of, list-after}
+use Rattle.sheet.specs.declared.Sheet.{Sheet}
+use Rattle.sheet.specs.declared.TimeStruck.{TimeStruck}
+use Rattle.sheet.proofs.Taken.{sheet-begun, list-begun, sheet-barred, list-barred}
+
+module _ (w : Way) (s : Machine) (a : BitAddress) (t : TimeStruck) (l : List Float) where
+  abbrev sheet : Sheet
+  sheet = sheet-of w s a t (length l)
+
+  abbrev ticks : List ℕ
+  ticks = ticks-heard w s a (strokes-of t)
+
+  -- A refusal counts no strokes, and writes nothing to the list.
+  pub record Leaves : Type 0 where
+    pub strokes : sheet .strokes ≡ 0
+    pub list : list-after w s a t l ≡ l
+
+  begun-refused : number-before s t (length l) ≡ 0 → sheet .number ≢ 0 → Leaves
+  unfolding read-sheet read-list
+  begun-refused e d =
+      let b = sheet-begun w s a t (length l) e in
+      let n : read-number w s a (strokes-of t) ≢ 0 = λ z. d (ap (λ (o : Sheet). o .number) b ∙ z) in
+      record {
+        strokes = ap (λ (o : Sheet). o .strokes) b ∙ rw (ne-eqb _ _ n);
+        list = list-begun w s a t l e ∙ rw (ne-eqb _ _ n);
+      }
+
+  -- Every refused sheet does so.
+  pub refused-leaves : sheet .number ≢ 0 → Leaves
+  refused-leaves d =
+      ⊎-elim
+      (λ e. begun-refused e d)
+      (λ n. record { strokes = ap (λ (o : Sheet). o .strokes) (sheet-barred w s a t (length l) n); list = list-barred w s a t l n })
+      (same-or-not (number-before s t (length l)) 0)
+
+  -- A sheet that passes counts its strokes; the list takes their even-tempo times, from the first tick that was read to the last, and
+  -- keeps its later places.
+  pub record Fills : Type 0 where
+    pub strokes : sheet .strokes ≡ strokes-of t
+    pub list : list-after w s a t l ≡
+        even-times (getD ticks 0 0) (getD ticks (strokes-of t - 1) 0) (strokes-of t) (strokes-of t) ++ drop (strokes-of t) l
+
+  begun-passed : number-before s t (length l) ≡ 0 → sheet .number ≡ 0 → Fills
+  unfolding read-sheet read-list
+  begun-passed e z =
+      let b = sheet-begun w s a t (length l) e in
+      let n : read-number w s a (strokes-of t) ≡ 0 = sym (ap (λ (o : Sheet). o .number) b) ∙ z in
+      record {
+        strokes = ap (λ (o : Sheet). o .strokes) b ∙ rw (eq-eqb _ _ n);
+        list = list-begun w s a t l e ∙ rw (eq-eqb _ _ n);
+      }
+
+  -- Every sheet that passes does so.
+  pub passed-fills : sheet .number ≡ 0 → Fills
+  passed-fills z =
+      ⊎-elim
+      (λ e. begun-passed e z)
+      (λ n. absurd (n (sym (ap (λ (o : Sheet). o .number) (sheet-barred w s a t (length l) n)) ∙ z)))
+      (same-or-not (number-before s t (length l)) 0)
