@@ -6,3 +6,4 @@ pub mod Numbers
 pub mod Refused
 pub mod One
 pub mod ByBytes
+pub mod Moves

@@ -73,7 +73,8 @@ module _ (s : Machine) (a : BitAddress) (p : Passed-in s a) (t : TimeStruck) (ro
   unfolding read-sheet
   begun-number b = ap (λ (o : Sheet). o .number) (sheet-begun whole s a t room (begun b))
 
-  known : Begins s t room → Memory (s .memory)
+  -- Its memory is one that is not refused.
+  pub known : Begins s t room → Memory (s .memory)
   known b = record { size = b .size; words = p .words }
 
   -- ---- a verdict says the number
