@@ -7,3 +7,4 @@ pub mod Refused
 pub mod One
 pub mod ByBytes
 pub mod Moves
+pub mod TheBet

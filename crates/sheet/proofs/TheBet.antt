@@ -1,0 +1,124 @@
+-- The tuner's bet and the partner's worry, in one law: a sheet passes exactly if its table is whole. The tuner's last word is a tick like
+-- the others, whatever lies after it, memory's end included; and no word beyond memory ever makes a stroke.
+-- By `Numbers`, which has the number of every sheet, and `Refused`, which has the list.
+use Prim.Native.Nat.{ℕ, suc, _+_, _-_, _<_, _≤_}
+use native.Mathlib.Omega.{arith}
+use mathlib.Core.Path.{_≡_, sym, ap, _∙_}
+use mathlib.Core.List.{List, _++_}
+use mathlib.Core.Logic.{_↔_}
+use lib.Ieee.{Float}
+use lib.ListN.{length, getD, take, drop, length-take}
+use lib.Seq.{getD-take}
+use Rattle.words.specs.Addresses.{word-at}
+use Rattle.words.specs.Memory.{AreWords}
+use Rattle.words.specs.declared.BitAddress.{BitAddress}
+use Rattle.registers.specs.declared.Registers.{Registers}
+use Rattle.port.specs.Runs.{Machine, machine}
+use Rattle.tempo.specs.Tempo.{even-times}
+use Rattle.sheet.specs.InPlainWords.{Passed-in, Begins, count-word, tick, Rises, Complete, Verdict, count-missed, tick-missed, passes}
+use Rattle.sheet.specs.Reading.{whole}
+use Rattle.sheet.specs.Sheet.{strokes-of, ticks-heard, sheet-of, list-after}
+use Rattle.sheet.specs.declared.Sheet.{Sheet}
+use Rattle.sheet.specs.declared.TimeStruck.{TimeStruck}
+use Rattle.sheet.proofs.Heard.{tick-told}
+use Rattle.sheet.proofs.Numbers.{known, numbered}
+use Rattle.sheet.proofs.Refused.{passed-fills}
+
+-- the even-tempo times of n strokes by the table in memory, and what the list had after them
+abbrev pub struck : List ℕ → BitAddress → ℕ → List Float → List Float
+struck m a n l = even-times (tick m a 0) (tick m a (n - 1)) n n ++ drop n l
+
+-- what is said of a sheet that passes
+pub record Passes (s : Machine) (a : BitAddress) (t : TimeStruck) (l : List Float) : Type 0 where
+  pub number : sheet-of whole s a t (length l) .number ≡ 0
+  pub strokes : sheet-of whole s a t (length l) .strokes ≡ strokes-of t
+  pub list : list-after whole s a t l ≡ struck (s .memory) a (strokes-of t) l
+
+-- a sheet that is not refused before the port is touched
+module _ (s : Machine) (a : BitAddress) (t : TimeStruck) (l : List Float) where
+  abbrev number : ℕ
+  number = sheet-of whole s a t (length l) .number
+
+  abbrev n : ℕ
+  n = strokes-of t
+
+  pub record Bet : Type 0 where
+    -- the tuner's: if the table lies in memory with the right count and its ticks rise, the sheet passes, the last tick included
+    pub tuner : Complete (s .memory) a n → Rises (s .memory) a n → Passes s a t l
+    -- the partner's: if the count word lies beyond memory, or the count is right and a tick lies beyond memory, it is refused with 42
+    pub no-count : length (s .memory) ≤ word-at a .0 → number ≡ 42
+    pub no-tick : word-at a .0 < length (s .memory) → count-word (s .memory) a ≡ n → length (s .memory) < word-at a .0 + suc n → number ≡ 42
+    -- and both: nothing else passes
+    pub nothing-else : number ≡ 0 → Complete (s .memory) a n × Rises (s .memory) a n
+
+  module _ (p : Passed-in s a) (b : Begins s t (length l)) where
+    whole-table : Verdict s a t (length l) 0 → Complete (s .memory) a n × Rises (s .memory) a n
+    whole-table (passes _ c r) = (c, r)
+
+    passing : Complete (s .memory) a n → Rises (s .memory) a n → Passes s a t l
+    passing c r =
+        let z = numbered s a p t (length l) 0 .1 (passes b c r) in
+        let f = passed-fills whole s a t l z in
+        let told = tick-told s (known s a p t (length l) b) (b .steps) a (p .address) n (c .lies) in
+        let some : 1 ≤ n = omega (arith, b .time .an-hour) in
+        record {
+          number = z;
+          strokes = f .strokes;
+          list =
+              f .list ∙
+              ap (λ (x : ℕ). even-times x (getD (ticks-heard whole s a n) (n - 1) 0) n n ++ drop n l)
+              (told 0 (omega arith)) ∙
+              ap (λ (x : ℕ). even-times (tick (s .memory) a 0) x n n ++ drop n l) (told (n - 1) (omega arith));
+        }
+
+    -- The bet holds.
+    pub bet : Bet
+    bet =
+        record {
+          tuner = passing;
+          no-count = λ h. numbered s a p t (length l) 42 .1 (count-missed b h);
+          no-tick = λ h e k. numbered s a p t (length l) 42 .1 (tick-missed b h e k);
+          nothing-else = λ z. whole-table (numbered s a p t (length l) 0 .0 z);
+        }
+
+-- ---- whatever lies after the table: another memory m that has the same words up to the table's last
+module _ (s : Machine) (a : BitAddress) (t : TimeStruck) (l : List Float) (p : Passed-in s a) (b : Begins s t (length l))
+    (m : List ℕ) (w : AreWords m) (size : length m ≤ 32768)
+    (same : take (word-at a .0 + suc (strokes-of t)) m ≡ take (word-at a .0 + suc (strokes-of t)) (s .memory)) where
+  abbrev end : ℕ
+  end = word-at a .0 + suc (strokes-of t)
+
+  abbrev other : Machine
+  other = machine (s .registers) m
+
+  same-word : (j : ℕ) → j < end → getD m j 0 ≡ getD (s .memory) j 0
+  same-word j h = sym (getD-take end m j 0 h) ∙ ap (λ (x : List ℕ). getD x j 0) same ∙ getD-take end (s .memory) j 0 h
+
+  there : Complete (s .memory) a (strokes-of t) → Complete m a (strokes-of t)
+  there c =
+      let e = sym (length-take end m) ∙ ap length same ∙ length-take end (s .memory) in
+      record { lies = omega (arith, c .lies, e); count = same-word (word-at a .0) (omega arith) ∙ c .count }
+
+  rise-there : Rises (s .memory) a (strokes-of t) → Rises m a (strokes-of t)
+  rise-there r k h =
+      rw (same-word (word-at a .0 + 1 + k) (omega arith), same-word (word-at a .0 + 1 + suc k) (omega arith)) (r k h)
+
+  some : 1 ≤ strokes-of t
+  some = omega (arith, b .time .an-hour)
+
+  same-struck : struck m a (strokes-of t) l ≡ struck (s .memory) a (strokes-of t) l
+  same-struck =
+      rw (
+        same-word (word-at a .0 + 1 + 0) (omega (arith, some)),
+        same-word (word-at a .0 + 1 + (strokes-of t - 1)) (omega (arith, some)),
+      )
+
+  -- It has the same sheet.
+  pub whatever-follows : Complete (s .memory) a (strokes-of t) → Rises (s .memory) a (strokes-of t) →
+      Passes other a t l × (list-after whole other a t l ≡ list-after whole s a t l)
+  whatever-follows c r =
+      let here = passing s a t l p b c r in
+      let q : Passed-in other a = record { words = w; address = p .address } in
+      let d : Begins other t (length l) = record { size = size; time = b .time; fits = b .fits; steps = b .steps } in
+      let elsewhere = passing other a t l q d (there c) (rise-there r) in
+      (elsewhere, elsewhere .list ∙ same-struck ∙ sym (here .list))
