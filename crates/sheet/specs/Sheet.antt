@@ -4,7 +4,7 @@
 --   count-refusal n hollow word      number 42 or 43, or 0: what is said of the count word
 --   ticks-refusal hollow ticks       number 42 or 44, or 0: what is said of the ticks
 --   or-else n m                      the refusal n, or m where n is none
---   heard, ticks-heard               what the reader is told, and the ticks among it
+--   heard, ticks-heard, times-heard  what the reader is told, the ticks among it, and their even-tempo times
 --   read-number                      the first refusal of a sheet that is begun
 --   made                             the accesses that its reader makes
 --   read-sheet, read-list            such a sheet: what it answers, with the registers that it leaves; the list
@@ -83,12 +83,13 @@ module _ (w : Way) (s : Machine) (a : BitAddress) (n : ℕ) where
   unfoldable pub read-sheet : Sheet
   read-sheet = record { number = read-number; strokes = cond (eqb read-number 0) n 0; registers = w .ended s made .registers }
 
-  -- "the list's place k takes the even-tempo time"; "later places stay"; "A refused sheet writes nothing"
+  -- "the list's place k takes the even-tempo time"
+  abbrev pub times-heard : List Float
+  times-heard = even-times (getD ticks-heard 0 0) (getD ticks-heard (n - 1) 0) n n
+
+  -- "later places stay"; "A refused sheet writes nothing"
   unfoldable pub read-list : List Float → List Float
-  read-list l =
-      cond (eqb read-number 0)
-      (even-times (getD ticks-heard 0 0) (getD ticks-heard (n - 1) 0) n n ++ drop n l)
-      l
+  read-list l = cond (eqb read-number 0) (times-heard ++ drop n l) l
 
 -- ---- any sheet, of the time t
 abbrev pub number-before : Machine → TimeStruck → ℕ → ℕ
