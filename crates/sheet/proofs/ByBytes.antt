@@ -1,27 +1,23 @@
 -- Demand 3 for sheets: with each access done instead as two byte accesses, in the order that LBL commands when it begins, a sheet comes
 -- out the same. There is no condition on the memory, the registers, the table or the time.
 -- A sheet is made of what its accesses answer and where they end, and those are alike (crate port, `Alike`).
-use Prim.Native.Nat.{ℕ, suc}
-use mathlib.Core.Path.{_≡_, ap, _∙_}
-use mathlib.Core.Bool.{cond}
-use mathlib.Core.List.{List, _++_}
-use lib.Dec.{eqb}
+use Prim.Native.Nat.{ℕ}
+use mathlib.Core.Path.{_≡_}
+use mathlib.Core.List.{List}
 use lib.Ieee.{Float}
 use Rattle.words.specs.declared.BitAddress.{BitAddress}
-use Rattle.port.specs.Runs.{Machine, Sixteen, answers}
-use Rattle.port.specs.Table.{loading, reading}
-use Rattle.port.specs.declared.Answer.{Answer}
+use Rattle.port.specs.Runs.{Machine}
+use Rattle.port.specs.Table.{loading}
 use Rattle.port.proofs.Alike.{answers-alike, ends-alike}
 use Rattle.sheet.specs.Reading.{whole, by-bytes, told}
 use Rattle.sheet.specs.Sheet.{strokes-of, made, read-number, read-sheet, read-list, sheet-of, list-after}
-use Rattle.sheet.specs.declared.Sheet.{Sheet}
 use Rattle.sheet.specs.declared.TimeStruck.{TimeStruck}
 
 module _ (s : Machine) (a : BitAddress) (n : ℕ) where
   -- The reader is told the same.
   pub told-alike : told by-bytes s a n ≡ told whole s a n
   unfolding told
-  told-alike = rw (ends-alike s (loading (s .registers .control) a), answers-alike _ (reading (suc n)))
+  told-alike = rw (ends-alike s (loading (s .registers .control) a), answers-alike _ _)
 
   -- It makes the same accesses, each of them in its way.
   pub made-alike : made by-bytes s a n ≡ made whole s a n

@@ -3,26 +3,24 @@
 use Prim.Native.Nat.{ℕ, zero, suc, _+_, _^_, _<_, _≤_}
 use native.Mathlib.Omega.{arith}
 use mathlib.Core.Path.{_≡_, refl, ap, _∙_}
-use mathlib.Core.Bool.{Bool, true, false, cond, not, _||_}
-use mathlib.Core.List.{List, [], _∷_}
+use mathlib.Core.Bool.{true, false}
+use mathlib.Core.List.{List}
 use mathlib.Core.Logic.{⊎-elim, _≢_}
-use lib.ListN.{length, getD, take, drop, length-take, length-drop}
+use lib.ListN.{length, getD, drop, length-take, length-drop}
 use lib.Seq.{drop-cons, getD-take, getD-drop}
 use borrow.Author.Tests.{lt-ltb, le-ltb, eq-eqb, ne-eqb}
 use Rattle.words.specs.Addresses.{word-at, step}
-use Rattle.words.specs.Memory.{in-memory, fetch-at}
+use Rattle.words.specs.Memory.{fetch-at}
 use Rattle.words.specs.declared.BitAddress.{BitAddress}
 use Rattle.words.proofs.Addresses.{step-next}
 use Rattle.words.proofs.Choices.{less-or-not}
 use Rattle.control.specs.Control.{incr}
 use Rattle.port.specs.Runs.{Machine, words-in}
 use Rattle.port.specs.Table.{Memory, hand, handed, table, Lies}
-use Rattle.port.specs.declared.Answer.{Answer}
 use Rattle.port.proofs.Handed.{reads-hand}
-use Rattle.sheet.specs.InPlainWords.{Passed-in, Begins, count-word, tick, Complete}
-use Rattle.sheet.specs.Reading.{whole, told, any-hollow, rising}
-use Rattle.sheet.specs.Sheet.{strokes-of, count-refusal, ticks-refusal, heard, ticks-heard, count-number, read-number}
-use Rattle.sheet.specs.declared.TimeStruck.{TimeStruck}
+use Rattle.sheet.specs.InPlainWords.{count-word, tick}
+use Rattle.sheet.specs.Reading.{whole, told, any-hollow}
+use Rattle.sheet.specs.Sheet.{count-refusal, heard, ticks-heard, count-number}
 
 -- ---- answers that hand memory out from b on
 module _ (m : List ℕ) (k : length m ≤ 32768) where

@@ -4,7 +4,6 @@ use Prim.Native.Nat.{ℕ, suc, _+_, _*_, _%_, _^_, _<_}
 use native.Mathlib.Omega.{arith}
 use mathlib.Core.Path.{_≡_, ap, _∙_}
 use mathlib.Core.Bool.{cond}
-use mathlib.Core.List.{_++_}
 use mathlib.Core.Logic.{_≢_}
 use lib.Dec.{eqb}
 use lib.ListN.{length}
@@ -14,7 +13,7 @@ use Rattle.words.specs.declared.BitAddress.{BitAddress}
 use Rattle.registers.specs.declared.Registers.{Registers}
 use Rattle.port.specs.Cycle.{standing}
 use Rattle.port.specs.Runs.{Machine, ends}
-use Rattle.port.specs.Table.{Memory, loading, stands, reading, on-by}
+use Rattle.port.specs.Table.{loading, stands, reading, on-by}
 use Rattle.port.proofs.Handed.{on-by-gains, reads-leave}
 use Rattle.port.proofs.Joined.{ends-join}
 use Rattle.sheet.specs.InPlainWords.{Passed-in, Begins, count-word}

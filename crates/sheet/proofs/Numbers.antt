@@ -2,22 +2,21 @@
 -- A verdict's conditions decide every test on the way to the number; and one verdict or another always holds.
 use Prim.Native.Nat.{ℕ, suc, _+_, _^_, _<_, _≤_}
 use native.Mathlib.Omega.{arith}
-use mathlib.Core.Path.{_≡_, refl, sym, ap, _∙_, subst}
-use mathlib.Core.Bool.{Bool, true, false, cond}
+use mathlib.Core.Path.{_≡_, sym, ap, _∙_, subst}
+use mathlib.Core.Bool.{true, false, cond}
 use mathlib.Core.List.{List}
-use mathlib.Core.Logic.{_⊎_, inl, inr, ⊎-elim, _↔_, _≢_}
-use lib.Dec.{eqb, ltb}
-use lib.ListN.{length, getD, drop}
-use borrow.Author.Tests.{lt-ltb, le-ltb, eq-eqb, ne-eqb}
+use mathlib.Core.Logic.{_⊎_, ⊎-elim, _↔_, _≢_}
+use lib.ListN.{length, drop}
+use borrow.Author.Tests.{lt-ltb, le-ltb}
 use Rattle.words.specs.Addresses.{word-at}
 use Rattle.words.specs.declared.BitAddress.{BitAddress}
 use Rattle.words.proofs.Choices.{either-way, less-or-not, same-or-not}
 use Rattle.control.specs.Control.{incr}
 use Rattle.port.specs.Runs.{Machine}
 use Rattle.port.specs.Table.{Memory, Lies}
-use Rattle.sheet.specs.InPlainWords.{Passed-in, InRange, OffRange, Begins, count-word, tick, Rises, Falls, Complete, Verdict, too-long, no-such-time, list-short, not-stepping, count-missed, count-wrong, tick-missed, not-rising, passes}
+use Rattle.sheet.specs.InPlainWords.{Passed-in, InRange, Begins, count-word, Rises, Falls, Complete, Verdict, too-long, no-such-time, list-short, not-stepping, count-missed, count-wrong, tick-missed, not-rising, passes}
 use Rattle.sheet.specs.Reading.{whole, any-hollow, rising}
-use Rattle.sheet.specs.Sheet.{out-of-range, strokes-of, refusal-before, count-refusal, ticks-refusal, number-before, heard, ticks-heard, read-number, read-sheet, sheet-of}
+use Rattle.sheet.specs.Sheet.{out-of-range, strokes-of, refusal-before, ticks-refusal, number-before, heard, ticks-heard, read-number, read-sheet, sheet-of}
 use Rattle.sheet.specs.declared.Sheet.{Sheet}
 use Rattle.sheet.specs.declared.TimeStruck.{TimeStruck}
 use Rattle.sheet.proofs.Heard.{count-missed-says, count-wrong-says, count-right-says, tick-missed-says, ticks-held, tick-told, ticks-count}

@@ -9,7 +9,7 @@ use borrow.Author.Tests.{eq-eqb, ne-eqb}
 use Rattle.words.specs.declared.BitAddress.{BitAddress}
 use Rattle.port.specs.Runs.{Machine}
 use Rattle.sheet.specs.Reading.{Way}
-use Rattle.sheet.specs.Sheet.{strokes-of, number-before, read-number, read-sheet, read-list, sheet-of, list-after}
+use Rattle.sheet.specs.Sheet.{strokes-of, number-before, read-sheet, read-list, sheet-of, list-after}
 use Rattle.sheet.specs.declared.TimeStruck.{TimeStruck}
 
 module _ (w : Way) (s : Machine) (a : BitAddress) (t : TimeStruck) where

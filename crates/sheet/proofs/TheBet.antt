@@ -5,20 +5,17 @@ use Prim.Native.Nat.{ℕ, suc, _+_, _-_, _<_, _≤_}
 use native.Mathlib.Omega.{arith}
 use mathlib.Core.Path.{_≡_, sym, ap, _∙_}
 use mathlib.Core.List.{List, _++_}
-use mathlib.Core.Logic.{_↔_}
 use lib.Ieee.{Float}
 use lib.ListN.{length, getD, take, drop, length-take}
 use lib.Seq.{getD-take}
 use Rattle.words.specs.Addresses.{word-at}
 use Rattle.words.specs.Memory.{AreWords}
 use Rattle.words.specs.declared.BitAddress.{BitAddress}
-use Rattle.registers.specs.declared.Registers.{Registers}
 use Rattle.port.specs.Runs.{Machine, machine}
 use Rattle.tempo.specs.Tempo.{even-times}
 use Rattle.sheet.specs.InPlainWords.{Passed-in, Begins, count-word, tick, Rises, Complete, Verdict, count-missed, tick-missed, passes}
 use Rattle.sheet.specs.Reading.{whole}
 use Rattle.sheet.specs.Sheet.{strokes-of, ticks-heard, sheet-of, list-after}
-use Rattle.sheet.specs.declared.Sheet.{Sheet}
 use Rattle.sheet.specs.declared.TimeStruck.{TimeStruck}
 use Rattle.sheet.proofs.Heard.{tick-told}
 use Rattle.sheet.proofs.Numbers.{known, numbered}
