@@ -1,0 +1,186 @@
+// Strike sheets at their edges: a table at the end of memory and one a word short of it, an equal pair, FFFFh as a true tick, a single
+// stroke, all 29, and each refusal. Each sheet prints its answer, the pointer and HSTDATA that it leaves, and then the list of times.
+// The stored output was worked out by hand from document 02, request (viii).
+ghost use mathlib.Core.Path.{_≡_};
+ghost use Rattle.strike_runs.specs.Thousandths.{in-thousandths};
+use registers::Registers;
+use sheet::Sheet;
+use sheet::TimeStruck;
+use words::BitAddress;
+
+// The whole thousandths of a time, or 0 where they are no number of 64 bits.
+fn thousandths(time: f64) -> u64
+    ensures { λ r. ⌜ r ≡ in-thousandths time ⌝ }
+{
+    let x = time * 1000.0;
+    if x > -1.0 {
+        if x < 18446744073709551616.0 {
+            return std::num::truncating_f64_to_u64(x);
+        }
+    }
+    0
+}
+
+fn print_time(time: f64) {
+    let t = thousandths(time);
+    io::write_all(1, b" ");
+    io::print_decimal(1, t / 1000);
+    io::write_all(1, b".");
+    io::print_decimal(1, t / 100 % 10);
+    io::print_decimal(1, t / 10 % 10);
+    io::print_decimal(1, t % 10);
+}
+
+fn print_times(times: &[f64]) {
+    io::write_all(1, b"times");
+    let mut k: usize = 0;
+    while k < times.len() {
+        print_time(times[k]);
+        k += 1;
+    }
+    io::write_all(1, b"\n");
+}
+
+fn print_mark(hollow: bool) {
+    if hollow {
+        io::write_all(1, b" hollow\n");
+    } else {
+        io::write_all(1, b" held\n");
+    }
+}
+
+fn print_sheet(o: Sheet) {
+    let r = o.registers;
+    let pointer = r.pointer;
+    io::write_all(1, b"number ");
+    io::print_decimal(1, o.number as u64);
+    io::write_all(1, b", strokes ");
+    io::print_decimal(1, o.strokes as u64);
+    io::write_all(1, b", pointer ");
+    io::print_hex(1, pointer.0 as u64, 8);
+    io::write_all(1, b", data ");
+    io::print_hex(1, r.latch as u64, 4);
+    print_mark(r.hollow);
+}
+
+// A sheet on a lent memory, with a list of half ticks. The registers stand elsewhere at first, so that any move shows.
+fn strike(title: &[u8], memory: &mut [u16], control: u16, table: u32, t: TimeStruck, room: usize) {
+    let r = Registers {
+        pointer: BitAddress(0x000abcd0),
+        latch: 0x5555,
+        control,
+        hollow: false,
+    };
+    let mut list = [0.5; 30];
+    let start = 0;
+    let end = if room < 30 { room } else { 30 };
+    io::write_all(1, title);
+    print_sheet(strikes::strike_sheet(
+        r,
+        memory,
+        BitAddress(table),
+        t,
+        &mut list[start..end],
+    ));
+    print_times(&list[start..end]);
+}
+
+// Five tables: at word 0 six strokes, at 7 six with an equal pair, at 14 three that end with FFFFh, at 18 one, and at 20 six that end
+// with the memory's last word, if all 27 words are lent.
+fn strike_tables(title: &[u8], words: usize, control: u16, table: u32, t: TimeStruck) {
+    let mut memory = [
+        6, 10, 20, 30, 40, 50, 60, 6, 11, 22, 33, 33, 44, 55, 3, 65532, 65533, 65535, 1, 77, 6,
+        100, 130, 190, 255, 300, 350,
+    ];
+    let start = 0;
+    let end = if words < 27 { words } else { 27 };
+    strike(title, &mut memory[start..end], control, table, t, 8);
+}
+
+fn at(hours: u32, quarters: u32, minutes: u32) -> TimeStruck {
+    TimeStruck {
+        hours,
+        quarters,
+        minutes,
+    }
+}
+
+fn run_passing() {
+    let quarter_to_four = at(3, 3, 0);
+    strike_tables(
+        b"3:45, a table that ends with the memory's last word\n",
+        27,
+        0x1000,
+        0x140,
+        quarter_to_four,
+    );
+    strike_tables(b"the same with LBL 1\n", 27, 0x3000, 0x140, quarter_to_four);
+    strike_tables(
+        b"2:15, a table that ends with a true FFFFh\n",
+        27,
+        0x1000,
+        0xe0,
+        at(2, 1, 0),
+    );
+    strike_tables(b"1:00, a single stroke\n", 27, 0x1000, 0x120, at(1, 0, 0));
+    strike_tables(
+        b"the same, from an address inside its word\n",
+        27,
+        0x1000,
+        0x12f,
+        at(1, 0, 0),
+    );
+}
+
+// 12:59: the ticks go up one by one, and the last leaps to 1,035.
+fn run_longest() {
+    let mut memory = [0u16; 30];
+    memory[0] = 29;
+    for k in 1..30 {
+        memory[k] = 999 + k as u16;
+    }
+    memory[29] = 1035;
+    strike(
+        b"12:59, all 29 strokes\n",
+        &mut memory,
+        0x1000,
+        0,
+        at(12, 3, 14),
+        30,
+    );
+}
+
+fn run_refused_before() {
+    let mut longer = [0u16; 32769];
+    let mut memory = [6, 10, 20, 30, 40, 50, 60];
+    let t = at(3, 3, 0);
+    strike(b"32,769 words\n", &mut longer, 0x1000, 0, t, 6);
+    strike(b"no hours\n", &mut memory, 0x1000, 0, at(0, 3, 3), 6);
+    strike(b"13 hours\n", &mut memory, 0x1000, 0, at(13, 0, 0), 6);
+    strike(b"four quarters\n", &mut memory, 0x1000, 0, at(2, 4, 0), 6);
+    strike(b"15 minutes\n", &mut memory, 0x1000, 0, at(1, 0, 15), 6);
+    strike(b"a list one place short\n", &mut memory, 0x1000, 0, t, 5);
+    strike(b"INCR not set\n", &mut memory, 0x0800, 0, t, 6);
+}
+
+fn run_refused_after() {
+    let t = at(3, 3, 0);
+    strike_tables(b"a table beyond memory\n", 27, 0x1000, 0x1b0, t);
+    strike_tables(
+        b"a table at the top of the pointer's range\n",
+        27,
+        0x1000,
+        0xfffffff0,
+        t,
+    );
+    strike_tables(b"a count of six for 3:30\n", 27, 0x1000, 0, at(3, 2, 0));
+    strike_tables(b"3:45, a word short\n", 26, 0x1000, 0x140, t);
+    strike_tables(b"3:45, an equal pair\n", 27, 0x1000, 0x70, t);
+}
+
+fn main() {
+    run_passing();
+    run_longest();
+    run_refused_before();
+    run_refused_after();
+}
