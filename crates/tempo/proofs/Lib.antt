@@ -1,0 +1,5 @@
+pub mod Operations
+pub mod WholeNumbers
+pub mod EvenTempo
+pub mod Times
+pub mod Examples
