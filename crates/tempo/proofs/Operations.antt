@@ -1,29 +1,16 @@
 -- Products, sums and quotients of floats that are finite and not negative, zero included, in either format: each is the exact
 -- fraction, rounded once. Their order is that of the fractions, so a sum doesn't fall as a term grows.
-use Prim.Native.Nat.{ℕ, zero, suc, _+_, _*_, _^_, _≤_, _<_}
-use native.Mathlib.Nat.{
-  le-of-eq,
-  le-of-lt,
-  lt-irrefl,
-  mul-comm,
-  mul-assoc,
-  mul-left-comm,
-  mul-mul-mul-comm,
-  mul-le-mul-right,
-  le-of-mul-le-mul-right,
-  add-mul,
-  mul-pos,
-}
+use Prim.Native.Nat.{ℕ, zero, suc, _+_, _*_, _≤_, _<_}
+use native.Mathlib.Nat.{le-of-eq, le-of-lt, lt-irrefl, mul-le-mul-right, le-of-mul-le-mul-right, mul-pos}
 use native.Mathlib.Omega.{arith}
 use mathlib.Core.Path.{_≡_, refl, sym, ap, _∙_, subst}
 use mathlib.Core.Bool.{Bool, true, false, _&&_, _||_, cond, true≢false}
 use lib.IntN.{ℤ}
 use lib.Dec.{T, ltb, eqb, eqb→eq, ltb→lt, eqb·suc-zero}
-use lib.Ieee.{Float, nan, inf, fin, Format, low, up, down, round, sum, add, mul, div, le}
-use lib.Ieee.Fits.{down-pos, and-l}
+use lib.Ieee.{Float, nan, inf, fin, Format, up, down, round, sum, add, mul, div, le}
 use lib.Ieee.Order.{transfer, round-mono}
 use lib.Ieee.Positive.{num, den, den-pos, value→cross, first-pos}
-use lib.Ieee.Scale.{round-same, finite, grid, round-val, round-under}
+use lib.Ieee.Scale.{round-same, finite}
 use Rattle.tempo.specs.InPlainWords.{Fraction}
 
 -- ---- which floats are fractions
