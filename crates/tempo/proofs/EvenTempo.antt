@@ -26,7 +26,7 @@ pub record EvenTempo (first last strokes : ℕ) (time : ℕ → Float) : Type 0 
   pub not-after : (k : ℕ) → k < strokes → T (le (time k) (double last))
   pub never-falls : (j k : ℕ) → j ≤ k → k < strokes → T (le (time j) (time k))
 
--- A single stroke takes its own tick.
+-- A single stroke takes its own tick, the first one.
 pub single : (first last strokes k : ℕ) → strokes ≤ 1 → even-time first last strokes k ≡ double first
 unfolding even-time
 single first last strokes k h = rw (le-ltb 1 strokes h)
@@ -44,7 +44,7 @@ above-no-nan x (inf s) h = tt
 above-no-nan x (fin s m e) h = tt
 
 module _ (first last strokes : ℕ) (order : first ≤ last) (tick : last < 65536) (count : strokes < 65536) where
-  -- Where span times k is q times strokes less one, the time is the tick q after the first, exactly.
+  -- Where span times k is q times strokes less one, the time is q ticks after the first, exactly.
   pub on-a-tick : (k q : ℕ) → 1 < strokes → k < strokes → (last - first) * k ≡ q * (strokes - 1)
       → even-time first last strokes k ≡ double (first + q)
   unfolding even-time
