@@ -2,3 +2,7 @@
 -- ---- what is judged
 pub mod InRange
 pub mod RisingTicks
+-- ---- what is read
+pub mod OneAccess
+pub mod Loading
+pub mod ReadingOn
