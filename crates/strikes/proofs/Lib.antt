@@ -6,3 +6,6 @@ pub mod RisingTicks
 pub mod OneAccess
 pub mod Loading
 pub mod ReadingOn
+pub mod LentFront
+-- ---- what a sheet leaves
+pub mod TicksTaken

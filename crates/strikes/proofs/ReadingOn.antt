@@ -3,13 +3,14 @@ use Prim.Native.Nat.{ℕ, _+_}
 use mathlib.Core.Path.{_≡_, refl, sym, ap, _∙_}
 use mathlib.Core.Bool.{Bool, _||_, or-assoc, or-false}
 use mathlib.Core.List.{List, [], _∷_, _++_, map-append}
+use lib.ListN.{length}
 use Rattle.port.specs.Host.{Accessed}
 use Rattle.port.specs.Runs.{Machine, machine, words-in, answer-of, after, answers, ends}
 use Rattle.port.specs.Table.{reading}
 use Rattle.port.specs.declared.Access.the-variants.{Read}
 use Rattle.port.specs.declared.Answer.{Answer}
 use Rattle.port.specs.declared.Outcome.{Outcome}
-use Rattle.port.proofs.Joined.{ends-join, answers-join, reading-join, reads-keep-memory}
+use Rattle.port.proofs.Joined.{ends-join, answers-join, reading-join, reads-keep-memory, filled-length}
 use Rattle.sheet.specs.Reading.{any-hollow}
 use Rattle.strikes.specs.Parts.{ReadTicks}
 use Rattle.strikes.specs.declared.Run.{Run}
@@ -36,6 +37,10 @@ module _ {s : Machine} {n : ℕ} {o : Run} {m part : List ℕ} (k : ReadTicks s 
   -- Reads leave the memory.
   pub memory-kept : m ≡ s .memory
   memory-kept = ap (λ (t : Machine). t .memory) (k .ends-at) ∙ reads-keep-memory s n
+
+  -- There is a word for each read.
+  pub read-length : length part ≡ n
+  read-length = ap length (k .words) ∙ filled-length s n
 
   module _ {p : Outcome} {m′ : List ℕ} (e : Accessed (o .registers) m (Read 2 3) p m′) where
     said : p .answer ≡ answer-of (ends s (reading n)) (Read 2 3)

@@ -2,15 +2,17 @@
 use Prim.Native.Nat.{ℕ, zero, suc, _+_, _≤_, _<_}
 use native.Mathlib.Numerals.{add-one}
 use native.Mathlib.Omega.{arith}
-use mathlib.Core.Path.{_≡_, refl, sym}
-use mathlib.Core.Bool.{true, false, _&&_}
+use mathlib.Core.Path.{_≡_, refl}
+use mathlib.Core.Bool.{Bool, true, false, _&&_}
 use mathlib.Core.List.{List, [], _∷_}
+use mathlib.Core.Logic.{⊎-elim}
 use lib.Dec.{ltb}
 use lib.ListN.{length, drop, getD, length-drop}
 use lib.Seq.{drop-cons}
 use borrow.Author.Tests.{ltb-true}
-use Rattle.words.proofs.Choices.{both-true}
+use Rattle.words.proofs.Choices.{both-true, either-way}
 use Rattle.sheet.specs.Reading.{rising}
+use Rattle.sheet.specs.Sheet.{ticks-refusal}
 
 -- From any place on but the last, ticks rise if the next one lies after this one and they rise from there on.
 pub rising-from : (ticks : List ℕ) (j : ℕ) → j + 1 < length ticks →
@@ -40,3 +42,9 @@ none-before-first (t ∷ u ∷ rest) e (suc j) h =
     let tests = both-true _ _ e in
     let later = none-before-first (u ∷ rest) (tests .1) j (omega arith) in
     omega (arith, ltb-true t u (tests .0), later)
+
+-- Ticks that are not refused rise.
+pub unrefused-rise : (hollow : Bool) (ticks : List ℕ) → ticks-refusal hollow ticks ≡ 0 → rising ticks ≡ true
+unfolding ticks-refusal
+unrefused-rise true ticks e = absurd (omega arith)
+unrefused-rise false ticks e = ⊎-elim (λ t. t) (λ f. absurd (let n : _≡_ {A = ℕ} 44 0 = rw f at e in omega arith)) (either-way (rising ticks))
