@@ -1,20 +1,29 @@
-use mathlib.Core.List.{List, [], _∷_, _++_}
+-- The even-tempo times of the strokes between two ticks: document 02, 'The strike sheet'.
+-- The arithmetic is that of Rust's `f64`, as `lib.Ieee` defines it: an operation works out its exact result and rounds it once.
+--   double n                          the whole number n in double precision
+--   offset first last strokes k       how far stroke k lies after the first tick
+--   even-time first last strokes k    the time of stroke k, counted from 0
+--   even-times first last strokes n   the times of strokes 0 to n - 1, in order
 use Prim.Native.Nat.{ℕ, zero, suc, _-_}
 use mathlib.Core.Bool.{cond}
-use lib.IntN.{pos}
+use mathlib.Core.List.{List, [], _∷_, _++_}
 use lib.Dec.{ltb}
-use lib.Ieee as Ieee
-use lib.Ieee.{Float, binary64}
+use lib.Ieee.{Float, binary64, add, mul, div, ofInt}
+use lib.IntN.{pos}
 
+-- "in double precision"
 abbrev pub double : ℕ → Float
-double n = Ieee.ofInt binary64 (pos n)
+double n = ofInt binary64 (pos n)
 
+-- "a quotient, span times k over strokes less one, each operation rounded once"
 abbrev pub offset : ℕ → ℕ → ℕ → ℕ → Float
-offset first last strokes k = Ieee.div binary64 (Ieee.mul binary64 (double (last - first)) (double k)) (double (strokes - 1))
+offset first last strokes k = div binary64 (mul binary64 (double (last - first)) (double k)) (double (strokes - 1))
 
+-- "the first tick plus a quotient"; "A single stroke takes its own tick"
 unfoldable pub even-time : ℕ → ℕ → ℕ → ℕ → Float
-even-time first last strokes k = cond (ltb 1 strokes) (Ieee.add binary64 (double first) (offset first last strokes k)) (double first)
+even-time first last strokes k = cond (ltb 1 strokes) (add binary64 (double first) (offset first last strokes k)) (double first)
 
+-- "For stroke k, counted from 0, the list's place k takes the even-tempo time"
 unfoldable pub even-times : ℕ → ℕ → ℕ → ℕ → List Float
 even-times first last strokes zero = []
-even-times first last strokes (suc m) = even-times first last strokes m ++ (even-time first last strokes m ∷ [])
+even-times first last strokes (suc n) = even-times first last strokes n ++ (even-time first last strokes n ∷ [])
