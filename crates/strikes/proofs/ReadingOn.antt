@@ -5,7 +5,7 @@ use mathlib.Core.Bool.{Bool, _||_, or-assoc, or-false}
 use mathlib.Core.List.{List, [], _∷_, _++_, map-append}
 use lib.ListN.{length}
 use Rattle.port.specs.Host.{Accessed}
-use Rattle.port.specs.Runs.{Machine, machine, words-in, answer-of, after, answers, ends}
+use Rattle.port.specs.Runs.{Machine, words-in, answer-of, after, answers, ends}
 use Rattle.port.specs.Table.{reading}
 use Rattle.port.specs.declared.Access.the-variants.{Read}
 use Rattle.port.specs.declared.Answer.{Answer}

@@ -10,7 +10,6 @@ use borrow.Author.Tests.{eq-eqb, ne-eqb}
 use Rattle.port.specs.Runs.{Machine}
 use Rattle.tempo.specs.Tempo.{even-times}
 use Rattle.sheet.specs.Sheet.{ticks-refusal}
-use Rattle.sheet.specs.declared.Sheet.{Sheet}
 use Rattle.strikes.specs.Parts.{refused-sheet, ReadTicks, ticks-number, ticks-sheet, ticks-list, TookTicks}
 use Rattle.strikes.specs.declared.Run.{Run}
 use Rattle.strikes.proofs.ReadingOn.{memory-kept, read-length}

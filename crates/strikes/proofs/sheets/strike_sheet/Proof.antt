@@ -1,7 +1,7 @@
 -- `strikes::sheets::strike_sheet` meets its contract: refused before the port is touched, or the table of a time that is in range is read.
 use borrow.Author.Needs.{needs}
 use borrow.Author.Tests.{eq-eqb, ne-eqb}
-use mathlib.Core.Path.{_≡_, refl, sym, _∙_}
+use mathlib.Core.Path.{refl, sym, _∙_}
 use Rattle.sheet.specs.Sheet.{sheet-of, list-after}
 use Rattle.strikes.proofs.InRange.{in-range-with-room}
 use Rattle.strikes.proofs.sheets.strike_sheet.Statement.{statement}

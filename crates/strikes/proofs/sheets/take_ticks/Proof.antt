@@ -1,11 +1,11 @@
 -- `strikes::sheets::take_ticks` meets its contract: the first places of the array come back as the ticks, which are judged, and whose
 -- first and last give the times.
 use borrow.Author.Needs.{needs}
-use Prim.Native.Nat.{ℕ, _+_, _-_, _≤_}
+use Prim.Native.Nat.{ℕ, _-_}
 use native.Mathlib.Omega.{arith}
-use mathlib.Core.Path.{_≡_, sym, ap, _∙_}
-use mathlib.Core.List.{List, _++_}
-use lib.ListN.{length, drop, replicate}
+use mathlib.Core.Path.{_≡_}
+use mathlib.Core.List.{List}
+use lib.ListN.{drop, replicate}
 use Rattle.port.specs.Runs.{machine}
 use Rattle.sheet.specs.Sheet.{ticks-refusal}
 use Rattle.strikes.specs.Parts.{ReadTicks}
