@@ -2,7 +2,7 @@
 -- The definitions take the reads as one run; here its first read is taken apart from the others.
 use Prim.Native.Nat.{ℕ, suc}
 use mathlib.Core.Path.{_≡_, refl, sym, ap, _∙_}
-use mathlib.Core.Bool.{Bool, true, false, cond, or-false}
+use mathlib.Core.Bool.{Bool, true, false, or-false}
 use mathlib.Core.List.{List}
 use mathlib.Core.Logic.{_≢_}
 use lib.Dec.{eqb}
@@ -62,7 +62,9 @@ module _ (s : Machine) (a : BitAddress) (n : ℕ) where
 
     judged : number ≡ count-number whole s a n
     judged =
-        j ∙ ap (λ (x : Answer). count-refusal n (x .hollow) (x .word)) (says e ∙ ap (λ (t : Machine). answer-of t (Read 2 3)) k) ∙ sym count-is
+        j ∙
+        ap (λ (x : Answer). count-refusal n (x .hollow) (x .word)) (says e ∙ ap (λ (t : Machine). answer-of t (Read 2 3)) k) ∙
+        sym count-is
 
     -- A count that is hollow or wrong: a refusal, after one read.
     pub count-refused : number ≢ 0 → (l : List Float) → ReadTable s a n l (refused-sheet number (o .registers)) m′ l

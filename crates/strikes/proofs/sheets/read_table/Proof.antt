@@ -22,13 +22,18 @@ same-length c = search needs
 
 returns : tie.Need-returns
 returns c =
-    let a = c .before .before .before .before .before .before .before .before .before .before .before .before .before .before .before .args in
+    let counted = c .before .before in
+    let read = counted .before .before .before .before .before in
+    let load = read .before .before .before .before in
+    let a = load .before .before .before .before .args in
     rw (c .refuse .ensures)
-    (count-refused (machine (a .r) (a .memory .now)) (a .table) (a .strokes) (c .before .before .before .before .before .before .before .before .before .before .before .load-pointer .ensures) (c .before .before .before .before .before .before .before .host-access .ensures) _
-    (c .before .before .number-of-count .ensures) (c .before .if1 .taken) (a .list .now))
+    (count-refused (machine (a .r) (a .memory .now)) (a .table) (a .strokes) (load .load-pointer .ensures) (read .host-access .ensures) _
+    (counted .number-of-count .ensures) (c .before .if1 .taken) (a .list .now))
 
 take-ticks-requires : tie.Need-take-ticks-requires
-take-ticks-requires c κs = c .before .before .before .before .before .before .before .before .before .before .before .before .before .before .before .before .pre
+take-ticks-requires c κs =
+    let counted = c .before .before .before in
+    counted .before .before .before .before .before .before .before .before .before .before .before .before .before .pre
 
 same-length-2 : tie.Need-same-length-2
 same-length-2 c = search needs
@@ -38,9 +43,13 @@ same-length-3 c = search needs
 
 returns-2 : tie.Need-returns-2
 returns-2 c =
-    let a = c .before .before .before .before .before .before .before .before .before .before .before .before .before .before .before .before .before .before .before .before .before .args in
-    count-right (machine (a .r) (a .memory .now)) (a .table) (a .strokes) (c .before .before .before .before .before .before .before .before .before .before .before .before .before .before .before .before .before .load-pointer .ensures) (c .before .before .before .before .before .before .before .before .before .before .before .before .before .host-access .ensures) _
-    (c .before .before .before .before .before .before .before .before .number-of-count .ensures) (c .before .before .before .before .before .before .before .if1 .left) (c .before .before .before .before .take-ticks .ensures)
+    let took = c .before .before .before .before in
+    let counted = took .before .before .before .before in
+    let read = counted .before .before .before .before .before in
+    let load = read .before .before .before .before in
+    let a = load .before .before .before .before .args in
+    count-right (machine (a .r) (a .memory .now)) (a .table) (a .strokes) (load .load-pointer .ensures) (read .host-access .ensures) _
+    (counted .number-of-count .ensures) (took .before .before .before .if1 .left) (took .take-ticks .ensures)
 
 pub read-table-spec : {M : Type 1} → statement M
 read-table-spec =
