@@ -18,13 +18,15 @@ few-strokes t e =
     (omega (arith, r .an-hour), omega (arith, r .hours, r .quarters, r .minutes))
 
 -- A sheet that is not refused before the port is touched is of a time in range, and the list has a place for each of its strokes.
-pub in-range-with-room : (words room c : ℕ) (t : TimeStruck) → refusal-before words room c t ≡ 0 → (out-of-range t ≡ false) × (strokes-of t ≤ room)
+pub in-range-with-room : (words room c : ℕ) (t : TimeStruck) → refusal-before words room c t ≡ 0 →
+    (out-of-range t ≡ false) × (strokes-of t ≤ room)
 unfolding refusal-before
 in-range-with-room words room c t e =
     let tests = go (over-limit words) (out-of-range t) (ltb room (strokes-of t)) (incr c) e in
     (tests .0, ltb-false room (strokes-of t) (tests .1))
   where
-    go : (over unfit short steps : Bool) → _≡_ {A = ℕ} (cond over 1 (cond unfit 40 (cond short 41 (cond steps 0 46)))) 0 → (unfit ≡ false) × (short ≡ false)
+    go : (over unfit short steps : Bool) →
+        _≡_ {A = ℕ} (cond over 1 (cond unfit 40 (cond short 41 (cond steps 0 46)))) 0 → (unfit ≡ false) × (short ≡ false)
     go true unfit short steps e = absurd (omega arith)
     go false true short steps e = absurd (omega arith)
     go false false true steps e = absurd (omega arith)

@@ -47,7 +47,9 @@ module _ {s : Machine} {n : ℕ} {o : Run} {m part : List ℕ} (k : ReadTicks s 
     said = says e ∙ ap (λ (t : Machine). answer-of t (Read 2 3)) (k .ends-at)
 
     -- After n reads and one more, n + 1 are read.
-    pub read-more : ReadTicks s (n + 1) (record { registers = p .registers; hollow = o .hollow || p .answer .hollow }) m′ (part ++ (p .answer .word ∷ []))
+    pub read-more :
+        ReadTicks s (n + 1) (record { registers = p .registers; hollow = o .hollow || p .answer .hollow }) m′
+        (part ++ (p .answer .word ∷ []))
     unfolding any-hollow
     read-more =
         let xs = answers s (reading n) in

@@ -62,7 +62,9 @@ module _ (s : Machine) (a : BitAddress) (n : ℕ) where
 
     judged : number ≡ count-number whole s a n
     judged =
-        j ∙ ap (λ (x : Answer). count-refusal n (x .hollow) (x .word)) (says e ∙ ap (λ (t : Machine). answer-of t (Read 2 3)) k) ∙ sym count-is
+        j ∙
+        ap (λ (x : Answer). count-refusal n (x .hollow) (x .word)) (says e ∙ ap (λ (t : Machine). answer-of t (Read 2 3)) k) ∙
+        sym count-is
 
     -- A count that is hollow or wrong: a refusal, after one read.
     pub count-refused : number ≢ 0 → (l : List Float) → ReadTable s a n l (refused-sheet number (o .registers)) m′ l

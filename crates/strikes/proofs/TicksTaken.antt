@@ -15,7 +15,8 @@ use Rattle.strikes.specs.declared.Run.{Run}
 use Rattle.strikes.proofs.ReadingOn.{memory-kept, read-length}
 use Rattle.strikes.proofs.RisingTicks.{none-before-first, unrefused-rise}
 
-module _ {s : Machine} {n : ℕ} {o : Run} {m ticks : List ℕ} (k : ReadTicks s n o m ticks) (number : ℕ) (e : number ≡ ticks-refusal (o .hollow) ticks) where
+module _ {s : Machine} {n : ℕ} {o : Run} {m ticks : List ℕ} (k : ReadTicks s n o m ticks)
+    (number : ℕ) (e : number ≡ ticks-refusal (o .hollow) ticks) where
   told : number ≡ ticks-number s n
   unfolding ticks-number
   told = e ∙ rw (k .hollow, k .words)

@@ -1,17 +1,16 @@
 -- `strikes::reading::load_pointer` meets its contract: two writes, in the order that LBL commands.
 use native.Mathlib.Omega.{arith}
 use mathlib.Core.Path.{sym, _∙_}
-use borrow.Author.Needs.{needs}
 use Rattle.port.specs.Runs.{machine}
 use Rattle.strikes.proofs.Loading.{low-last, high-last}
 use Rattle.strikes.proofs.reading.load_pointer.Statement.{statement}
 use Rattle.strikes.proofs.reading.load_pointer.Tie as tie
 
 cast-low : tie.Need-cast-low
-cast-low c = search needs
+cast-low c = omega arith
 
 cast-high : tie.Need-cast-high
-cast-high c = search needs
+cast-high c = omega arith
 
 fetches-by-requires : tie.Need-fetches-by-requires
 fetches-by-requires c κs = tt
@@ -23,12 +22,15 @@ write-half-requires-2 : tie.Need-write-half-requires-2
 write-half-requires-2 c κs = tt
 
 same-length : tie.Need-same-length
-same-length c = search needs
+same-length c = omega arith
 
 returns : tie.Need-returns
 returns c =
-    low-last (machine (c .before .before .before .before .before .before .before .before .before .before .before .before .before .args .r) (c .before .before .before .before .before .before .before .before .before .before .before .before .before .args .memory .now)) (c .before .before .before .before .before .before .before .before .before .before .before .before .before .args .a) (omega arith)
-    (sym (c .before .before .before .before .before .before .before .before .before .fetches-by .ensures) ∙ c .before .before .before .before .before .before .before .before .if1 .taken) (c .before .before .before .before .before .before .write-half .ensures) (c .before .before .write-half2 .ensures)
+    let first = c .before .before .before .before .before .before in
+    let judged = first .before .before in
+    let a = judged .before .before .before .before .before .args in
+    low-last (machine (a .r) (a .memory .now)) (a .a) (omega arith) (sym (judged .before .fetches-by .ensures) ∙ judged .if1 .taken)
+    (first .write-half .ensures) (c .before .before .write-half2 .ensures)
 
 write-half-requires-3 : tie.Need-write-half-requires-3
 write-half-requires-3 c κs = tt
@@ -37,12 +39,15 @@ write-half-requires-4 : tie.Need-write-half-requires-4
 write-half-requires-4 c κs = tt
 
 same-length-2 : tie.Need-same-length-2
-same-length-2 c = search needs
+same-length-2 c = omega arith
 
 returns-2 : tie.Need-returns-2
 returns-2 c =
-    high-last (machine (c .before .before .before .before .before .before .before .before .before .before .before .before .before .args .r) (c .before .before .before .before .before .before .before .before .before .before .before .before .before .args .memory .now)) (c .before .before .before .before .before .before .before .before .before .before .before .before .before .args .a) (omega arith)
-    (sym (c .before .before .before .before .before .before .before .before .before .fetches-by .ensures) ∙ c .before .before .before .before .before .before .before .before .if1 .left) (c .before .before .before .before .before .before .write-half3 .ensures) (c .before .before .write-half4 .ensures)
+    let first = c .before .before .before .before .before .before in
+    let judged = first .before .before in
+    let a = judged .before .before .before .before .before .args in
+    high-last (machine (a .r) (a .memory .now)) (a .a) (omega arith) (sym (judged .before .fetches-by .ensures) ∙ judged .if1 .left)
+    (first .write-half3 .ensures) (c .before .before .write-half4 .ensures)
 
 pub load-pointer-spec : {M : Type 1} → statement M
 load-pointer-spec =

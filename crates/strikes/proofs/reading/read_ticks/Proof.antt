@@ -77,7 +77,9 @@ loop-less : tie.Need-loop-less Inv-loop μ-loop
 loop-less c = omega arith
 
 loop-again : tie.Need-loop-again Inv-loop μ-loop
-loop-again c = turned (c .before .before .before .before .before .before .before .before .loop .inv) (omega arith) (c .before .before .before .before .before .host-access .ensures) (c .before .either .ensures)
+loop-again c =
+    let read = c .before .before .before .before .before in
+    turned (read .before .before .before .loop .inv) (omega arith) (read .host-access .ensures) (c .before .either .ensures)
 
 same-length : tie.Need-same-length Inv-loop μ-loop
 same-length c = ap length (memory-kept (c .before .loop .inv .read))

@@ -1,5 +1,5 @@
 -- `strikes::sheets::read_table` meets its contract: the pointer is loaded, the count word is read and judged, and the ticks follow.
-use borrow.Author.Needs.{needs}
+use native.Mathlib.Omega.{arith}
 use Rattle.port.specs.Runs.{machine}
 use Rattle.strikes.proofs.TableRead.{count-refused, count-right}
 use Rattle.strikes.proofs.sheets.read_table.Statement.{statement}
@@ -18,29 +18,38 @@ refuse-requires : tie.Need-refuse-requires
 refuse-requires c κs = tt
 
 same-length : tie.Need-same-length
-same-length c = search needs
+same-length c = omega arith
 
 returns : tie.Need-returns
 returns c =
-    let a = c .before .before .before .before .before .before .before .before .before .before .before .before .before .before .before .args in
+    let counted = c .before .before in
+    let read = counted .before .before .before .before .before in
+    let load = read .before .before .before .before in
+    let a = load .before .before .before .before .args in
     rw (c .refuse .ensures)
-    (count-refused (machine (a .r) (a .memory .now)) (a .table) (a .strokes) (c .before .before .before .before .before .before .before .before .before .before .before .load-pointer .ensures) (c .before .before .before .before .before .before .before .host-access .ensures) _
-    (c .before .before .number-of-count .ensures) (c .before .if1 .taken) (a .list .now))
+    (count-refused (machine (a .r) (a .memory .now)) (a .table) (a .strokes) (load .load-pointer .ensures) (read .host-access .ensures) _
+    (counted .number-of-count .ensures) (c .before .if1 .taken) (a .list .now))
 
 take-ticks-requires : tie.Need-take-ticks-requires
-take-ticks-requires c κs = c .before .before .before .before .before .before .before .before .before .before .before .before .before .before .before .before .pre
+take-ticks-requires c κs =
+    let counted = c .before .before .before in
+    counted .before .before .before .before .before .before .before .before .before .before .before .before .before .pre
 
 same-length-2 : tie.Need-same-length-2
-same-length-2 c = search needs
+same-length-2 c = omega arith
 
 same-length-3 : tie.Need-same-length-3
-same-length-3 c = search needs
+same-length-3 c = omega arith
 
 returns-2 : tie.Need-returns-2
 returns-2 c =
-    let a = c .before .before .before .before .before .before .before .before .before .before .before .before .before .before .before .before .before .before .before .before .before .args in
-    count-right (machine (a .r) (a .memory .now)) (a .table) (a .strokes) (c .before .before .before .before .before .before .before .before .before .before .before .before .before .before .before .before .before .load-pointer .ensures) (c .before .before .before .before .before .before .before .before .before .before .before .before .before .host-access .ensures) _
-    (c .before .before .before .before .before .before .before .before .number-of-count .ensures) (c .before .before .before .before .before .before .before .if1 .left) (c .before .before .before .before .take-ticks .ensures)
+    let took = c .before .before .before .before in
+    let counted = took .before .before .before .before in
+    let read = counted .before .before .before .before .before in
+    let load = read .before .before .before .before in
+    let a = load .before .before .before .before .args in
+    count-right (machine (a .r) (a .memory .now)) (a .table) (a .strokes) (load .load-pointer .ensures) (read .host-access .ensures) _
+    (counted .number-of-count .ensures) (took .before .before .before .if1 .left) (took .take-ticks .ensures)
 
 pub read-table-spec : {M : Type 1} → statement M
 read-table-spec =

@@ -1,5 +1,6 @@
--- `strikes::sheets::strike_sheet` meets its contract: refused before the port is touched, or the table of a time that is in range is read.
-use borrow.Author.Needs.{needs}
+-- `strikes::sheets::strike_sheet` meets its contract: refused before the port is touched, or the table is read for a time in
+-- range.
+use native.Mathlib.Omega.{arith}
 use borrow.Author.Tests.{eq-eqb, ne-eqb}
 use mathlib.Core.Path.{refl, sym, _∙_}
 use Rattle.sheet.specs.Sheet.{sheet-of, list-after}
@@ -24,21 +25,25 @@ count-strokes-requires c κs = in-range-with-room _ _ _ _ (sym (c .before .befor
 
 read-table-requires : tie.Need-read-table-requires
 read-table-requires c κs =
-    let room = in-range-with-room _ _ _ _ (sym (c .before .before .before .before .number-before .ensures) ∙ c .before .before .before .if1 .left) .1 in
+    let judged = c .before .before .before in
+    let room = in-range-with-room _ _ _ _ (sym (judged .before .number-before .ensures) ∙ judged .if1 .left) .1 in
     let few = c .before .count-strokes .ensures in
     (few .1, few .2, rw (few .0) room)
 
 same-length : tie.Need-same-length
-same-length c = search needs
+same-length c = omega arith
 
 same-length-2 : tie.Need-same-length-2
-same-length-2 c = search needs
+same-length-2 c = omega arith
 
 returns-2 : tie.Need-returns-2
 unfolding sheet-of list-after
 returns-2 c =
-    let yes = eq-eqb _ _ (sym (c .before .before .before .before .before .before .before .before .before .number-before .ensures) ∙ c .before .before .before .before .before .before .before .before .if1 .left) in
-    let e = rw (c .before .before .before .before .before .before .count-strokes .ensures .0) at (c .before .before .before .before .read-table .ensures) in
+    let read = c .before .before .before .before in
+    let strokes = read .before .before in
+    let judged = strokes .before .before in
+    let yes = eq-eqb _ _ (sym (judged .before .number-before .ensures) ∙ judged .if1 .left) in
+    let e = rw (strokes .count-strokes .ensures .0) at (read .read-table .ensures) in
     record { outcome = rw yes (e .outcome); memory = e .memory; list = rw yes (e .list) }
 
 pub strike-sheet-spec : {M : Type 1} → statement M
