@@ -1,4 +1,4 @@
--- A time that is in range: how many strokes it has, and that a sheet is begun for no other. By the tests of the definitions, in turn.
+-- A sheet is begun only for a time in range, with room for its strokes. By the tests of the definition, in turn.
 use Prim.Native.Nat.{ℕ, _≤_}
 use native.Mathlib.Omega.{arith}
 use mathlib.Core.Path.{_≡_, refl}
@@ -9,13 +9,6 @@ use Rattle.words.specs.Memory.{over-limit}
 use Rattle.control.specs.Control.{incr}
 use Rattle.sheet.specs.Sheet.{out-of-range, strokes-of, refusal-before}
 use Rattle.sheet.specs.declared.TimeStruck.{TimeStruck}
-use Rattle.sheet.proofs.Range.{accepted-time}
-
--- A time that is in range has from one to 29 strokes.
-pub few-strokes : (t : TimeStruck) → out-of-range t ≡ false → (1 ≤ strokes-of t) × (strokes-of t ≤ 29)
-few-strokes t e =
-    let r = accepted-time t e in
-    (omega (arith, r .an-hour), omega (arith, r .hours, r .quarters, r .minutes))
 
 -- A sheet that is not refused before the port is touched is of a time in range, and the list has a place for each of its strokes.
 pub in-range-with-room : (words room c : ℕ) (t : TimeStruck) → refusal-before words room c t ≡ 0 →
