@@ -70,7 +70,7 @@ shared-slice-read-if1-2 c = omega arith
 returns : tie.Need-returns Inv-loop μ-loop
 returns c =
     let tested = c .before .before .before in
-    fell _ _ (tested .before .loop .inv) (tested .loop-test .taken) (c .if1 .taken)
+    fell _ _ (tested .before .loop .inv) (tested .loop-test .taken) (omega (arith, c .if1 .taken))
 
 add-k : tie.Need-add-k Inv-loop μ-loop
 add-k c = omega arith
