@@ -15,3 +15,4 @@ pub mod ByBytes
 -- ---- the tuner's bet and the partner's worry; the times
 pub mod TheBet
 pub mod InTempo
+pub mod Examples

@@ -14,7 +14,8 @@ use Rattle.words.proofs.Choices.{either-way, less-or-not, same-or-not}
 use Rattle.control.specs.Control.{incr}
 use Rattle.port.specs.Runs.{Machine}
 use Rattle.port.specs.Table.{Memory, Lies}
-use Rattle.sheet.specs.InPlainWords.{Passed-in, InRange, Begins, count-word, Rises, Falls, Complete, Verdict, too-long, no-such-time, list-short, not-stepping, count-missed, count-wrong, tick-missed, not-rising, passes}
+use Rattle.sheet.specs.InPlainWords.{Passed-in, InRange, Begins, count-word, Rises, Falls, Complete}
+use Rattle.sheet.specs.InPlainWords.{Verdict, too-long, no-such-time, list-short, not-stepping, count-missed, count-wrong, tick-missed, not-rising, passes}
 use Rattle.sheet.specs.Reading.{whole, any-hollow, rising}
 use Rattle.sheet.specs.Sheet.{out-of-range, strokes-of, refusal-before, ticks-refusal, number-before, heard, ticks-heard, read-number, read-sheet, sheet-of}
 use Rattle.sheet.specs.declared.Sheet.{Sheet}

@@ -106,7 +106,8 @@ module _ (w : Way) (s : Machine) (a : BitAddress) (t : TimeStruck) where
   list-after l = cond (eqb (number-before s t (length l)) 0) (read-list w s a (strokes-of t) l) l
 
 -- what a sheet leaves: its answer and registers, the memory, and the list
-pub record Struck (r : Registers) (m : List ℕ) (a : BitAddress) (t : TimeStruck) (l : List Float) (o : Sheet) (m′ : List ℕ) (l′ : List Float) : Type 0 where
+pub record Struck (r : Registers) (m : List ℕ) (a : BitAddress) (t : TimeStruck) (l : List Float)
+    (o : Sheet) (m′ : List ℕ) (l′ : List Float) : Type 0 where
   pub outcome : o ≡ sheet-of whole (machine r m) a t (length l)
   pub memory : m′ ≡ m
   pub list : l′ ≡ list-after whole (machine r m) a t l

@@ -1,0 +1,59 @@
+-- Sheets worked out from the definitions alone, by computation.
+use Prim.Native.Nat.{ℕ}
+use mathlib.Core.Path.{_≡_, refl}
+use mathlib.Core.Bool.{true}
+use mathlib.Core.List.{List, [], _∷_}
+use lib.Ieee.{Float, ofInt, add, mul, div}
+use Rattle.words.specs.Addresses.{address}
+use Rattle.words.specs.Bytes.{bit, takes-low, takes-high, are-lanes, lay}
+use Rattle.words.specs.Memory.{fetch-at}
+use Rattle.control.specs.Control.{bare, closes, fetches}
+use Rattle.registers.specs.Registers.{register-word, half-written, written}
+use Rattle.port.specs.Cycle.{stepped, mark, after-fetch, carried, memory-after}
+use Rattle.port.specs.Host.{read-due, write-due, begin-access, refusal, done, access, access-memory}
+use Rattle.port.specs.Runs.{Machine, answer-of, after, answers, ends}
+use Rattle.port.specs.Table.{loading, reading}
+use Rattle.tempo.specs.Tempo.{double, even-time, even-times}
+use Rattle.sheet.specs.Reading.{whole, told, any-hollow, rising}
+use Rattle.sheet.specs.Sheet.{out-of-range, refusal-before, count-refusal, ticks-refusal, read-number, made, read-sheet, read-list, sheet-of, list-after}
+use Rattle.sheet.specs.declared.TimeStruck.{TimeStruck}
+
+-- INCR set, and a memory
+abbrev on : List ℕ → Machine
+on m = record { registers = record { pointer = address 0; latch = 0; control = 0x1000; hollow = true }; memory = m }
+
+abbrev three-o-clock : TimeStruck
+three-o-clock = record { hours = 3; quarters = 0; minutes = 0 }
+
+abbrev four-places : List Float
+four-places = double 1 ∷ double 1 ∷ double 1 ∷ double 1 ∷ []
+
+-- 3:00, a table that ends with the memory's last word: its three strokes are at 10, 15 and 20, and the list's fourth place stays.
+pub to-the-end : list-after whole (on (3 ∷ 10 ∷ 14 ∷ 20 ∷ [])) (address 0) three-o-clock four-places ≡
+    double 10 ∷ double 15 ∷ double 20 ∷ double 1 ∷ []
+unfolding
+    bit takes-low takes-high are-lanes lay fetch-at bare closes fetches register-word half-written written stepped mark after-fetch
+    carried memory-after read-due write-due begin-access refusal done access access-memory answer-of after answers ends loading reading
+    even-time even-times ofInt add mul div told any-hollow rising out-of-range refusal-before count-refusal ticks-refusal read-number
+    made read-sheet read-list sheet-of list-after
+to-the-end = refl
+
+-- The same with the last word missing: 42, no strokes, and the pointer past the table.
+pub word-short : sheet-of whole (on (3 ∷ 10 ∷ 14 ∷ [])) (address 0) three-o-clock 4 ≡
+    record { number = 42; strokes = 0; registers = record { pointer = address 0x40; latch = 0xffff; control = 0x1000; hollow = true } }
+unfolding
+    bit takes-low takes-high are-lanes lay fetch-at bare closes fetches register-word half-written written stepped mark after-fetch
+    carried memory-after read-due write-due begin-access refusal done access access-memory answer-of after answers ends loading reading
+    even-time even-times ofInt add mul div told any-hollow rising out-of-range refusal-before count-refusal ticks-refusal read-number
+    made read-sheet read-list sheet-of list-after
+word-short = refl
+
+-- The same with two strokes at one tick: 44.
+pub equal-pair : sheet-of whole (on (3 ∷ 10 ∷ 10 ∷ 20 ∷ [])) (address 0) three-o-clock 4 ≡
+    record { number = 44; strokes = 0; registers = record { pointer = address 0x40; latch = 0xffff; control = 0x1000; hollow = true } }
+unfolding
+    bit takes-low takes-high are-lanes lay fetch-at bare closes fetches register-word half-written written stepped mark after-fetch
+    carried memory-after read-due write-due begin-access refusal done access access-memory answer-of after answers ends loading reading
+    even-time even-times ofInt add mul div told any-hollow rising out-of-range refusal-before count-refusal ticks-refusal read-number
+    made read-sheet read-list sheet-of list-after
+equal-pair = refl
