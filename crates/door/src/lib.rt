@@ -13,7 +13,7 @@ mod memory;
 ghost use mathlib.Core.Path.{_≡_};
 ghost use lib.ListN.{length};
 ghost use Rattle.port.specs.declared.Access.the-variants.{Read, Write};
-ghost use Rattle.door.specs.Door.{misfit, call-number, Called};
+ghost use Rattle.door_bytes.specs.Door.{misfit, call-number, Called};
 ghost use Rattle.door.specs.Parts.{Closed};
 use answer::pack;
 use answer::refuse;

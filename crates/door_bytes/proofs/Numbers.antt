@@ -13,11 +13,11 @@ use Rattle.words.specs.Bytes.{bit}
 use Rattle.port.specs.Host.{register-of, lanes-of, number-for}
 use Rattle.port.specs.declared.Access.{Access}
 use Rattle.port.proofs.Numbers.{NoLanes, when}
-use Rattle.door.specs.Bytes.{words-of, byte}
-use Rattle.door.specs.Image.{registers-of}
-use Rattle.door.specs.Door.{misfit, call-number}
-use Rattle.door.specs.InPlainWords.{Fitting, Misfit}
-use Rattle.door.proofs.WordsAndBytes.{words-length}
+use Rattle.door_bytes.specs.Bytes.{words-of, byte}
+use Rattle.door_bytes.specs.Image.{registers-of}
+use Rattle.door_bytes.specs.Door.{misfit, call-number}
+use Rattle.door_bytes.specs.InPlainWords.{Fitting, Misfit}
+use Rattle.door_bytes.proofs.WordsAndBytes.{words-length}
 
 -- v is the number of a call
 pub record When (image memory : List ℕ) (a : Access) (v : ℕ) : Type 0 where

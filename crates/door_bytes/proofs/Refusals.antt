@@ -6,8 +6,8 @@ use mathlib.Core.List.{List}
 use mathlib.Core.Logic.{_≢_}
 use borrow.Author.Tests.{ne-eqb}
 use Rattle.port.specs.declared.Access.{Access}
-use Rattle.door.specs.Answer.{packed}
-use Rattle.door.specs.Door.{call-number, call-tells, call-answer, call-image, call-memory}
+use Rattle.door_bytes.specs.Answer.{packed}
+use Rattle.door_bytes.specs.Door.{call-number, call-tells, call-answer, call-image, call-memory}
 
 -- a call that is refused: its number in bits 16-23 and zeros, and every lent byte as it stood
 pub record Refused (image memory : List ℕ) (a : Access) : Type 0 where

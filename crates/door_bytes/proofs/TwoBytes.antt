@@ -22,14 +22,14 @@ use Rattle.port.specs.declared.Access.{Access}
 use Rattle.port.specs.declared.Access.the-variants.{Read, Write}
 use Rattle.port.specs.declared.Due.the-variants.{Nothing, Fetch, Store}
 use Rattle.port.proofs.DataRegister.{read-keeps-memory}
-use Rattle.door.specs.Bytes.{words-of, bytes-of, byte}
-use Rattle.door.specs.Image.{registers-of}
-use Rattle.door.specs.Door.{misfit, call-memory}
-use Rattle.door.specs.InPlainWords.{AreBytes}
-use Rattle.door.proofs.WordsAndBytes.{low-byte-first, high-byte-second, bytes-of-words}
-use Rattle.door.proofs.Numbers.{fitting, unfit-refused}
-use Rattle.door.proofs.Refusals.{refuses}
-use Rattle.door.proofs.AsByValue.{memory-as-access}
+use Rattle.door_bytes.specs.Bytes.{words-of, bytes-of, byte}
+use Rattle.door_bytes.specs.Image.{registers-of}
+use Rattle.door_bytes.specs.Door.{misfit, call-memory}
+use Rattle.door_bytes.specs.InPlainWords.{AreBytes}
+use Rattle.door_bytes.proofs.WordsAndBytes.{low-byte-first, high-byte-second, bytes-of-words}
+use Rattle.door_bytes.proofs.Numbers.{fitting, unfit-refused}
+use Rattle.door_bytes.proofs.Refusals.{refuses}
+use Rattle.door_bytes.proofs.AsByValue.{memory-as-access}
 
 -- ---- the words
 

@@ -15,9 +15,9 @@ use Rattle.port.specs.Host.{number-for, access, access-memory}
 use Rattle.port.specs.declared.Access.{Access}
 use Rattle.port.specs.declared.Answer.{Answer}
 use Rattle.port.specs.declared.Outcome.{Outcome}
-use Rattle.door.specs.Bytes.{words-of, bytes-of, byte}
-use Rattle.door.specs.Image.{registers-of, image-of}
-use Rattle.door.specs.Answer.{packed, refusing}
+use Rattle.door_bytes.specs.Bytes.{words-of, bytes-of, byte}
+use Rattle.door_bytes.specs.Image.{registers-of, image-of}
+use Rattle.door_bytes.specs.Answer.{packed, refusing}
 
 -- "11 C door: image not nine bytes, hollow byte over 1, bit 10 set, or odd memory length"
 unfoldable pub misfit : List ℕ → List ℕ → Bool

@@ -17,14 +17,14 @@ use Rattle.port.specs.declared.Access.{Access}
 use Rattle.port.specs.declared.Outcome.{Outcome}
 use Rattle.port.proofs.Taken.{barred, barred-memory}
 use Rattle.port.proofs.Widths.{access-fits, access-memory-fits, access-ten-clear}
-use Rattle.door.specs.Bytes.{words-of, bytes-of}
-use Rattle.door.specs.Image.{registers-of, image-of}
-use Rattle.door.specs.Answer.{refusing}
-use Rattle.door.specs.Door.{call-number, call-tells, call-image, call-memory}
-use Rattle.door.specs.InPlainWords.{AreBytes, GoodImage, Fitting, FitsImage}
-use Rattle.door.proofs.WordsAndBytes.{bytes-length, bytes-of-words, words-of-bytes, words-fit, bytes-fit}
-use Rattle.door.proofs.ImageAndRecord.{registers-of-image, image-of-registers, image-fits, image-bytes, good-image}
-use Rattle.door.proofs.Numbers.{fit-number}
+use Rattle.door_bytes.specs.Bytes.{words-of, bytes-of}
+use Rattle.door_bytes.specs.Image.{registers-of, image-of}
+use Rattle.door_bytes.specs.Answer.{refusing}
+use Rattle.door_bytes.specs.Door.{call-number, call-tells, call-image, call-memory}
+use Rattle.door_bytes.specs.InPlainWords.{AreBytes, GoodImage, Fitting, FitsImage}
+use Rattle.door_bytes.proofs.WordsAndBytes.{bytes-length, bytes-of-words, words-of-bytes, words-fit, bytes-fit}
+use Rattle.door_bytes.proofs.ImageAndRecord.{registers-of-image, image-of-registers, image-fits, image-bytes, good-image}
+use Rattle.door_bytes.proofs.Numbers.{fit-number}
 
 -- what holds of a call that is done, and is the same for one that is refused
 done-or-same : {A : Type 0} (n : ℕ) (x y : A) → (n ≢ 0 → y ≡ x) → cond (eqb n 0) x y ≡ x

@@ -14,10 +14,10 @@ use Rattle.port.specs.declared.Cycle.{Cycle}
 use Rattle.port.specs.declared.Cycle.the-variants.{None, Inside, Empty}
 use Rattle.port.proofs.Taken.{number-is}
 use Rattle.port.proofs.Widths.{access-word}
-use Rattle.door.specs.Answer.{cycle-number, packed, refusing}
-use Rattle.door.specs.Door.{call-number, outcome-of, call-tells, call-answer}
-use Rattle.door.specs.InPlainWords.{word-in, number-in, hollow-in, cycle-in, rest-in}
-use Rattle.door.proofs.Numbers.{When, numbered, fit-number}
+use Rattle.door_bytes.specs.Answer.{cycle-number, packed, refusing}
+use Rattle.door_bytes.specs.Door.{call-number, outcome-of, call-tells, call-answer}
+use Rattle.door_bytes.specs.InPlainWords.{word-in, number-in, hollow-in, cycle-in, rest-in}
+use Rattle.door_bytes.proofs.Numbers.{When, numbered, fit-number}
 
 -- p is the answer a as one number
 pub record Unpacks (p : ℕ) (a : Answer) : Type 0 where

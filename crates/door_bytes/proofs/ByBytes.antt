@@ -11,16 +11,16 @@ use Rattle.port.specs.declared.Access.{Access}
 use Rattle.port.specs.declared.Answer.{Answer}
 use Rattle.port.specs.declared.Cycle.the-variants.{None}
 use Rattle.port.proofs.Alike.{alike}
-use Rattle.door.specs.Bytes.{words-of, bytes-of}
-use Rattle.door.specs.Image.{registers-of, image-of}
-use Rattle.door.specs.Answer.{refusing}
-use Rattle.door.specs.Door.{misfit, call-tells}
-use Rattle.door.specs.InPlainWords.{AreBytes, Fitting}
-use Rattle.door.specs.Runs.{Lent, told, left, opening, closing, answers, ends, byte-answers, byte-ends}
-use Rattle.door.proofs.Numbers.{fitting, unfit-number, unfit-refused}
-use Rattle.door.proofs.Refusals.{refuses}
-use Rattle.door.proofs.AsByValue.{tells-as-access, image-as-access, memory-as-access, registers-left, words-left}
-use Rattle.door.proofs.AsByValue.{fits-again, image-bytes-again, memory-bytes-again}
+use Rattle.door_bytes.specs.Bytes.{words-of, bytes-of}
+use Rattle.door_bytes.specs.Image.{registers-of, image-of}
+use Rattle.door_bytes.specs.Answer.{refusing}
+use Rattle.door_bytes.specs.Door.{misfit, call-tells}
+use Rattle.door_bytes.specs.InPlainWords.{AreBytes, Fitting}
+use Rattle.door_bytes.specs.Runs.{Lent, told, left, opening, closing, answers, ends, byte-answers, byte-ends}
+use Rattle.door_bytes.proofs.Numbers.{fitting, unfit-number, unfit-refused}
+use Rattle.door_bytes.proofs.Refusals.{refuses}
+use Rattle.door_bytes.proofs.AsByValue.{tells-as-access, image-as-access, memory-as-access, registers-left, words-left}
+use Rattle.door_bytes.proofs.AsByValue.{fits-again, image-bytes-again, memory-bytes-again}
 
 -- The two byte calls of x, one after the other, against one call. The first shows the number and the hollow mark that the whole
 -- call shows, and has no cycle; together they tell and leave what it does.

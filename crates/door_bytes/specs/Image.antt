@@ -8,7 +8,7 @@ use lib.Dec.{eqb}
 use Rattle.words.specs.Addresses.{address}
 use Rattle.words.specs.Bytes.{lo, hi}
 use Rattle.registers.specs.declared.Registers.{Registers}
-use Rattle.door.specs.Bytes.{byte}
+use Rattle.door_bytes.specs.Bytes.{byte}
 
 -- "a nine-byte register image: pointer (4, low first), HSTDATA (2), HSTCTL (2), hollow 0 or 1"
 unfoldable pub registers-of : List ℕ → Registers

@@ -12,9 +12,9 @@ use Rattle.words.proofs.Lanes.{low-of, high-of, whole-word}
 use Rattle.registers.specs.Registers.{low-half, high-half}
 use Rattle.registers.specs.InPlainWords.{FitWidths}
 use Rattle.registers.specs.declared.Registers.{Registers}
-use Rattle.door.specs.Bytes.{byte}
-use Rattle.door.specs.Image.{registers-of, image-of}
-use Rattle.door.specs.InPlainWords.{AreBytes, GoodImage, FitsImage}
+use Rattle.door_bytes.specs.Bytes.{byte}
+use Rattle.door_bytes.specs.Image.{registers-of, image-of}
+use Rattle.door_bytes.specs.InPlainWords.{AreBytes, GoodImage, FitsImage}
 
 -- ---- where each part lies
 

@@ -14,8 +14,8 @@ use lib.ListN.{length}
 use Rattle.words.specs.Bytes.{bit}
 use Rattle.registers.specs.InPlainWords.{FitWidths, TenClear}
 use Rattle.registers.specs.declared.Registers.{Registers}
-use Rattle.door.specs.Bytes.{byte}
-use Rattle.door.specs.Image.{registers-of}
+use Rattle.door_bytes.specs.Bytes.{byte}
+use Rattle.door_bytes.specs.Image.{registers-of}
 
 abbrev pub AreBytes : List ℕ → Type 0
 AreBytes b = (k : ℕ) → byte b k < 256

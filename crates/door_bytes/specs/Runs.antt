@@ -9,8 +9,8 @@ use Rattle.control.specs.Control.{first-lane, last-lane}
 use Rattle.port.specs.Runs.{Sixteen, on, joined}
 use Rattle.port.specs.declared.Access.{Access}
 use Rattle.port.specs.declared.Answer.{Answer}
-use Rattle.door.specs.Image.{registers-of}
-use Rattle.door.specs.Door.{call-tells, call-image, call-memory}
+use Rattle.door_bytes.specs.Image.{registers-of}
+use Rattle.door_bytes.specs.Door.{call-tells, call-image, call-memory}
 
 pub record Lent : Type 0 where
   pub image : List ℕ

@@ -4,21 +4,22 @@ use Prim.Native.Nat.{ℕ, zero, suc, _+_, _*_, _/_, _%_, _<_}
 use native.Mathlib.Omega.{arith}
 use mathlib.Core.Path.{_≡_, refl, sym, ap, _∙_}
 use mathlib.Core.List.{List, [], _∷_}
-use lib.ListN.{length, getD, set}
+use lib.ListN.{length, getD}
 use Rattle.words.specs.Bytes.{lo, hi}
 use Rattle.words.specs.Memory.{AreWords}
 use Rattle.words.proofs.Lanes.{low-of, high-of, whole-word}
-use Rattle.door.specs.Bytes.{words-of, bytes-of, byte}
-use Rattle.door.specs.Parts.{put-word}
-use Rattle.door.specs.InPlainWords.{AreBytes}
+use Rattle.door_bytes.specs.Bytes.{words-of, bytes-of, byte}
+use Rattle.door_bytes.specs.InPlainWords.{AreBytes}
 
 half : (k : ℕ) → suc (suc k) / 2 ≡ suc (k / 2)
 half k = omega arith
 
-twice : (n : ℕ) → 2 * suc n ≡ suc (suc (2 * n))
+-- The next word's low byte lies two bytes on.
+pub twice : (n : ℕ) → 2 * suc n ≡ suc (suc (2 * n))
 twice n = omega arith
 
-twice-one : (n : ℕ) → 2 * suc n + 1 ≡ suc (suc (2 * n + 1))
+-- So does its high byte.
+pub twice-one : (n : ℕ) → 2 * suc n + 1 ≡ suc (suc (2 * n + 1))
 twice-one n = omega arith
 
 -- There is a word for every two bytes.
@@ -69,13 +70,6 @@ pub words-of-bytes : (m : List ℕ) → AreWords m → words-of (bytes-of m) ≡
 unfolding words-of bytes-of
 words-of-bytes [] s = refl
 words-of-bytes (w ∷ rest) s = rw (whole-word w (s 0), words-of-bytes rest (λ k. s (suc k)))
-
--- A word stored is its two bytes stored.
-pub bytes-of-set : (m : List ℕ) (n w : ℕ) → bytes-of (set m n w) ≡ put-word (bytes-of m) n w
-unfolding bytes-of
-bytes-of-set [] n w = refl
-bytes-of-set (v ∷ rest) zero w = refl
-bytes-of-set (v ∷ rest) (suc n) w = rw (twice-one, twice, bytes-of-set rest n w)
 
 -- ---- words of bytes are words, bytes of words are bytes
 -- Two bytes make a word of 16 bits.
