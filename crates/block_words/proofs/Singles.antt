@@ -13,13 +13,13 @@ use Rattle.port.specs.Runs.{Machine, machine, words-in, answer-of, after, answe
 use Rattle.port.specs.Table.{reading}
 use Rattle.port.specs.declared.Access.the-variants.{Read, Write}
 use Rattle.port.proofs.Alike.{answers-alike, ends-alike}
-use Rattle.block.specs.Block.{writing, stretch, counted, tally, hollows-in, is-empty, empties-in}
-use Rattle.block.specs.Block.{block-read, list-after, block-write, memory-left}
-use Rattle.block.specs.InPlainWords.{kth-read, kth-write, number-below}
-use Rattle.block.specs.declared.BlockRead.{BlockRead}
-use Rattle.block.specs.declared.BlockWrite.{BlockWrite}
-use Rattle.block.proofs.Numbers.{when, read-number, read-taken, list-taken, write-number, write-taken, memory-taken}
-use Rattle.block.proofs.Lent.{laid-length, laid-inside, laid-stretch, laid-before, laid-behind}
+use Rattle.block_words.specs.Block.{writing, stretch, counted, tally, hollows-in, is-empty, empties-in}
+use Rattle.block_words.specs.Block.{block-read, list-after, block-write, memory-left}
+use Rattle.block_words.specs.InPlainWords.{kth-read, kth-write, number-below}
+use Rattle.block_words.specs.declared.BlockRead.{BlockRead}
+use Rattle.block_words.specs.declared.BlockWrite.{BlockWrite}
+use Rattle.block_words.proofs.Numbers.{when, read-number, read-taken, list-taken, write-number, write-taken, memory-taken}
+use Rattle.block_words.proofs.Lent.{laid-length, laid-inside, laid-stretch, laid-before, laid-behind}
 use Rattle.port.proofs.Joined.{reads-keep-memory, filled-length}
 
 -- ---- a run taken apart

@@ -22,8 +22,8 @@ use Rattle.port.specs.Table.{reading}
 use Rattle.port.specs.declared.Answer.{Answer}
 use Rattle.port.specs.declared.Cycle.{Cycle}
 use Rattle.port.specs.declared.Cycle.the-variants.{None, Inside, Empty}
-use Rattle.block.specs.declared.BlockRead.{BlockRead}
-use Rattle.block.specs.declared.BlockWrite.{BlockWrite}
+use Rattle.block_words.specs.declared.BlockRead.{BlockRead}
+use Rattle.block_words.specs.declared.BlockWrite.{BlockWrite}
 
 -- "1 memory over 32,768 words; 10 block count over 4,096, or place plus count over the list's length", tested in this order
 unfoldable pub block-refusal : ℕ → ℕ → ℕ → ℕ → ℕ

@@ -12,9 +12,9 @@ use Rattle.port.specs.Runs.{Machine, machine, words-in, save, answers, ends}
 use Rattle.port.specs.Table.{reading}
 use Rattle.port.specs.declared.Answer.{Answer}
 use Rattle.port.proofs.Joined.{ends-join, answers-join, answers-length, reading-join, reading-length, reads-keep-memory, filled-length}
-use Rattle.block.specs.Block.{writing, counted, tally, hollows-in, is-empty, empties-in}
-use Rattle.block.specs.Parts.{ReadInto, WrittenFrom}
-use Rattle.block.specs.declared.Run.{Run}
+use Rattle.block_words.specs.Block.{writing, counted, tally, hollows-in, is-empty, empties-in}
+use Rattle.block_words.specs.Parts.{ReadInto, WrittenFrom}
+use Rattle.block_words.specs.declared.Run.{Run}
 
 -- ---- counting marks
 one-more : (b : Bool) {n k : ℕ} → n ≤ k → counted b + n ≤ suc k

@@ -5,10 +5,10 @@ use mathlib.Core.List.{List}
 use Rattle.registers.specs.declared.Registers.{Registers}
 use Rattle.port.specs.Runs.{machine, answers}
 use Rattle.port.specs.Table.{reading}
-use Rattle.block.specs.Block.{block-number, stretch, with-stretch, writing, hollows-in, empties-in, ReadBlock, WrittenBlock}
-use Rattle.block.specs.Parts.{ReadInto, WrittenFrom}
-use Rattle.block.specs.declared.Run.{Run}
-use Rattle.block.proofs.Numbers.{read-taken, list-taken, write-taken, memory-taken}
+use Rattle.block_words.specs.Block.{block-number, stretch, with-stretch, writing, hollows-in, empties-in, ReadBlock, WrittenBlock}
+use Rattle.block_words.specs.Parts.{ReadInto, WrittenFrom}
+use Rattle.block_words.specs.declared.Run.{Run}
+use Rattle.block_words.proofs.Numbers.{read-taken, list-taken, write-taken, memory-taken}
 
 module _ (r : Registers) (m l : List ℕ) (place count : ℕ) (e : block-number m l place count ≡ 0) (o : Run) where
   -- A block read, whose words ws lie in the stretch.

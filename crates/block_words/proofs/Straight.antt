@@ -22,11 +22,11 @@ use Rattle.port.specs.Runs.{Machine, machine, words-in, answers, ends}
 use Rattle.port.specs.Table.{Memory, stands, reading, on-by, table, Lies, given}
 use Rattle.port.proofs.Handed.{on-by-gains, reads-answer, reads-end}
 use Rattle.port.proofs.TableWords.{table-handed}
-use Rattle.block.specs.Block.{counted, hollows-in}
-use Rattle.block.specs.Parts.{straight-reads, straight-writes, stepped-by, ReadInto, WrittenFrom}
-use Rattle.block.proofs.HandedOut.{all-held}
-use Rattle.block.proofs.Joining.{join-reads, join-writes}
-use Rattle.block.proofs.OneAccess.{one-read, one-write}
+use Rattle.block_words.specs.Block.{counted, hollows-in}
+use Rattle.block_words.specs.Parts.{straight-reads, straight-writes, stepped-by, ReadInto, WrittenFrom}
+use Rattle.block_words.proofs.HandedOut.{all-held}
+use Rattle.block_words.proofs.Joining.{join-reads, join-writes}
+use Rattle.block_words.proofs.OneAccess.{one-read, one-write}
 
 -- ---- how many there are
 -- n accesses of a block go straight: they step, and from word `first` on there are n words in memory.

@@ -1,4 +1,4 @@
--- The laws of blocks, in reading order. Proofs of single functions are in the folders beside them.
+-- The laws of blocks, in reading order.
 -- ---- accepted and refused; demand 1
 pub mod Numbers
 pub mod One

@@ -7,7 +7,7 @@ use mathlib.Core.List.{List, [], _++_, append-nil}
 use lib.ListN.{length, getD, take, drop, length-append, length-take, length-drop, drop-of-length-le, List·getD-append}
 use lib.Seq.{length-take-le, take-at, drop-at, take-all, getD-append-add, getD-drop, getD-take}
 use borrow.Rule.Slice.PartMut.{putMid, postOf, post-is}
-use Rattle.block.specs.Block.{stretch, with-stretch}
+use Rattle.block_words.specs.Block.{stretch, with-stretch}
 
 -- The n places from a on, lent.
 pub part-length : (a n : ℕ) (l : List ℕ) → a + n ≤ length l → length (take (a + n - a) (drop a l)) ≡ n

@@ -9,9 +9,9 @@ use Rattle.words.proofs.Choices.{same-or-not}
 use Rattle.registers.specs.declared.Registers.{Registers}
 use Rattle.port.specs.Runs.{answers, ends}
 use Rattle.port.specs.Table.{reading}
-use Rattle.block.specs.Block.{block-number, tally, block-read, list-after, block-write, memory-left}
-use Rattle.block.proofs.Numbers.{read-taken, list-taken, write-taken, memory-taken}
-use Rattle.block.proofs.Numbers.{read-barred, list-barred, write-barred, memory-barred}
+use Rattle.block_words.specs.Block.{block-number, tally, block-read, list-after, block-write, memory-left}
+use Rattle.block_words.proofs.Numbers.{read-taken, list-taken, write-taken, memory-taken}
+use Rattle.block_words.proofs.Numbers.{read-barred, list-barred, write-barred, memory-barred}
 
 module _ (r : Registers) (m l : List ℕ) (place : ℕ) where
   abbrev number : ℕ

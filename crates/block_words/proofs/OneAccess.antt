@@ -26,8 +26,8 @@ use Rattle.port.proofs.Numbers.{numbered}
 use Rattle.port.proofs.NoMiss.{rule, true-mark}
 use Rattle.port.proofs.Leaves.{after-storing}
 use Rattle.port.proofs.DataRegister.{read-fetches, write-stores, write-steps}
-use Rattle.block.specs.Block.{counted, tally, is-empty}
-use Rattle.block.specs.Parts.{ReadInto, WrittenFrom}
+use Rattle.block_words.specs.Block.{counted, tally, is-empty}
+use Rattle.block_words.specs.Parts.{ReadInto, WrittenFrom}
 
 module _ (r : Registers) (m : List ℕ) (few : length m ≤ 32768) where
   -- ---- a read

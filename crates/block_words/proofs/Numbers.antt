@@ -13,10 +13,10 @@ use Rattle.words.proofs.Choices.{same-or-not}
 use Rattle.registers.specs.declared.Registers.{Registers}
 use Rattle.port.specs.Runs.{machine, words-in, Sixteen, answers, ends}
 use Rattle.port.specs.Table.{reading}
-use Rattle.block.specs.Block.{block-refusal, block-number, stretch, with-stretch, writing, hollows-in, empties-in}
-use Rattle.block.specs.Block.{block-read, list-after, block-write, memory-left}
-use Rattle.block.specs.declared.BlockRead.{BlockRead}
-use Rattle.block.specs.declared.BlockWrite.{BlockWrite}
+use Rattle.block_words.specs.Block.{block-refusal, block-number, stretch, with-stretch, writing, hollows-in, empties-in}
+use Rattle.block_words.specs.Block.{block-read, list-after, block-write, memory-left}
+use Rattle.block_words.specs.declared.BlockRead.{BlockRead}
+use Rattle.block_words.specs.declared.BlockWrite.{BlockWrite}
 
 -- v is the number for a memory of so many words, a list of so many places, a place and a count
 pub record When (words room place count v : ℕ) : Type 0 where

@@ -15,13 +15,13 @@ use Rattle.control.specs.Control.{incr, incw}
 use Rattle.registers.specs.declared.Registers.{Registers}
 use Rattle.port.specs.Table.{Memory, loaded, table, Lies}
 use Rattle.port.specs.Runs.{machine}
-use Rattle.block.specs.Block.{block-number, stretch, with-stretch, block-write, memory-left, block-read, list-after}
-use Rattle.block.specs.Parts.{stepped-by, WrittenFrom}
-use Rattle.block.specs.declared.BlockWrite.{BlockWrite}
-use Rattle.block.proofs.Numbers.{when, write-taken, memory-taken}
-use Rattle.block.proofs.Lent.{laid-length, laid-inside, laid-stretch, laid-before, laid-behind}
-use Rattle.block.proofs.Straight.{wrote, copied-write}
-use Rattle.block.proofs.EveryWordOfABlock.{every-word-of-a-block}
+use Rattle.block_words.specs.Block.{block-number, stretch, with-stretch, block-write, memory-left, block-read, list-after}
+use Rattle.block_words.specs.Parts.{stepped-by, WrittenFrom}
+use Rattle.block_words.specs.declared.BlockWrite.{BlockWrite}
+use Rattle.block_words.proofs.Numbers.{when, write-taken, memory-taken}
+use Rattle.block_words.proofs.Lent.{laid-length, laid-inside, laid-stretch, laid-before, laid-behind}
+use Rattle.block_words.proofs.Straight.{wrote, copied-write}
+use Rattle.block_words.proofs.EveryWordOfABlock.{every-word-of-a-block}
 
 -- A block write with INCW set, of n words, one or more, that find room in memory from the pointer's word on: it is done, no store
 -- falls empty, the words lie there, all else of memory stays, the control register stays, and the pointer stands just past them.

@@ -11,7 +11,7 @@ use Rattle.port.specs.Runs.{Machine, answer-of, ends}
 use Rattle.port.specs.Table.{reading}
 use Rattle.port.specs.declared.Access.the-variants.{Read, Write}
 use Rattle.port.specs.declared.Answer.{Answer}
-use Rattle.block.specs.Block.{writing, counted}
+use Rattle.block_words.specs.Block.{writing, counted}
 
 -- after the k reads before it, one by one
 abbrev pub kth-read : Machine → ℕ → Answer

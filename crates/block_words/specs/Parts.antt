@@ -12,8 +12,8 @@ use Rattle.control.specs.Control.{incr, incw}
 use Rattle.registers.specs.declared.Registers.{Registers}
 use Rattle.port.specs.Runs.{Machine, words-in, answers, ends}
 use Rattle.port.specs.Table.{reading}
-use Rattle.block.specs.Block.{writing, hollows-in, empties-in}
-use Rattle.block.specs.declared.Run.{Run}
+use Rattle.block_words.specs.Block.{writing, hollows-in, empties-in}
+use Rattle.block_words.specs.declared.Run.{Run}
 
 -- a read fetches the word after the pointer's
 unfoldable pub straight-reads : Registers → ℕ → ℕ → ℕ

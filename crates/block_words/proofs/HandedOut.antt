@@ -9,7 +9,7 @@ use lib.ListN.{replicate}
 use Rattle.port.specs.Table.{Given, given, held, filler}
 use Rattle.port.specs.declared.Answer.{Answer}
 use Rattle.port.specs.Runs.{words-in}
-use Rattle.block.specs.Block.{counted, tally, hollows-in}
+use Rattle.block_words.specs.Block.{counted, tally, hollows-in}
 
 words-given : (xs : List Answer) → words-in xs ≡ map (λ (g : Given). g .word) (map given xs)
 words-given [] = refl

@@ -14,12 +14,12 @@ use Rattle.port.specs.Runs.{Machine, machine, words-in, answers}
 use Rattle.port.specs.Table.{Memory, loaded, reading, table, Lies, given}
 use Rattle.port.proofs.Handed.{loads}
 use Rattle.port.proofs.EveryWord.{every-word, then-hollow, only-hollow}
-use Rattle.block.specs.Block.{stretch, hollows-in, block-read, list-after}
-use Rattle.block.specs.InPlainWords.{Fits}
-use Rattle.block.specs.declared.BlockRead.{BlockRead}
-use Rattle.block.proofs.Numbers.{when, read-taken, list-taken}
-use Rattle.block.proofs.Lent.{laid-stretch}
-use Rattle.block.proofs.HandedOut.{held-then-hollow, all-held}
+use Rattle.block_words.specs.Block.{stretch, hollows-in, block-read, list-after}
+use Rattle.block_words.specs.InPlainWords.{Fits}
+use Rattle.block_words.specs.declared.BlockRead.{BlockRead}
+use Rattle.block_words.proofs.Numbers.{when, read-taken, list-taken}
+use Rattle.block_words.proofs.Lent.{laid-stretch}
+use Rattle.block_words.proofs.HandedOut.{held-then-hollow, all-held}
 use Rattle.port.proofs.Joined.{filled-length}
 
 -- Load the pointer at a table of n words that lies in memory, with INCR set, and read a block of n: it is done, every word of the

@@ -6,11 +6,11 @@ use mathlib.Core.List.{List}
 use Rattle.words.proofs.One.{one-value}
 use Rattle.registers.specs.declared.Registers.{Registers}
 use Rattle.port.specs.Runs.{Machine}
-use Rattle.block.specs.Block.{ReadBlock, WrittenBlock}
-use Rattle.block.specs.Parts.{ReadInto, WrittenFrom}
-use Rattle.block.specs.declared.Run.{Run}
-use Rattle.block.specs.declared.BlockRead.{BlockRead}
-use Rattle.block.specs.declared.BlockWrite.{BlockWrite}
+use Rattle.block_words.specs.Block.{ReadBlock, WrittenBlock}
+use Rattle.block_words.specs.Parts.{ReadInto, WrittenFrom}
+use Rattle.block_words.specs.declared.Run.{Run}
+use Rattle.block_words.specs.declared.BlockRead.{BlockRead}
+use Rattle.block_words.specs.declared.BlockWrite.{BlockWrite}
 
 -- the two fields of what some accesses leave
 one-run : {o p : Run} → o .registers ≡ p .registers → o .marked ≡ p .marked → o ≡ p
