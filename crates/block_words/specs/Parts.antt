@@ -1,4 +1,4 @@
--- The parts of a block that is not refused: what the private functions state.
+-- The parts of a block that is not refused: what the private functions of crate `block` state.
 --   straight-reads, straight-writes   how many accesses step from word to word inside memory
 --   stepped-by n a                    the bit address n steps on
 --   ReadInto, WrittenFrom             what reads leave, with the part of the list that they fill; what writes leave, with the memory
