@@ -8,14 +8,14 @@ use borrow.Author.Tests.{eq-eqb, ne-eqb}
 use Rattle.port.specs.Host.{begin-access}
 use Rattle.port.specs.declared.Access.{Access}
 use Rattle.port.proofs.Taken.{taken, taken-memory}
-use Rattle.door.specs.Bytes.{words-of}
-use Rattle.door.specs.Image.{registers-of}
-use Rattle.door.specs.Answer.{packed, refusing}
-use Rattle.door.specs.Door.{call-number, call-tells, call-image, call-memory, Called}
+use Rattle.door_bytes.specs.Bytes.{words-of}
+use Rattle.door_bytes.specs.Image.{registers-of}
+use Rattle.door_bytes.specs.Answer.{packed, refusing}
+use Rattle.door_bytes.specs.Door.{call-number, call-tells, call-image, call-memory, Called}
+use Rattle.door_bytes.specs.InPlainWords.{AreBytes, Fitting}
+use Rattle.door_bytes.proofs.Numbers.{numbered, fit-number}
 use Rattle.door.specs.Parts.{Closed}
-use Rattle.door.specs.InPlainWords.{AreBytes, Fitting}
 use Rattle.door.proofs.CycleOverBytes.{cycled-bytes}
-use Rattle.door.proofs.Numbers.{numbered, fit-number}
 
 module _ (image memory : List ℕ) (a : Access) where
   -- A call that is refused leaves what its statement says by leaving all as it stood.

@@ -1,9 +1,9 @@
 -- A cycle over lent bytes leaves the bytes of the words that the cycle leaves, so one word's two bytes are all that need be touched.
 -- By cases on the cycle; a store's by whether its word is in memory.
-use Prim.Native.Nat.{ℕ, _%_}
-use mathlib.Core.Path.{_≡_, sym, ap, _∙_}
+use Prim.Native.Nat.{ℕ, zero, suc, _%_}
+use mathlib.Core.Path.{_≡_, refl, sym, ap, _∙_}
 use mathlib.Core.Bool.{Bool, true, false, cond}
-use mathlib.Core.List.{List}
+use mathlib.Core.List.{List, [], _∷_}
 use lib.ListN.{length, set}
 use Rattle.words.specs.Memory.{in-memory, store-at}
 use Rattle.words.specs.declared.WordNumber.{WordNumber}
@@ -11,10 +11,17 @@ use Rattle.registers.specs.declared.Registers.{Registers}
 use Rattle.port.specs.Cycle.{memory-after}
 use Rattle.port.specs.declared.Due.{Due}
 use Rattle.port.specs.declared.Due.the-variants.{Nothing, Fetch, Store}
-use Rattle.door.specs.Bytes.{words-of, bytes-of}
+use Rattle.door_bytes.specs.Bytes.{words-of, bytes-of}
+use Rattle.door_bytes.specs.InPlainWords.{AreBytes}
+use Rattle.door_bytes.proofs.WordsAndBytes.{twice, twice-one, bytes-of-words}
 use Rattle.door.specs.Parts.{put-word, store-bytes, bytes-after}
-use Rattle.door.specs.InPlainWords.{AreBytes}
-use Rattle.door.proofs.WordsAndBytes.{bytes-of-words, bytes-of-set}
+
+-- A word stored is its two bytes stored.
+pub bytes-of-set : (m : List ℕ) (n w : ℕ) → bytes-of (set m n w) ≡ put-word (bytes-of m) n w
+unfolding bytes-of
+bytes-of-set [] n w = refl
+bytes-of-set (v ∷ rest) zero w = refl
+bytes-of-set (v ∷ rest) (suc n) w = rw (twice-one, twice, bytes-of-set rest n w)
 
 module _ (b : List ℕ) (even : length b % 2 ≡ 0) (s : AreBytes b) where
   -- A store of two bytes leaves the bytes of the words with one word stored.

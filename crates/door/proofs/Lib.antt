@@ -1,17 +1,5 @@
--- The laws of the C door, in reading order. Proofs of single functions are in the folders beside them.
--- ---- lent bytes, and the register image
-pub mod WordsAndBytes
-pub mod ImageAndRecord
--- ---- demand 1
-pub mod Numbers
-pub mod Refusals
-pub mod Packed
+-- What both calls of the C door rest on. The laws of what they answer and leave are crate `door_bytes`; proofs of single functions are
+-- in the folders beside these.
 pub mod One
--- ---- what both calls rest on
 pub mod CycleOverBytes
 pub mod Calls
--- ---- a call is the access by value
-pub mod AsByValue
-pub mod TwoBytes
--- ---- demand 3: bytes and words end alike
-pub mod ByBytes

@@ -7,18 +7,10 @@ use mathlib.Core.List.{List}
 use Rattle.words.specs.declared.WordNumber.{WordNumber}
 use Rattle.words.proofs.One.{one-value}
 use Rattle.registers.specs.declared.Registers.{Registers}
-use Rattle.port.specs.declared.Access.{Access}
 use Rattle.port.specs.declared.Due.{Due}
 use Rattle.port.specs.declared.Begun.{Begun}
 use Rattle.port.specs.declared.Carried.{Carried}
-use Rattle.door.specs.Door.{Called}
 use Rattle.door.specs.Parts.{StoredBytes, CycledBytes, Closed}
-
--- A call has one outcome.
-pub one-called : {image memory : List ℕ} {a : Access} {x y : ℕ} {i j m n : List ℕ} →
-    Called image memory a x i m → Called image memory a y j n → (x ≡ y) × (i ≡ j) × (m ≡ n)
-one-called p q =
-    (one-value (p .answered) (q .answered), one-value (p .image-left) (q .image-left), one-value (p .memory-left) (q .memory-left))
 
 -- A store over bytes has one outcome.
 pub one-stored : {b b′ b″ : List ℕ} {n : WordNumber} {w : ℕ} {i j : Bool} →

@@ -20,9 +20,9 @@ use Rattle.port.specs.declared.Due.{Due}
 use Rattle.port.specs.declared.Due.the-variants.{Nothing, Fetch, Store}
 use Rattle.port.specs.declared.Begun.{Begun}
 use Rattle.port.specs.declared.Carried.{Carried}
-use Rattle.door.specs.Bytes.{words-of}
-use Rattle.door.specs.Image.{image-of}
-use Rattle.door.specs.Answer.{packed}
+use Rattle.door_bytes.specs.Bytes.{words-of}
+use Rattle.door_bytes.specs.Image.{image-of}
+use Rattle.door_bytes.specs.Answer.{packed}
 
 -- "memory two bytes a word, low first"
 abbrev pub put-word : List ℕ → ℕ → ℕ → List ℕ

@@ -2,7 +2,7 @@
 ghost use mathlib.Core.Path.{_≡_};
 ghost use Prim.Native.Nat.{_≤_};
 ghost use mathlib.Core.Bool.{cond};
-ghost use Rattle.door.specs.Answer.{cycle-number, packed, refusing};
+ghost use Rattle.door_bytes.specs.Answer.{cycle-number, packed, refusing};
 use port::Answer;
 use port::Cycle;
 

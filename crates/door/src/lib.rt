@@ -1,5 +1,5 @@
 // The C door: single accesses by the host, on a register image and a memory that are lent as bytes.
-// Document 01, "Blocks and the two doors".
+// Document 01, "Blocks and the two doors". What the bytes stand for, and the laws of a call, are crate `door_bytes`; here is the code.
 //
 // A call answers one number of 64 bits: bits 0-15 are the word, 16-23 the number, bit 24 the hollow mark, bits 25-26
 // the cycle (0 none, 1 inside, 2 empty); the others are 0. Bits 32-59 are kept free for a word number.
@@ -13,7 +13,7 @@ mod memory;
 ghost use mathlib.Core.Path.{_≡_};
 ghost use lib.ListN.{length};
 ghost use Rattle.port.specs.declared.Access.the-variants.{Read, Write};
-ghost use Rattle.door.specs.Door.{misfit, call-number, Called};
+ghost use Rattle.door_bytes.specs.Door.{misfit, call-number, Called};
 ghost use Rattle.door.specs.Parts.{Closed};
 use answer::pack;
 use answer::refuse;

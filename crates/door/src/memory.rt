@@ -1,7 +1,7 @@
 // The memory cycle over lent bytes: the two bytes of its word are read or written, and no others.
 ghost use mathlib.Core.Path.{_≡_};
 ghost use Rattle.words.specs.Memory.{fetch-at};
-ghost use Rattle.door.specs.Bytes.{words-of};
+ghost use Rattle.door_bytes.specs.Bytes.{words-of};
 ghost use Rattle.door.specs.Parts.{StoredBytes, CycledBytes};
 use crate::image::join_bytes;
 use host::settle_fetch;

@@ -33,9 +33,9 @@ use Rattle.fields.specs.Answers.{taken, taken-signed, put-answer, put-memory}
 use Rattle.fields.specs.declared.Taken.{Taken}
 use Rattle.fields.specs.declared.SignedTaken.{SignedTaken}
 use Rattle.fields.specs.declared.Put.{Put}
-use Rattle.block.specs.Block.{block-read, block-write, memory-left, list-after as read-list}
-use Rattle.block.specs.declared.BlockRead.{BlockRead}
-use Rattle.block.specs.declared.BlockWrite.{BlockWrite}
+use Rattle.block_words.specs.Block.{block-read, block-write, memory-left, list-after as read-list}
+use Rattle.block_words.specs.declared.BlockRead.{BlockRead}
+use Rattle.block_words.specs.declared.BlockWrite.{BlockWrite}
 use Rattle.script.specs.Script.{host-letter, processor-letter, field-letter, bus-letter, whole-letter, plain-letter}
 use Rattle.script.specs.Answers.{counted}
 use Rattle.script.specs.declared.Call.{Call}

@@ -14,10 +14,10 @@ use Rattle.port.specs.Deeds.{ahead}
 use Rattle.port.specs.Runs.{machine, answers, ends}
 use Rattle.port.specs.Table.{Memory, reading}
 use Rattle.port.proofs.Handed.{shows-word}
-use Rattle.block.specs.Block.{counted, tally}
-use Rattle.block.specs.Parts.{ReadInto}
-use Rattle.block.proofs.Joining.{join-reads, few-hollows}
-use Rattle.block.proofs.OneAccess.{one-read}
+use Rattle.block_words.specs.Block.{counted, tally}
+use Rattle.block_words.specs.Parts.{ReadInto}
+use Rattle.block_words.proofs.Joining.{join-reads, few-hollows}
+use Rattle.block_words.proofs.OneAccess.{one-read}
 use mathlib.Core.Logic.{⊎-elim}
 use mathlib.Core.Bool.{Bool, true, false}
 use Rattle.port.specs.Cycle.{stepped}

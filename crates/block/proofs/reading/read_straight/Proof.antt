@@ -8,8 +8,8 @@ use lib.ListN.{length}
 use Rattle.words.specs.Addresses.{word-at}
 use Rattle.words.specs.declared.WordNumber.{WordNumber}
 use Rattle.port.specs.Table.{Memory}
-use Rattle.block.proofs.Lent.{part-length, part-is}
-use Rattle.block.proofs.Straight.{copied-read}
+use Rattle.block_words.proofs.Lent.{part-length, part-is}
+use Rattle.block_words.proofs.Straight.{copied-read}
 use Rattle.block.proofs.reading.read_straight.Statement.{statement}
 use Rattle.block.proofs.reading.read_straight.Tie as tie
 

@@ -8,10 +8,10 @@ use lib.ListN.{length}
 use Rattle.words.specs.Addresses.{word-at}
 use Rattle.control.specs.Control.{incr}
 use Rattle.port.specs.Runs.{machine}
-use Rattle.block.specs.Parts.{ReadInto}
-use Rattle.block.proofs.Joining.{few-hollows, read-length, join-reads}
-use Rattle.block.proofs.Lent.{between, first-length, rest-starts, rest-length, both-back}
-use Rattle.block.proofs.Straight.{Straight, reads-go-straight}
+use Rattle.block_words.specs.Parts.{ReadInto}
+use Rattle.block_words.proofs.Joining.{few-hollows, read-length, join-reads}
+use Rattle.block_words.proofs.Lent.{between, first-length, rest-starts, rest-length, both-back}
+use Rattle.block_words.proofs.Straight.{Straight, reads-go-straight}
 use Rattle.block.proofs.reading.read_words.Statement.{statement}
 use Rattle.block.proofs.reading.read_words.Tie as tie
 

@@ -17,10 +17,10 @@ use Rattle.registers.specs.Registers.{with-latch}
 use Rattle.registers.specs.declared.Registers.{Registers}
 use Rattle.port.specs.Cycle.{stepped}
 use Rattle.port.specs.Runs.{machine, answers, ends}
-use Rattle.block.specs.Block.{counted, tally}
-use Rattle.block.specs.Parts.{WrittenFrom}
-use Rattle.block.proofs.Joining.{join-writes, few-empties}
-use Rattle.block.proofs.OneAccess.{one-write}
+use Rattle.block_words.specs.Block.{counted, tally}
+use Rattle.block_words.specs.Parts.{WrittenFrom}
+use Rattle.block_words.proofs.Joining.{join-writes, few-empties}
+use Rattle.block_words.proofs.OneAccess.{one-write}
 use Rattle.block.proofs.writing.write_singly.Statement.{statement}
 use Rattle.block.proofs.writing.write_singly.Tie as tie
 

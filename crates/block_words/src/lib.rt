@@ -1,0 +1,24 @@
+// Blocks: a count of two-lane reads of HSTDATA into a stretch of the caller's list, or of writes from one.
+// Document 01, "Blocks and the two doors". Here stand the types, what a block means (specs/) and the laws of that (proofs/); the code is
+// crate `block`.
+use registers::Registers;
+
+// What a block read leaves, besides the list. `hollows` counts the hollow words handed out.
+pub struct BlockRead {
+    pub number: u8,
+    pub hollows: u16,
+    pub registers: Registers,
+}
+
+// What a block write leaves, besides the memory. `empties` counts the stores that fell empty.
+pub struct BlockWrite {
+    pub number: u8,
+    pub empties: u16,
+    pub registers: Registers,
+}
+
+// What some accesses of a block leave: the registers, and how many of their answers bear the mark that is counted.
+pub struct Run {
+    pub registers: Registers,
+    pub marked: u16,
+}
