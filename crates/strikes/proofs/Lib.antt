@@ -1,0 +1,11 @@
+-- Laws that the code of a sheet is proved by. Proofs of single functions are in the folders beside them.
+-- ---- what is judged
+pub mod InRange
+pub mod RisingTicks
+-- ---- what is read
+pub mod OneAccess
+pub mod Loading
+pub mod ReadingOn
+pub mod LentFront
+-- ---- what a sheet leaves
+pub mod TicksTaken

@@ -1,57 +1,86 @@
+-- `strikes::judging::are_rising` meets its contract: before place k all the ticks rise if those from the place before it on do.
+use Prim.Native.Nat.{ℕ, _+_, _-_, _≤_, _<_}
+use native.Mathlib.Omega.{arith}
+use mathlib.Core.Path.{_≡_, refl, sym, ap, _∙_}
+use mathlib.Core.Bool.{true, false}
+use mathlib.Core.List.{List}
+use lib.ListN.{length, drop, getD}
+use borrow.Author.Tests.{lt-ltb, le-ltb}
+use Rattle.sheet.specs.Reading.{rising}
+use Rattle.strikes.proofs.RisingTicks.{rising-from, rising-last}
 use Rattle.strikes.proofs.judging.are_rising.Statement.{statement}
 use Rattle.strikes.proofs.judging.are_rising.Tie as tie
-use Rattle.strikes.proofs.judging.are_rising.Reads as reads
-use Rattle.strikes.proofs.judging.are_rising.Lts as lts
+
+record Judging (ticks : List ℕ) (k : ℕ) : Type 0 where
+  some : 1 ≤ k
+  same : rising ticks ≡ rising (drop (k - 1) ticks)
+
+module _ (ticks : List ℕ) (k : ℕ) (j : Judging ticks k) where
+  back : k - 1 + 1 ≡ k
+  back = omega (arith, j .some)
+
+  abbrev before : ℕ
+  before = getD ticks (k - 1) 0
+
+  abbrev here : ℕ
+  here = getD ticks k 0
+
+  module _ (more : k < length ticks) where
+    -- the tick at k lies after the one before it, and the rest is judged from there on
+    went-on : before < here → Judging ticks (k + 1)
+    went-on h =
+        let from = rw (back, lt-ltb before here h) at (rising-from ticks (k - 1) (omega (arith, j .some))) in
+        let place : k ≡ k + 1 - 1 = omega arith in
+        record { some = omega arith; same = j .same ∙ from ∙ ap (λ (n : ℕ). rising (drop n ticks)) place }
+
+    -- it does not
+    fell : here ≤ before → false ≡ rising ticks
+    fell h =
+        let from = rw (back, le-ltb before here h) at (rising-from ticks (k - 1) (omega (arith, j .some))) in
+        sym (j .same ∙ from)
+
+  -- all are judged
+  ended : length ticks ≤ k → true ≡ rising ticks
+  ended h = sym (j .same ∙ rising-last ticks (k - 1) (omega (arith, back)))
 
 abbrev Inv-loop : tie.InvT-loop
-Inv-loop ticks k₀ k = ?
+Inv-loop ticks k₀ k = Judging ticks k
 
 abbrev μ-loop : tie.MeasureT-loop
-μ-loop ticks k₀ k = ?
+μ-loop ticks k₀ k = length ticks - k
 
--- src/judging.rt:67:5
 loop-holds : tie.Need-loop-holds Inv-loop μ-loop
-loop-holds c = ?
+loop-holds c = record { some = omega arith; same = refl }
 
--- src/judging.rt:68:12
 mul-if1 : tie.Need-mul-if1 Inv-loop μ-loop
-mul-if1 c = ?
+mul-if1 c = omega arith
 
--- src/judging.rt:68:12
 shared-slice-read-if1 : tie.Need-shared-slice-read-if1 Inv-loop μ-loop
-shared-slice-read-if1 c = ?
+shared-slice-read-if1 c = omega arith
 
--- src/judging.rt:68:30
 sub-if1 : tie.Need-sub-if1 Inv-loop μ-loop
-sub-if1 c = ?
+sub-if1 c = omega (arith, c .before .before .loop .inv .some)
 
--- src/judging.rt:68:24
 mul-if1-2 : tie.Need-mul-if1-2 Inv-loop μ-loop
-mul-if1-2 c = ?
+mul-if1-2 c = omega arith
 
--- src/judging.rt:68:24
 shared-slice-read-if1-2 : tie.Need-shared-slice-read-if1-2 Inv-loop μ-loop
-shared-slice-read-if1-2 c = ?
+shared-slice-read-if1-2 c = omega arith
 
--- src/judging.rt:69:13
 returns : tie.Need-returns Inv-loop μ-loop
-returns c = ?
+returns c = fell _ _ (c .before .before .before .before .loop .inv) (c .before .before .before .loop-test .taken) (c .if1 .taken)
 
--- src/judging.rt:71:9
 add-k : tie.Need-add-k Inv-loop μ-loop
-add-k c = ?
+add-k c = omega arith
 
--- src/judging.rt:67:5
 loop-less : tie.Need-loop-less Inv-loop μ-loop
-loop-less c = ?
+loop-less c = omega arith
 
--- src/judging.rt:67:5
 loop-again : tie.Need-loop-again Inv-loop μ-loop
-loop-again c = ?
+loop-again c = went-on _ _ (c .before .before .before .before .loop .inv) (c .before .before .before .loop-test .taken) (omega (arith, c .if1 .left))
 
--- src/judging.rt:63:1
 returns-2 : tie.Need-returns-2 Inv-loop μ-loop
-returns-2 c = ?
+returns-2 c = ended _ _ (c .before .loop .inv) (c .loop-test .left)
 
 pub are-rising-spec : {M : Type 1} → statement M
 are-rising-spec =

@@ -1,52 +1,65 @@
+-- `strikes::judging::number_before` meets its contract: the tests are the definition's, in its order.
 use borrow.Author.Needs.{needs}
+use borrow.Author.Tests.{lt-ltb, le-ltb}
+use mathlib.Core.Path.{sym, _∙_}
+use Rattle.sheet.specs.Sheet.{refusal-before}
 use Rattle.strikes.proofs.judging.number_before.Statement.{statement}
 use Rattle.strikes.proofs.judging.number_before.Tie as tie
-use Rattle.strikes.proofs.judging.number_before.Reads as reads
-use Rattle.strikes.proofs.judging.number_before.Lts as lts
-use Rattle.control.proofs.steps_reading.Reads as steps-reading-reads
-use Rattle.strikes.proofs.judging.count_strokes.Reads as count-strokes-reads
-use Rattle.strikes.proofs.judging.is_out_of_range.Reads as is-out-of-range-reads
-use Rattle.words.proofs.is_over_limit.Reads as is-over-limit-reads
 
--- src/judging.rt:34:8
 is-over-limit-requires : tie.Need-is-over-limit-requires
-is-over-limit-requires c κs = search needs
+is-over-limit-requires c κs = tt
 
--- src/judging.rt:35:9
 returns : tie.Need-returns
-returns c = ?
+unfolding refusal-before
+returns c = rw (sym (c .before .is-over-limit .ensures) ∙ c .if1 .taken)
 
--- src/judging.rt:37:8
 is-out-of-range-requires : tie.Need-is-out-of-range-requires
-is-out-of-range-requires c κs = search needs
+is-out-of-range-requires c κs = tt
 
--- src/judging.rt:38:9
 returns-2 : tie.Need-returns-2
-returns-2 c = ?
+unfolding refusal-before
+returns-2 c = rw (sym (c .before .before .before .is-over-limit .ensures) ∙ c .before .before .if1 .left, sym (c .before .is-out-of-range .ensures) ∙ c .if2 .taken)
 
--- src/judging.rt:40:15
 count-strokes-requires : tie.Need-count-strokes-requires
-count-strokes-requires c κs = ?
+count-strokes-requires c κs = sym (c .before .is-out-of-range .ensures) ∙ c .if2 .left
 
--- src/judging.rt:40:15
 cast-if3 : tie.Need-cast-if3
 cast-if3 c = search needs
 
--- src/judging.rt:41:9
 returns-3 : tie.Need-returns-3
-returns-3 c = ?
+unfolding refusal-before
+returns-3 c =
+    let short = rw (c .before .count-strokes .ensures .0) at (c .if3 .taken) in
+    rw (
+      sym (c .before .before .before .before .before .is-over-limit .ensures) ∙ c .before .before .before .before .if1 .left,
+      sym (c .before .before .before .is-out-of-range .ensures) ∙ c .before .before .if2 .left,
+      lt-ltb _ _ short,
+    )
 
--- src/judging.rt:43:8
 steps-reading-requires : tie.Need-steps-reading-requires
-steps-reading-requires c κs = search needs
+steps-reading-requires c κs = tt
 
--- src/judging.rt:44:9
 returns-4 : tie.Need-returns-4
-returns-4 c = ?
+unfolding refusal-before
+returns-4 c =
+    let room = rw (c .before .before .before .count-strokes .ensures .0) at (c .before .before .if3 .left) in
+    rw (
+      sym (c .before .before .before .before .before .before .before .is-over-limit .ensures) ∙ c .before .before .before .before .before .before .if1 .left,
+      sym (c .before .before .before .before .before .is-out-of-range .ensures) ∙ c .before .before .before .before .if2 .left,
+      le-ltb _ _ room,
+      sym (c .before .steps-reading .ensures) ∙ c .if4 .taken,
+    )
 
--- src/judging.rt:31:1
 returns-5 : tie.Need-returns-5
-returns-5 c = ?
+unfolding refusal-before
+returns-5 c =
+    let room = rw (c .before .before .before .count-strokes .ensures .0) at (c .before .before .if3 .left) in
+    rw (
+      sym (c .before .before .before .before .before .before .before .is-over-limit .ensures) ∙ c .before .before .before .before .before .before .if1 .left,
+      sym (c .before .before .before .before .before .is-out-of-range .ensures) ∙ c .before .before .before .before .if2 .left,
+      le-ltb _ _ room,
+      sym (c .before .steps-reading .ensures) ∙ c .if4 .left,
+    )
 
 pub number-before-spec : {M : Type 1} → statement M
 number-before-spec =

@@ -1,19 +1,20 @@
+-- `strikes::judging::number_of_count` meets its contract: the tests are the definition's, in its order.
+use borrow.Author.Tests.{eq-eqb, ne-eqb}
+use Rattle.sheet.specs.Sheet.{count-refusal}
 use Rattle.strikes.proofs.judging.number_of_count.Statement.{statement}
 use Rattle.strikes.proofs.judging.number_of_count.Tie as tie
-use Rattle.strikes.proofs.judging.number_of_count.Reads as reads
-use Rattle.strikes.proofs.judging.number_of_count.Lts as lts
 
--- src/judging.rt:54:9
 returns : tie.Need-returns
-returns c = ?
+unfolding count-refusal
+returns c = rw (c .if1 .taken)
 
--- src/judging.rt:57:9
 returns-2 : tie.Need-returns-2
-returns-2 c = ?
+unfolding count-refusal
+returns-2 c = rw (c .before .if1 .left, eq-eqb _ _ (c .if2 .taken))
 
--- src/judging.rt:50:1
 returns-3 : tie.Need-returns-3
-returns-3 c = ?
+unfolding count-refusal
+returns-3 c = rw (c .before .if1 .left, ne-eqb _ _ (c .if2 .left))
 
 pub number-of-count-spec : {M : Type 1} → statement M
 number-of-count-spec = tie.close (tie.spec returns returns-2 returns-3)

@@ -1,54 +1,48 @@
+-- `strikes::reading::load_pointer` meets its contract: two writes, in the order that LBL commands.
+use native.Mathlib.Omega.{arith}
+use mathlib.Core.Path.{sym, _∙_}
 use borrow.Author.Needs.{needs}
+use Rattle.port.specs.Runs.{machine}
+use Rattle.strikes.proofs.Loading.{low-last, high-last}
 use Rattle.strikes.proofs.reading.load_pointer.Statement.{statement}
 use Rattle.strikes.proofs.reading.load_pointer.Tie as tie
-use Rattle.strikes.proofs.reading.load_pointer.Reads as reads
-use Rattle.strikes.proofs.reading.load_pointer.Lts as lts
-use Rattle.control.proofs.fetches_by.Reads as fetches-by-reads
-use Rattle.strikes.proofs.reading.write_half.Reads as write-half-reads
 
--- src/reading.rt:37:15
 cast-low : tie.Need-cast-low
 cast-low c = search needs
 
--- src/reading.rt:38:16
 cast-high : tie.Need-cast-high
 cast-high c = search needs
 
--- src/reading.rt:39:8
 fetches-by-requires : tie.Need-fetches-by-requires
-fetches-by-requires c κs = search needs
+fetches-by-requires c κs = tt
 
--- src/reading.rt:40:13
 write-half-requires : tie.Need-write-half-requires
-write-half-requires c κs = search needs
+write-half-requires c κs = tt
 
--- src/reading.rt:41:9
 write-half-requires-2 : tie.Need-write-half-requires-2
-write-half-requires-2 c κs = search needs
+write-half-requires-2 c κs = tt
 
--- src/reading.rt:41:9
 same-length : tie.Need-same-length
 same-length c = search needs
 
--- src/reading.rt:41:9
 returns : tie.Need-returns
-returns c = ?
+returns c =
+    low-last (machine (c .before .before .before .before .before .before .before .before .before .before .before .before .before .args .r) (c .before .before .before .before .before .before .before .before .before .before .before .before .before .args .memory .now)) (c .before .before .before .before .before .before .before .before .before .before .before .before .before .args .a) (omega arith)
+    (sym (c .before .before .before .before .before .before .before .before .before .fetches-by .ensures) ∙ c .before .before .before .before .before .before .before .before .if1 .taken) (c .before .before .before .before .before .before .write-half .ensures) (c .before .before .write-half2 .ensures)
 
--- src/reading.rt:43:9
 write-half-requires-3 : tie.Need-write-half-requires-3
-write-half-requires-3 c κs = search needs
+write-half-requires-3 c κs = tt
 
--- src/reading.rt:44:5
 write-half-requires-4 : tie.Need-write-half-requires-4
-write-half-requires-4 c κs = search needs
+write-half-requires-4 c κs = tt
 
--- src/reading.rt:34:1
 same-length-2 : tie.Need-same-length-2
 same-length-2 c = search needs
 
--- src/reading.rt:34:1
 returns-2 : tie.Need-returns-2
-returns-2 c = ?
+returns-2 c =
+    high-last (machine (c .before .before .before .before .before .before .before .before .before .before .before .before .before .args .r) (c .before .before .before .before .before .before .before .before .before .before .before .before .before .args .memory .now)) (c .before .before .before .before .before .before .before .before .before .before .before .before .before .args .a) (omega arith)
+    (sym (c .before .before .before .before .before .before .before .before .before .fetches-by .ensures) ∙ c .before .before .before .before .before .before .before .before .if1 .left) (c .before .before .before .before .before .before .write-half3 .ensures) (c .before .before .write-half4 .ensures)
 
 pub load-pointer-spec : {M : Type 1} → statement M
 load-pointer-spec =

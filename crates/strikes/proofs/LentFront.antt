@@ -1,0 +1,25 @@
+-- The first n places of an array: lent, and come back as other words with the rest behind them.
+use Prim.Native.Nat.{ℕ, _+_, _-_, _≤_, _<_}
+use native.Mathlib.Nat.{sub-zero}
+use native.Mathlib.Omega.{arith}
+use mathlib.Core.Path.{_≡_, ap, _∙_}
+use mathlib.Core.List.{List, _++_}
+use lib.ListN.{length, take, getD, length-append, length-take, List·getD-append}
+use lib.Seq.{take-at}
+
+-- What is lent has n places.
+pub front-length : (n : ℕ) (l : List ℕ) → n ≤ length l → length (take (n - 0) l) ≡ n
+front-length n l h = simp length-take (omega arith)
+
+module _ (n : ℕ) (words rest : List ℕ) (e : length words ≡ n) where
+  -- The words that came back lie inside the array.
+  pub front-inside : n ≤ length (words ++ rest)
+  front-inside = rw length-append (omega arith)
+
+  -- They are its first n places.
+  pub front-is : take (n - 0) (words ++ rest) ≡ words
+  front-is = ap (λ (k : ℕ). take k (words ++ rest)) (sub-zero n) ∙ take-at words rest n e
+
+  -- Each of them lies at its place.
+  pub front-at : (k : ℕ) → k < n → getD (words ++ rest) k 0 ≡ getD words k 0
+  front-at k h = List·getD-append words rest 0 k (omega arith)

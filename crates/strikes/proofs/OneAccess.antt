@@ -1,0 +1,21 @@
+-- One access as the code does it, and as a run of accesses takes it.
+use Prim.Native.Nat.{ℕ}
+use mathlib.Core.Path.{_≡_, ap, _∙_}
+use mathlib.Core.List.{List}
+use Rattle.registers.specs.declared.Registers.{Registers}
+use Rattle.port.specs.Host.{access, access-memory, Accessed}
+use Rattle.port.specs.Runs.{Machine, machine, answer-of, after}
+use Rattle.port.specs.declared.Access.{Access}
+use Rattle.port.specs.declared.Answer.{Answer}
+use Rattle.port.specs.declared.Outcome.{Outcome}
+
+module _ {r : Registers} {m : List ℕ} {a : Access} {o : Outcome} {m′ : List ℕ} (e : Accessed r m a o m′) where
+  -- It leaves the machine that comes after it.
+  pub leaves : machine (o .registers) m′ ≡ after (machine r m) a
+  unfolding after
+  leaves = rw (e .outcome, e .memory)
+
+  -- It answers what that machine answers.
+  pub says : o .answer ≡ answer-of (machine r m) a
+  unfolding answer-of
+  says = ap (λ (p : Outcome). p .answer) (e .outcome)

@@ -1,0 +1,51 @@
+-- What the ticks leave, once they are read and judged: a refusal with the list as it was, or the times.
+use Prim.Native.Nat.{ℕ, _-_, _≤_}
+use native.Mathlib.Omega.{arith}
+use mathlib.Core.Path.{_≡_, sym, ap, _∙_}
+use mathlib.Core.List.{List, _++_}
+use mathlib.Core.Logic.{_≢_}
+use lib.Ieee.{Float}
+use lib.ListN.{drop, getD}
+use borrow.Author.Tests.{eq-eqb, ne-eqb}
+use Rattle.port.specs.Runs.{Machine}
+use Rattle.tempo.specs.Tempo.{even-times}
+use Rattle.sheet.specs.Sheet.{ticks-refusal}
+use Rattle.sheet.specs.declared.Sheet.{Sheet}
+use Rattle.strikes.specs.Parts.{refused-sheet, ReadTicks, ticks-number, ticks-sheet, ticks-list, TookTicks}
+use Rattle.strikes.specs.declared.Run.{Run}
+use Rattle.strikes.proofs.ReadingOn.{memory-kept, read-length}
+use Rattle.strikes.proofs.RisingTicks.{none-before-first, unrefused-rise}
+
+module _ {s : Machine} {n : ℕ} {o : Run} {m ticks : List ℕ} (k : ReadTicks s n o m ticks) (number : ℕ) (e : number ≡ ticks-refusal (o .hollow) ticks) where
+  told : number ≡ ticks-number s n
+  unfolding ticks-number
+  told = e ∙ rw (k .hollow, k .words)
+
+  -- A refusal.
+  pub ticks-refused : number ≢ 0 → (l : List Float) → TookTicks s n l (refused-sheet number (o .registers)) m l
+  unfolding ticks-sheet ticks-list
+  ticks-refused h l =
+      let t = ne-eqb (ticks-number s n) 0 (λ z. h (told ∙ z)) in
+      record {
+        outcome = rw (t, told, ap (λ (u : Machine). u .registers) (k .ends-at));
+        memory = memory-kept k;
+        list = rw t;
+      }
+
+  -- Ticks that are good: the first lies before the last or is it.
+  pub first-then-last : number ≡ 0 → 1 ≤ n → getD ticks 0 0 ≤ getD ticks (n - 1) 0
+  first-then-last h some =
+      none-before-first ticks (unrefused-rise (o .hollow) ticks (sym e ∙ h)) (n - 1) (omega (arith, read-length k))
+
+  -- The list takes their times.
+  pub ticks-taken : number ≡ 0 → (l l′ : List Float) → l′ ≡ even-times (getD ticks 0 0) (getD ticks (n - 1) 0) n n ++ drop n l →
+      TookTicks s n l (record { number = 0; strokes = n; registers = o .registers }) m l′
+  unfolding ticks-sheet ticks-list
+  ticks-taken h l l′ x =
+      let z = sym told ∙ h in
+      let t = eq-eqb (ticks-number s n) 0 z in
+      record {
+        outcome = rw (t, z, ap (λ (u : Machine). u .registers) (k .ends-at));
+        memory = memory-kept k;
+        list = rw t (rw (k .words) at x);
+      }

@@ -1,0 +1,145 @@
+-- `strikes::sheets::take_ticks` meets its contract: the first places of the array come back as the ticks, which are judged, and whose
+-- first and last give the times.
+use borrow.Author.Needs.{needs}
+use Prim.Native.Nat.{ℕ, _+_, _-_, _≤_}
+use native.Mathlib.Omega.{arith}
+use mathlib.Core.Path.{_≡_, sym, ap, _∙_}
+use mathlib.Core.List.{List, _++_}
+use lib.ListN.{length, drop, replicate}
+use Rattle.port.specs.Runs.{machine}
+use Rattle.sheet.specs.Sheet.{ticks-refusal}
+use Rattle.strikes.specs.Parts.{ReadTicks}
+use Rattle.strikes.proofs.LentFront.{front-length, front-inside, front-is, front-at}
+use Rattle.strikes.proofs.ReadingOn.{read-length}
+use Rattle.strikes.proofs.TicksTaken.{ticks-refused, first-then-last, ticks-taken}
+use Rattle.strikes.proofs.sheets.take_ticks.Statement.{statement}
+use Rattle.strikes.proofs.sheets.take_ticks.Tie as tie
+
+-- the places of the array behind those that are lent
+abbrev behind : ℕ → List ℕ
+behind n = drop (n - 0) (replicate 29 0)
+
+mul-ticks : tie.Need-mul-ticks
+mul-ticks c = search needs
+
+sub-read-ticks : tie.Need-sub-read-ticks
+sub-read-ticks c = search needs
+
+part-ticks-start : tie.Need-part-ticks-start
+part-ticks-start c = search needs
+
+part-ticks-end : tie.Need-part-ticks-end
+part-ticks-end c = search needs
+
+read-ticks-requires : tie.Need-read-ticks-requires
+read-ticks-requires c κs = tt
+
+-- the ticks that are read
+read : (c : tie.After-read-ticks) →
+    let a = c .before .before .before .before .before .args in
+    ReadTicks (machine (a .r) (a .memory .now)) (a .strokes) (c .read-ticks .result) (c .read-ticks .last .1 .0) (c .read-ticks .last .1 .1 .0)
+read c =
+    let start = c .before .before .before .before .before in
+    rw (front-length (start .args .strokes) (replicate 29 0) (start .pre .1)) at (c .read-ticks .ensures)
+
+mul-number-of-ticks : tie.Need-mul-number-of-ticks
+mul-number-of-ticks c = search needs
+
+sub-number-of-ticks : tie.Need-sub-number-of-ticks
+sub-number-of-ticks c = search needs
+
+part-number-of-ticks-start : tie.Need-part-number-of-ticks-start
+part-number-of-ticks-start c = search needs
+
+part-number-of-ticks-end : tie.Need-part-number-of-ticks-end
+part-number-of-ticks-end c =
+    let t = c .before .before .before .before .before in
+    let n = t .before .before .before .before .before .args .strokes in
+    front-inside n (t .read-ticks .last .1 .1 .0) (behind n) (read-length (read t))
+
+number-of-ticks-requires : tie.Need-number-of-ticks-requires
+number-of-ticks-requires c κs = tt
+
+-- their number
+judged : (c : tie.After-number-of-ticks) →
+    let t = c .before .before .before .before .before .before .before in
+    c .number-of-ticks .result ≡ ticks-refusal (t .read-ticks .result .hollow) (t .read-ticks .last .1 .1 .0)
+judged c =
+    let t = c .before .before .before .before .before .before .before in
+    let n = t .before .before .before .before .before .args .strokes in
+    rw (front-is n (t .read-ticks .last .1 .1 .0) (behind n) (read-length (read t))) at (c .number-of-ticks .ensures)
+
+refuse-requires : tie.Need-refuse-requires
+refuse-requires c κs = tt
+
+same-length : tie.Need-same-length
+same-length c = search needs
+
+returns : tie.Need-returns
+returns c =
+    let j = c .before .before in
+    let t = j .before .before .before .before .before .before .before in
+    rw (c .refuse .ensures) (ticks-refused (read t) _ (judged j) (c .before .if1 .taken) _)
+
+array-read-fill-times : tie.Need-array-read-fill-times
+array-read-fill-times c = search needs
+
+sub-fill-times : tie.Need-sub-fill-times
+sub-fill-times c = search needs
+
+mul-fill-times : tie.Need-mul-fill-times
+mul-fill-times c = search needs
+
+array-read-fill-times-2 : tie.Need-array-read-fill-times-2
+array-read-fill-times-2 c = search needs
+
+fill-times-requires : tie.Need-fill-times-requires
+fill-times-requires c κs =
+    let j = c .before .before in
+    let t = j .before .before .before .before .before .before .before in
+    let start = t .before .before .before .before .before in
+    let n = start .args .strokes in
+    let at = front-at n (t .read-ticks .last .1 .1 .0) (behind n) (read-length (read t)) in
+    rw (at 0 (omega arith), at (n - 1) (omega arith))
+    (first-then-last (read t) _ (judged j) (c .before .if1 .left) (start .pre .0), start .pre .2)
+
+same-length-2 : tie.Need-same-length-2
+same-length-2 c = search needs
+
+same-length-3 : tie.Need-same-length-3
+same-length-3 c = search needs
+
+returns-2 : tie.Need-returns-2
+returns-2 c =
+    let j = c .before .before .before .before .before in
+    let t = j .before .before .before .before .before .before .before in
+    let n = t .before .before .before .before .before .args .strokes in
+    let at = front-at n (t .read-ticks .last .1 .1 .0) (behind n) (read-length (read t)) in
+    let filled = rw (at 0 (omega arith), at (n - 1) (omega arith)) at (c .before .before .fill-times .ensures) in
+    ticks-taken (read t) _ (judged j) (c .before .before .before .before .if1 .left) _ _ filled
+
+pub take-ticks-spec : {M : Type 1} → statement M
+take-ticks-spec =
+    tie.close
+    (tie.spec
+    mul-ticks
+    sub-read-ticks
+    part-ticks-start
+    part-ticks-end
+    read-ticks-requires
+    mul-number-of-ticks
+    sub-number-of-ticks
+    part-number-of-ticks-start
+    part-number-of-ticks-end
+    number-of-ticks-requires
+    refuse-requires
+    same-length
+    returns
+    array-read-fill-times
+    sub-fill-times
+    mul-fill-times
+    array-read-fill-times-2
+    fill-times-requires
+    same-length-2
+    same-length-3
+    returns-2)
