@@ -1,10 +1,16 @@
-pub mod Taken
+-- The laws of a strike sheet, in reading order.
+-- ---- the tests
 pub mod Range
 pub mod Rising
+-- ---- a sheet that is begun, and one that is refused; demand 1
+pub mod Taken
 pub mod Heard
 pub mod Numbers
 pub mod Refused
-pub mod One
-pub mod ByBytes
 pub mod Moves
+pub mod One
+-- ---- demand 3: a sheet done by bytes
+pub mod ByBytes
+-- ---- the tuner's bet and the partner's worry; the times
 pub mod TheBet
+pub mod InTempo

@@ -52,7 +52,8 @@ module _ (s : Machine) (a : BitAddress) (t : TimeStruck) (l : List Float) where
     whole-table : Verdict s a t (length l) 0 → Complete (s .memory) a n × Rises (s .memory) a n
     whole-table (passes _ c r) = (c, r)
 
-    passing : Complete (s .memory) a n → Rises (s .memory) a n → Passes s a t l
+    -- A sheet whose table is whole passes.
+    pub passing : Complete (s .memory) a n → Rises (s .memory) a n → Passes s a t l
     passing c r =
         let z = numbered s a p t (length l) 0 .1 (passes b c r) in
         let f = passed-fills whole s a t l z in

@@ -75,13 +75,7 @@ fn strike(title: &[u8], memory: &mut [u16], control: u16, table: u32, t: TimeStr
     let start = 0;
     let end = if room < 30 { room } else { 30 };
     io::write_all(1, title);
-    print_sheet(strikes::strike_sheet(
-        r,
-        memory,
-        BitAddress(table),
-        t,
-        &mut list[start..end],
-    ));
+    print_sheet(strikes::strike_sheet(r, memory, BitAddress(table), t, &mut list[start..end]));
     print_times(&list[start..end]);
 }
 
@@ -89,8 +83,33 @@ fn strike(title: &[u8], memory: &mut [u16], control: u16, table: u32, t: TimeStr
 // with the memory's last word, if all 27 words are lent.
 fn strike_tables(title: &[u8], words: usize, control: u16, table: u32, t: TimeStruck) {
     let mut memory = [
-        6, 10, 20, 30, 40, 50, 60, 6, 11, 22, 33, 33, 44, 55, 3, 65532, 65533, 65535, 1, 77, 6,
-        100, 130, 190, 255, 300, 350,
+        6,
+        10,
+        20,
+        30,
+        40,
+        50,
+        60,
+        6,
+        11,
+        22,
+        33,
+        33,
+        44,
+        55,
+        3,
+        65532,
+        65533,
+        65535,
+        1,
+        77,
+        6,
+        100,
+        130,
+        190,
+        255,
+        300,
+        350,
     ];
     let start = 0;
     let end = if words < 27 { words } else { 27 };
