@@ -9,3 +9,4 @@ pub mod ReadingOn
 pub mod LentFront
 -- ---- what a sheet leaves
 pub mod TicksTaken
+pub mod TableRead

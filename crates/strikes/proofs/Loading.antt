@@ -2,17 +2,15 @@
 use Prim.Native.Nat.{ℕ, _/_, _%_, _<_}
 use native.Mathlib.Omega.{arith}
 use mathlib.Core.Path.{_≡_, refl, sym, ap, _∙_}
-use mathlib.Core.Bool.{Bool, true, false, cond}
-use mathlib.Core.List.{List}
+use mathlib.Core.Bool.{true, false}
 use mathlib.Core.Logic.{⊎-elim}
 use lib.Dec.{eqb}
 use Rattle.words.specs.declared.BitAddress.{BitAddress}
 use Rattle.words.proofs.Choices.{either-way, same-or-not}
 use Rattle.control.specs.Control.{lbl, fetches}
-use Rattle.registers.specs.declared.Registers.{Registers}
 use Rattle.registers.specs.Registers.{low-half, high-half}
-use Rattle.port.specs.Host.{access, access-memory}
-use Rattle.port.specs.Runs.{Machine, machine, after, ends}
+use Rattle.port.specs.Host.{access}
+use Rattle.port.specs.Runs.{Machine, after, ends}
 use Rattle.port.specs.Table.{loading, loaded}
 use Rattle.port.specs.declared.Access.the-variants.{Write}
 use Rattle.port.proofs.Taken.{number-is, barred-memory}

@@ -1,12 +1,11 @@
 -- One access as the code does it, and as a run of accesses takes it.
 use Prim.Native.Nat.{ℕ}
-use mathlib.Core.Path.{_≡_, ap, _∙_}
+use mathlib.Core.Path.{_≡_, ap}
 use mathlib.Core.List.{List}
 use Rattle.registers.specs.declared.Registers.{Registers}
-use Rattle.port.specs.Host.{access, access-memory, Accessed}
-use Rattle.port.specs.Runs.{Machine, machine, answer-of, after}
+use Rattle.port.specs.Host.{Accessed}
+use Rattle.port.specs.Runs.{machine, answer-of, after}
 use Rattle.port.specs.declared.Access.{Access}
-use Rattle.port.specs.declared.Answer.{Answer}
 use Rattle.port.specs.declared.Outcome.{Outcome}
 
 module _ {r : Registers} {m : List ℕ} {a : Access} {o : Outcome} {m′ : List ℕ} (e : Accessed r m a o m′) where

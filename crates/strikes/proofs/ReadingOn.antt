@@ -5,7 +5,7 @@ use mathlib.Core.Bool.{Bool, _||_, or-assoc, or-false}
 use mathlib.Core.List.{List, [], _∷_, _++_, map-append}
 use lib.ListN.{length}
 use Rattle.port.specs.Host.{Accessed}
-use Rattle.port.specs.Runs.{Machine, machine, words-in, answer-of, after, answers, ends}
+use Rattle.port.specs.Runs.{Machine, words-in, answer-of, after, answers, ends}
 use Rattle.port.specs.Table.{reading}
 use Rattle.port.specs.declared.Access.the-variants.{Read}
 use Rattle.port.specs.declared.Answer.{Answer}
@@ -47,7 +47,9 @@ module _ {s : Machine} {n : ℕ} {o : Run} {m part : List ℕ} (k : ReadTicks s 
     said = says e ∙ ap (λ (t : Machine). answer-of t (Read 2 3)) (k .ends-at)
 
     -- After n reads and one more, n + 1 are read.
-    pub read-more : ReadTicks s (n + 1) (record { registers = p .registers; hollow = o .hollow || p .answer .hollow }) m′ (part ++ (p .answer .word ∷ []))
+    pub read-more :
+        ReadTicks s (n + 1) (record { registers = p .registers; hollow = o .hollow || p .answer .hollow }) m′
+        (part ++ (p .answer .word ∷ []))
     unfolding any-hollow
     read-more =
         let xs = answers s (reading n) in

@@ -47,4 +47,5 @@ none-before-first (t ∷ u ∷ rest) e (suc j) h =
 pub unrefused-rise : (hollow : Bool) (ticks : List ℕ) → ticks-refusal hollow ticks ≡ 0 → rising ticks ≡ true
 unfolding ticks-refusal
 unrefused-rise true ticks e = absurd (omega arith)
-unrefused-rise false ticks e = ⊎-elim (λ t. t) (λ f. absurd (let n : _≡_ {A = ℕ} 44 0 = rw f at e in omega arith)) (either-way (rising ticks))
+unrefused-rise false ticks e =
+    ⊎-elim (λ t. t) (λ f. absurd (let n : _≡_ {A = ℕ} 44 0 = rw f at e in omega arith)) (either-way (rising ticks))

@@ -1,6 +1,5 @@
 // The reader's accesses: the pointer loaded, and the ticks read.
 ghost use mathlib.Core.Path.{_≡_};
-ghost use Prim.Native.Nat.{_≤_};
 ghost use lib.ListN.{length};
 ghost use Rattle.port.specs.declared.Access.the-variants.{Write};
 ghost use Rattle.port.specs.Runs.{machine, after};

@@ -1,6 +1,5 @@
 // A strike sheet, from its table in memory to the list of times.
 ghost use mathlib.Core.Path.{_≡_};
-ghost use mathlib.Core.Bool.{true};
 ghost use Prim.Native.Nat.{_≤_};
 ghost use lib.ListN.{length};
 ghost use Rattle.port.specs.Runs.{machine};

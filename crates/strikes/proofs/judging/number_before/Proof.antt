@@ -18,7 +18,9 @@ is-out-of-range-requires c κs = tt
 
 returns-2 : tie.Need-returns-2
 unfolding refusal-before
-returns-2 c = rw (sym (c .before .before .before .is-over-limit .ensures) ∙ c .before .before .if1 .left, sym (c .before .is-out-of-range .ensures) ∙ c .if2 .taken)
+returns-2 c =
+    let small = c .before .before in
+    rw (sym (small .before .is-over-limit .ensures) ∙ small .if1 .left, sym (c .before .is-out-of-range .ensures) ∙ c .if2 .taken)
 
 count-strokes-requires : tie.Need-count-strokes-requires
 count-strokes-requires c κs = sym (c .before .is-out-of-range .ensures) ∙ c .if2 .left
@@ -29,10 +31,13 @@ cast-if3 c = search needs
 returns-3 : tie.Need-returns-3
 unfolding refusal-before
 returns-3 c =
-    let short = rw (c .before .count-strokes .ensures .0) at (c .if3 .taken) in
+    let counted = c .before in
+    let ranged = counted .before in
+    let small = ranged .before .before in
+    let short = rw (counted .count-strokes .ensures .0) at (c .if3 .taken) in
     rw (
-      sym (c .before .before .before .before .before .is-over-limit .ensures) ∙ c .before .before .before .before .if1 .left,
-      sym (c .before .before .before .is-out-of-range .ensures) ∙ c .before .before .if2 .left,
+      sym (small .before .is-over-limit .ensures) ∙ small .if1 .left,
+      sym (ranged .before .is-out-of-range .ensures) ∙ ranged .if2 .left,
       lt-ltb _ _ short,
     )
 
@@ -42,10 +47,13 @@ steps-reading-requires c κs = tt
 returns-4 : tie.Need-returns-4
 unfolding refusal-before
 returns-4 c =
-    let room = rw (c .before .before .before .count-strokes .ensures .0) at (c .before .before .if3 .left) in
+    let counted = c .before .before .before in
+    let ranged = counted .before in
+    let small = ranged .before .before in
+    let room = rw (counted .count-strokes .ensures .0) at (c .before .before .if3 .left) in
     rw (
-      sym (c .before .before .before .before .before .before .before .is-over-limit .ensures) ∙ c .before .before .before .before .before .before .if1 .left,
-      sym (c .before .before .before .before .before .is-out-of-range .ensures) ∙ c .before .before .before .before .if2 .left,
+      sym (small .before .is-over-limit .ensures) ∙ small .if1 .left,
+      sym (ranged .before .is-out-of-range .ensures) ∙ ranged .if2 .left,
       le-ltb _ _ room,
       sym (c .before .steps-reading .ensures) ∙ c .if4 .taken,
     )
@@ -53,10 +61,13 @@ returns-4 c =
 returns-5 : tie.Need-returns-5
 unfolding refusal-before
 returns-5 c =
-    let room = rw (c .before .before .before .count-strokes .ensures .0) at (c .before .before .if3 .left) in
+    let counted = c .before .before .before in
+    let ranged = counted .before in
+    let small = ranged .before .before in
+    let room = rw (counted .count-strokes .ensures .0) at (c .before .before .if3 .left) in
     rw (
-      sym (c .before .before .before .before .before .before .before .is-over-limit .ensures) ∙ c .before .before .before .before .before .before .if1 .left,
-      sym (c .before .before .before .before .before .is-out-of-range .ensures) ∙ c .before .before .before .before .if2 .left,
+      sym (small .before .is-over-limit .ensures) ∙ small .if1 .left,
+      sym (ranged .before .is-out-of-range .ensures) ∙ ranged .if2 .left,
       le-ltb _ _ room,
       sym (c .before .steps-reading .ensures) ∙ c .if4 .left,
     )

@@ -27,8 +27,11 @@ same-length c = search needs
 
 returns : tie.Need-returns
 returns c =
-    low-last (machine (c .before .before .before .before .before .before .before .before .before .before .before .before .before .args .r) (c .before .before .before .before .before .before .before .before .before .before .before .before .before .args .memory .now)) (c .before .before .before .before .before .before .before .before .before .before .before .before .before .args .a) (omega arith)
-    (sym (c .before .before .before .before .before .before .before .before .before .fetches-by .ensures) ∙ c .before .before .before .before .before .before .before .before .if1 .taken) (c .before .before .before .before .before .before .write-half .ensures) (c .before .before .write-half2 .ensures)
+    let first = c .before .before .before .before .before .before in
+    let judged = first .before .before in
+    let a = judged .before .before .before .before .before .args in
+    low-last (machine (a .r) (a .memory .now)) (a .a) (omega arith) (sym (judged .before .fetches-by .ensures) ∙ judged .if1 .taken)
+    (first .write-half .ensures) (c .before .before .write-half2 .ensures)
 
 write-half-requires-3 : tie.Need-write-half-requires-3
 write-half-requires-3 c κs = tt
@@ -41,8 +44,11 @@ same-length-2 c = search needs
 
 returns-2 : tie.Need-returns-2
 returns-2 c =
-    high-last (machine (c .before .before .before .before .before .before .before .before .before .before .before .before .before .args .r) (c .before .before .before .before .before .before .before .before .before .before .before .before .before .args .memory .now)) (c .before .before .before .before .before .before .before .before .before .before .before .before .before .args .a) (omega arith)
-    (sym (c .before .before .before .before .before .before .before .before .before .fetches-by .ensures) ∙ c .before .before .before .before .before .before .before .before .if1 .left) (c .before .before .before .before .before .before .write-half3 .ensures) (c .before .before .write-half4 .ensures)
+    let first = c .before .before .before .before .before .before in
+    let judged = first .before .before in
+    let a = judged .before .before .before .before .before .args in
+    high-last (machine (a .r) (a .memory .now)) (a .a) (omega arith) (sym (judged .before .fetches-by .ensures) ∙ judged .if1 .left)
+    (first .write-half3 .ensures) (c .before .before .write-half4 .ensures)
 
 pub load-pointer-spec : {M : Type 1} → statement M
 load-pointer-spec =

@@ -2,7 +2,7 @@
 use Prim.Native.Nat.{ℕ, _+_, _-_, _≤_, _<_}
 use native.Mathlib.Numerals.{add-one}
 use native.Mathlib.Omega.{arith}
-use mathlib.Core.Path.{_≡_, refl, sym, ap, _∙_}
+use mathlib.Core.Path.{_≡_, refl, ap, _∙_}
 use mathlib.Core.Bool.{Bool, false, _||_}
 use mathlib.Core.List.{List, [], _∷_, _++_}
 use lib.ListN.{length, take, set, length-set}
@@ -77,7 +77,9 @@ loop-less : tie.Need-loop-less Inv-loop μ-loop
 loop-less c = omega arith
 
 loop-again : tie.Need-loop-again Inv-loop μ-loop
-loop-again c = turned (c .before .before .before .before .before .before .before .before .loop .inv) (omega arith) (c .before .before .before .before .before .host-access .ensures) (c .before .either .ensures)
+loop-again c =
+    let read = c .before .before .before .before .before in
+    turned (read .before .before .before .loop .inv) (omega arith) (read .host-access .ensures) (c .before .either .ensures)
 
 same-length : tie.Need-same-length Inv-loop μ-loop
 same-length c = ap length (memory-kept (c .before .loop .inv .read))

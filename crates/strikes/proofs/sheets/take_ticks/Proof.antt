@@ -1,11 +1,11 @@
 -- `strikes::sheets::take_ticks` meets its contract: the first places of the array come back as the ticks, which are judged, and whose
 -- first and last give the times.
 use borrow.Author.Needs.{needs}
-use Prim.Native.Nat.{ℕ, _+_, _-_, _≤_}
+use Prim.Native.Nat.{ℕ, _-_}
 use native.Mathlib.Omega.{arith}
-use mathlib.Core.Path.{_≡_, sym, ap, _∙_}
-use mathlib.Core.List.{List, _++_}
-use lib.ListN.{length, drop, replicate}
+use mathlib.Core.Path.{_≡_}
+use mathlib.Core.List.{List}
+use lib.ListN.{drop, replicate}
 use Rattle.port.specs.Runs.{machine}
 use Rattle.sheet.specs.Sheet.{ticks-refusal}
 use Rattle.strikes.specs.Parts.{ReadTicks}
@@ -37,7 +37,8 @@ read-ticks-requires c κs = tt
 -- the ticks that are read
 read : (c : tie.After-read-ticks) →
     let a = c .before .before .before .before .before .args in
-    ReadTicks (machine (a .r) (a .memory .now)) (a .strokes) (c .read-ticks .result) (c .read-ticks .last .1 .0) (c .read-ticks .last .1 .1 .0)
+    ReadTicks (machine (a .r) (a .memory .now)) (a .strokes) (c .read-ticks .result)
+    (c .read-ticks .last .1 .0) (c .read-ticks .last .1 .1 .0)
 read c =
     let start = c .before .before .before .before .before in
     rw (front-length (start .args .strokes) (replicate 29 0) (start .pre .1)) at (c .read-ticks .ensures)

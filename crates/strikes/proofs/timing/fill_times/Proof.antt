@@ -1,54 +1,76 @@
+-- `strikes::timing::fill_times` meets its contract: before stroke k the list is the times of the strokes before it, then what it was.
+use Prim.Native.Nat.{ℕ, _+_, _-_, _≤_, _<_}
+use native.Mathlib.Omega.{arith}
+use mathlib.Core.Path.{_≡_, refl, ap, _∙_}
+use mathlib.Core.List.{List, _++_}
+use lib.Ieee.{Float}
+use lib.ListN.{length, drop, set, length-set}
+use Rattle.tempo.specs.Tempo.{even-time, even-times}
+use Rattle.tempo.proofs.Times.{times-more}
 use Rattle.strikes.proofs.timing.fill_times.Statement.{statement}
 use Rattle.strikes.proofs.timing.fill_times.Tie as tie
-use Rattle.strikes.proofs.timing.fill_times.Reads as reads
-use Rattle.strikes.proofs.timing.fill_times.Lts as lts
-use Rattle.strikes.proofs.timing.time_of.Reads as time-of-reads
+
+record Filling (list₀ : List Float) (first last strokes : ℕ) (list : List Float) (k : ℕ) : Type 0 where
+  most : k ≤ strokes
+  room : length list ≡ length list₀
+  filled : list ≡ even-times first last strokes k ++ drop k list₀
+
+begun : (list : List Float) (first last strokes : ℕ) → Filling list first last strokes list 0
+unfolding even-times
+begun list first last strokes = record { most = omega arith; room = refl; filled = refl }
+
+module _ {list₀ : List Float} {first last strokes : ℕ} {list : List Float} {k : ℕ} (f : Filling list₀ first last strokes list k) where
+  -- one time more
+  turned : {t : Float} → k < strokes → strokes ≤ length list₀ → t ≡ even-time first last strokes k →
+      Filling list₀ first last strokes (set list k t) (k + 1)
+  turned {t} more places e =
+      record {
+        most = omega arith;
+        room = length-set list k t ∙ f .room;
+        filled = rw (f .filled, e) (times-more first last strokes k list₀ (omega arith));
+      }
+
+  -- all of them
+  ended : strokes ≤ k → list ≡ even-times first last strokes strokes ++ drop strokes list₀
+  ended all =
+      let e : k ≡ strokes = omega (arith, f .most) in
+      f .filled ∙ ap (λ (n : ℕ). even-times first last strokes n ++ drop n list₀) e
 
 abbrev Inv-loop : tie.InvT-loop
-Inv-loop list₀ first last strokes k₀ list k = ?
+Inv-loop list₀ first last strokes k₀ list k = Filling list₀ first last strokes list k
 
 abbrev μ-loop : tie.MeasureT-loop
-μ-loop list₀ first last strokes k₀ list k = ?
+μ-loop list₀ first last strokes k₀ list k = strokes - k
 
--- src/timing.rt:27:5
 loop-holds : tie.Need-loop-holds Inv-loop μ-loop
-loop-holds c = ?
+loop-holds c = begun _ _ _ _
 
--- src/timing.rt:28:28
 time-of-requires : tie.Need-time-of-requires Inv-loop μ-loop
-time-of-requires c κs = ?
+time-of-requires c κs = c .before .before .before .pre .0
 
--- src/timing.rt:28:14
 cast-list : tie.Need-cast-list Inv-loop μ-loop
-cast-list c = ?
+cast-list c = omega arith
 
--- src/timing.rt:28:9
 mul-list : tie.Need-mul-list Inv-loop μ-loop
-mul-list c = ?
+mul-list c = omega arith
 
--- src/timing.rt:28:9
 slice-write-list : tie.Need-slice-write-list Inv-loop μ-loop
-slice-write-list c = ?
+slice-write-list c = omega arith
 
--- src/timing.rt:27:9
 add-k : tie.Need-add-k Inv-loop μ-loop
-add-k c = ?
+add-k c = omega arith
 
--- src/timing.rt:27:5
 loop-less : tie.Need-loop-less Inv-loop μ-loop
-loop-less c = ?
+loop-less c = omega arith
 
--- src/timing.rt:27:5
 loop-again : tie.Need-loop-again Inv-loop μ-loop
-loop-again c = ?
+loop-again c = turned (c .before .before .loop .inv) (omega arith) (c .before .before .before .before .pre .1) (c .time-of .ensures)
 
--- src/timing.rt:23:1
 same-length : tie.Need-same-length Inv-loop μ-loop
-same-length c = ?
+same-length c = c .before .loop .inv .room
 
--- src/timing.rt:23:1
 returns : tie.Need-returns Inv-loop μ-loop
-returns c = ?
+returns c = ended (c .before .loop .inv) (omega arith)
 
 pub fill-times-spec : {M : Type 1} → statement M
 fill-times-spec =
