@@ -10,18 +10,18 @@ use Prim.Native.Nat.{ℕ, zero, suc, _+_, min}
 use mathlib.Core.Path.{_≡_}
 use mathlib.Core.List.{List, _++_}
 use lib.Ieee.{Float}
-use lib.ListN.{length, take, drop, set}
+use lib.ListN.{length, take, drop}
+use Rattle.words.specs.Memory.{store-at}
 use Rattle.port.specs.Runs.{Machine, machine}
 use Rattle.sheet.specs.Reading.{whole}
 use Rattle.sheet.specs.Sheet.{sheet-of, list-after}
 use Rattle.sheet.specs.declared.Sheet.{Sheet}
 use Rattle.sheet_trial.specs.Record.{number, registers-in, table-in, time-in}
 
--- "the word number from which on n16 to n47 are laid into the room before the call; those beyond the room's end are dropped": a word set
--- beyond a list's end leaves it as it is
+-- "the word number from which on n16 to n47 are laid into the room before the call; those beyond the room's end are dropped"
 unfoldable pub laid : List ℕ → List ℕ → ℕ → List ℕ
 laid b room zero = room
-laid b room (suc k) = set (laid b room k) (number b 15 + k) (number b (16 + k))
+laid b room (suc k) = store-at (laid b room k) (record { 0 = number b 15 + k }) (number b (16 + k))
 
 module _ {A : Type 0} where
   -- "how many .. are lent; above .. it counts as .."

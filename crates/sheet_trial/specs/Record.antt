@@ -20,7 +20,7 @@ abbrev pub wide : List ℕ → ℕ → ℕ
 wide b k = number b k + 65536 * number b (k + 1)
 
 -- "n0, n1: the pointer"; "n2: HSTDATA"; "n3: HSTCTL"; "n4: the hollow mark, set if odd"
-unfoldable pub registers-in : List ℕ → Registers
+abbrev pub registers-in : List ℕ → Registers
 registers-in b =
     record {
       pointer = address (wide b 0);
@@ -30,9 +30,9 @@ registers-in b =
     }
 
 -- "n5, n6: the table's bit address"
-unfoldable pub table-in : List ℕ → BitAddress
+abbrev pub table-in : List ℕ → BitAddress
 table-in b = address (wide b 5)
 
 -- "n7, n8: hours"; "n9, n10: quarters"; "n11, n12: minutes"
-unfoldable pub time-in : List ℕ → TimeStruck
+abbrev pub time-in : List ℕ → TimeStruck
 time-in b = record { hours = wide b 7; quarters = wide b 9; minutes = wide b 11 }

@@ -8,6 +8,8 @@ use crate::reading::table_of;
 use crate::reading::time_of;
 use sheet::Sheet;
 use strikes::strike_sheet;
+use words::WordNumber;
+use words::store_word;
 
 // The smaller of two numbers.
 fn least(a: usize, b: usize) -> usize
@@ -17,33 +19,31 @@ fn least(a: usize, b: usize) -> usize
 }
 
 // The record's 32 words laid into the room, as far as it reaches.
-fn lay_words(room: &mut [u16], record: &[u8; 96])
-    ensures { λ _. ⌜ now (room .exit) ≡ laid (now (record .entry)) (now (room .entry)) 32 ⌝ }
+fn lay_words(room: &mut [u16], bytes: &[u8; 96])
+    ensures { λ _. ⌜ now (room .exit) ≡ laid (now (bytes .entry)) (now (room .entry)) 32 ⌝ }
 {
-    let first = number_at(record, 15) as usize;
+    let first = number_at(bytes, 15) as u32;
     let mut k: usize = 0;
     while k < 32 {
-        let word = number_at(record, 16 + k);
-        if first + k < room.len() {
-            room[first + k] = word;
-        }
+        let n = WordNumber(first + k as u32);
+        store_word(room, n, number_at(bytes, 16 + k));
         k += 1;
     }
 }
 
 // One record. What is lent of the room and of the list is their first places, as many as the record says.
-pub(crate) fn carry_out(room: &mut [u16], list: &mut [f64], record: &[u8; 96]) -> Sheet
-    ensures { λ o. ⌜ Carried (now (record .entry)) (now (room .entry)) (now (list .entry)) o (now (room .exit)) (now (list .exit)) ⌝ }
+pub(crate) fn carry_out(room: &mut [u16], list: &mut [f64], bytes: &[u8; 96]) -> Sheet
+    ensures { λ o. ⌜ Carried (now (bytes .entry)) (now (room .entry)) (now (list .entry)) o (now (room .exit)) (now (list .exit)) ⌝ }
 {
-    lay_words(room, record);
+    lay_words(room, bytes);
     let start = 0;
-    let end = least(number_at(record, 14) as usize, room.len());
-    let last = least(number_at(record, 13) as usize, list.len());
+    let end = least(number_at(bytes, 14) as usize, room.len());
+    let last = least(number_at(bytes, 13) as usize, list.len());
     strike_sheet(
-        registers_of(record),
+        registers_of(bytes),
         &mut room[start..end],
-        table_of(record),
-        time_of(record),
+        table_of(bytes),
+        time_of(bytes),
         &mut list[start..last],
     )
 }

@@ -18,11 +18,15 @@ fn print_number(value: u64, digits: usize) {
     io::write_all(1, b" ");
 }
 
+fn print_time(time: f64) {
+    io::write_all(1, b" ");
+    io::print_hex(1, bits_of(time), 16);
+}
+
 fn print_times(list: &[f64]) {
     let mut k: usize = 0;
     while k < list.len() {
-        io::write_all(1, b" ");
-        io::print_hex(1, bits_of(list[k]), 16);
+        print_time(list[k]);
         k += 1;
     }
 }

@@ -4,10 +4,10 @@ use crate::printing::print_sheet;
 
 // Reads a record, carries it out and prints its line. Answers whether there may be more.
 fn take_turn(room: &mut [u16], list: &mut [f64]) -> bool {
-    let mut record = [0u8; 96];
-    let got = io::read_full(0, &mut record);
+    let mut bytes = [0u8; 96];
+    let got = io::read_full(0, &mut bytes);
     if got == 96 {
-        let o = carry_out(room, list, &record);
+        let o = carry_out(room, list, &bytes);
         print_sheet(o, list);
         return true;
     }
