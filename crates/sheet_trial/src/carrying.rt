@@ -25,8 +25,8 @@ fn lay_words(room: &mut [u16], bytes: &[u8; 96])
     let first = number_at(bytes, 15) as u32;
     let mut k: usize = 0;
     while k < 32 {
-        let n = WordNumber(first + k as u32);
-        store_word(room, n, number_at(bytes, 16 + k));
+        let n = first + k as u32;
+        store_word(room, WordNumber(n), number_at(bytes, 16 + k));
         k += 1;
     }
 }

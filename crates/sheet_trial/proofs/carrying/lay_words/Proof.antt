@@ -1,67 +1,88 @@
+-- `sheet_trial::carrying::lay_words` meets its contract: after k turns the first k words are laid.
+use borrow.Author.Needs.{needs}
+use Prim.Native.Nat.{ℕ, _+_, _-_, _≤_, _<_}
+use native.Mathlib.Numerals.{add-one}
+use native.Mathlib.Omega.{arith}
+use mathlib.Core.Path.{_≡_, refl, sym, ap, _∙_}
+use mathlib.Core.List.{List}
+use lib.ListN.{length}
+use Rattle.words.specs.Memory.{store-at}
+use Rattle.sheet_trial.specs.Record.{number}
+use Rattle.sheet_trial.specs.Carried.{laid}
 use Rattle.sheet_trial.proofs.carrying.lay_words.Statement.{statement}
 use Rattle.sheet_trial.proofs.carrying.lay_words.Tie as tie
-use Rattle.sheet_trial.proofs.carrying.lay_words.Reads as reads
-use Rattle.sheet_trial.proofs.carrying.lay_words.Lts as lts
-use Rattle.sheet_trial.proofs.reading.number_at.Reads as number-at-reads
-use Rattle.words.proofs.store_word.Reads as store-word-reads
+
+record Laying (b room₀ : List ℕ) (first : ℕ) (room : List ℕ) (k : ℕ) : Type 0 where
+  most : k ≤ 32
+  from : first ≡ number b 15
+  small : first < 65536
+  long : length room ≡ length room₀
+  done : room ≡ laid b room₀ k
+
+module _ {b room₀ : List ℕ} {first : ℕ} {room : List ℕ} {k : ℕ} (l : Laying b room₀ first room k) where
+  -- one more
+  turned :
+      (room′ : List ℕ) (w : ℕ) → k < 32 → w ≡ number b (16 + k) → room′ ≡ store-at room (record { 0 = first + k }) w →
+      length room′ ≡ length room → Laying b room₀ first room′ (k + 1)
+  unfolding laid
+  turned room′ w h e put same =
+      record {
+        most = omega arith;
+        from = l .from;
+        small = l .small;
+        long = same ∙ l .long;
+        done = rw add-one (put ∙ (λ i. store-at (l .done i) (record { 0 = l .from i + k }) (e i)));
+      }
+
+  ended : 32 ≤ k → room ≡ laid b room₀ 32
+  ended h = let e : k ≡ 32 = omega (arith, l .most) in l .done ∙ ap (laid b room₀) e
 
 abbrev Inv-loop : tie.InvT-loop
-Inv-loop room₀ bytes first k₀ room k = ?
+Inv-loop room₀ bytes first k₀ room k = Laying bytes room₀ first room k
 
 abbrev μ-loop : tie.MeasureT-loop
-μ-loop room₀ bytes first k₀ room k = ?
+μ-loop room₀ bytes first k₀ room k = 32 - k
 
--- src/carrying.rt:25:17
 number-at-requires : tie.Need-number-at-requires Inv-loop μ-loop
-number-at-requires c κs = ?
+number-at-requires c κs = omega arith
 
--- src/carrying.rt:25:17
 cast-first : tie.Need-cast-first Inv-loop μ-loop
-cast-first c = ?
+cast-first c = search needs
 
--- src/carrying.rt:27:5
 loop-holds : tie.Need-loop-holds Inv-loop μ-loop
-loop-holds c = ?
+unfolding laid
+loop-holds c = record { most = omega arith; from = c .number-at .ensures; small = search needs; long = refl; done = refl }
 
--- src/carrying.rt:28:36
-cast-t8 : tie.Need-cast-t8 Inv-loop μ-loop
-cast-t8 c = ?
+cast-n : tie.Need-cast-n Inv-loop μ-loop
+cast-n c = omega arith
 
--- src/carrying.rt:28:28
-add-t9 : tie.Need-add-t9 Inv-loop μ-loop
-add-t9 c = ?
+add-n : tie.Need-add-n Inv-loop μ-loop
+add-n c = omega arith
 
--- src/carrying.rt:29:46
 add-number-at : tie.Need-add-number-at Inv-loop μ-loop
-add-number-at c = ?
+add-number-at c = omega arith
 
--- src/carrying.rt:29:29
 number-at-requires-2 : tie.Need-number-at-requires-2 Inv-loop μ-loop
-number-at-requires-2 c κs = ?
+number-at-requires-2 c κs = omega arith
 
--- src/carrying.rt:29:9
 store-word-requires : tie.Need-store-word-requires Inv-loop μ-loop
-store-word-requires c κs = ?
+store-word-requires c κs = tt
 
--- src/carrying.rt:30:9
 add-k : tie.Need-add-k Inv-loop μ-loop
-add-k c = ?
+add-k c = omega arith
 
--- src/carrying.rt:27:5
 loop-less : tie.Need-loop-less Inv-loop μ-loop
-loop-less c = ?
+loop-less c = omega (arith, c .before .before .before .before .before .loop-test .taken)
 
--- src/carrying.rt:27:5
 loop-again : tie.Need-loop-again Inv-loop μ-loop
-loop-again c = ?
+loop-again c =
+    turned (c .before .before .before .before .before .before .loop .inv) _ _ (c .before .before .before .before .before .loop-test .taken) (c .before .before .before .number-at2 .ensures) (c .before .before .store-word .ensures .memory) (c .before .before .store-word .kept .0)
 
--- src/carrying.rt:22:1
 same-length : tie.Need-same-length Inv-loop μ-loop
-same-length c = ?
+same-length c = c .before .loop .inv .long
 
--- src/carrying.rt:22:1
 returns : tie.Need-returns Inv-loop μ-loop
-returns c = ?
+returns c = ended (c .before .loop .inv) (omega arith)
 
 pub lay-words-spec : {M : Type 1} → statement M
 lay-words-spec =
@@ -72,8 +93,8 @@ lay-words-spec =
     number-at-requires
     cast-first
     loop-holds
-    cast-t8
-    add-t9
+    cast-n
+    add-n
     add-number-at
     number-at-requires-2
     store-word-requires

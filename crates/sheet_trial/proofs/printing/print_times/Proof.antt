@@ -1,46 +1,39 @@
+-- `sheet_trial::printing::print_times` meets its contract: it stays inside the list, and ends.
+use Prim.Native.Nat.{_-_, _≤_}
+use native.Mathlib.Omega.{arith}
+use lib.ListN.{length}
 use Rattle.sheet_trial.proofs.printing.print_times.Statement.{statement}
 use Rattle.sheet_trial.proofs.printing.print_times.Tie as tie
-use Rattle.sheet_trial.proofs.printing.print_times.Reads as reads
-use Rattle.sheet_trial.proofs.printing.print_times.Lts as lts
-use Rattle.sheet_trial.proofs.printing.print_time.Reads as print-time-reads
 
 abbrev Inv-loop : tie.InvT-loop
-Inv-loop list k₀ k = ?
+Inv-loop list k₀ k = k ≤ length list
 
 abbrev μ-loop : tie.MeasureT-loop
-μ-loop list k₀ k = ?
+μ-loop list k₀ k = length list - k
 
--- src/printing.rt:28:5
 loop-holds : tie.Need-loop-holds Inv-loop μ-loop
-loop-holds c = ?
+loop-holds c = omega arith
 
--- src/printing.rt:29:20
 mul-print-time : tie.Need-mul-print-time Inv-loop μ-loop
-mul-print-time c = ?
+mul-print-time c = omega arith
 
--- src/printing.rt:29:20
 shared-slice-read-print-time : tie.Need-shared-slice-read-print-time Inv-loop μ-loop
-shared-slice-read-print-time c = ?
+shared-slice-read-print-time c = omega arith
 
--- src/printing.rt:29:9
 print-time-requires : tie.Need-print-time-requires Inv-loop μ-loop
-print-time-requires c κs = ?
+print-time-requires c κs = tt
 
--- src/printing.rt:30:9
 add-k : tie.Need-add-k Inv-loop μ-loop
-add-k c = ?
+add-k c = omega arith
 
--- src/printing.rt:28:5
 loop-less : tie.Need-loop-less Inv-loop μ-loop
-loop-less c = ?
+loop-less c = omega arith
 
--- src/printing.rt:28:5
 loop-again : tie.Need-loop-again Inv-loop μ-loop
-loop-again c = ?
+loop-again c = omega arith
 
--- src/printing.rt:26:1
 returns : tie.Need-returns Inv-loop μ-loop
-returns c = ?
+returns c = tt
 
 pub print-times-spec : {M : Type 1} → statement M
 print-times-spec =
