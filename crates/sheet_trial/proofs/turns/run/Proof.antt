@@ -1,58 +1,48 @@
+-- `sheet_trial::turns::run` meets its contract: its count of turns falls, and the room and the list keep their lengths.
+use native.Mathlib.Omega.{arith}
+use mathlib.Core.Path.{_≡_, refl, _∙_}
+use lib.ListN.{length}
 use Rattle.sheet_trial.proofs.turns.run.Statement.{statement}
 use Rattle.sheet_trial.proofs.turns.run.Tie as tie
-use Rattle.sheet_trial.proofs.turns.run.Reads as reads
-use Rattle.sheet_trial.proofs.turns.run.Lts as lts
-use Rattle.sheet_trial.proofs.turns.take_turn.Reads as take-turn-reads
 
 abbrev Inv-loop : tie.InvT-loop
-Inv-loop room₀ list₀ turns₀ room list turns = ?
+Inv-loop room₀ list₀ turns₀ room list turns = (length room ≡ length room₀) × (length list ≡ length list₀)
 
 abbrev μ-loop : tie.MeasureT-loop
-μ-loop room₀ list₀ turns₀ room list turns = ?
+μ-loop room₀ list₀ turns₀ room list turns = turns
 
--- src/turns.rt:24:5
 loop-holds : tie.Need-loop-holds Inv-loop μ-loop
-loop-holds c = ?
+loop-holds c = (refl, refl)
 
--- src/turns.rt:25:9
 sub-turns : tie.Need-sub-turns Inv-loop μ-loop
-sub-turns c = ?
+sub-turns c = omega arith
 
--- src/turns.rt:26:12
 take-turn-requires : tie.Need-take-turn-requires Inv-loop μ-loop
-take-turn-requires c κs = ?
+take-turn-requires c κs = tt
 
--- src/turns.rt:24:5
 loop-less : tie.Need-loop-less Inv-loop μ-loop
-loop-less c = ?
+loop-less c = omega (arith, c .before .before .before .before .before .before .before .before .loop-test .taken)
 
--- src/turns.rt:24:5
 loop-again : tie.Need-loop-again Inv-loop μ-loop
-loop-again c = ?
+loop-again c = (c .before .before .before .before .before .take-turn .kept .0 ∙ c .before .before .before .before .before .before .before .before .before .loop .inv .0, c .before .before .before .before .before .take-turn .kept .1 .0 ∙ c .before .before .before .before .before .before .before .before .before .loop .inv .1)
 
--- src/turns.rt:29:9
 same-length : tie.Need-same-length Inv-loop μ-loop
-same-length c = ?
+same-length c = c .before .before .before .before .before .take-turn .kept .0 ∙ c .before .before .before .before .before .before .before .before .before .loop .inv .0
 
--- src/turns.rt:29:9
 same-length-2 : tie.Need-same-length-2 Inv-loop μ-loop
-same-length-2 c = ?
+same-length-2 c = c .before .before .before .before .before .take-turn .kept .1 .0 ∙ c .before .before .before .before .before .before .before .before .before .loop .inv .1
 
--- src/turns.rt:29:9
 returns : tie.Need-returns Inv-loop μ-loop
-returns c = ?
+returns c = tt
 
--- src/turns.rt:22:1
 same-length-3 : tie.Need-same-length-3 Inv-loop μ-loop
-same-length-3 c = ?
+same-length-3 c = c .before .loop .inv .0
 
--- src/turns.rt:22:1
 same-length-4 : tie.Need-same-length-4 Inv-loop μ-loop
-same-length-4 c = ?
+same-length-4 c = c .before .loop .inv .1
 
--- src/turns.rt:22:1
 returns-2 : tie.Need-returns-2 Inv-loop μ-loop
-returns-2 c = ?
+returns-2 c = tt
 
 pub run-spec : {M : Type 1} → statement M
 run-spec =
