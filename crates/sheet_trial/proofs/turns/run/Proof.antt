@@ -1,18 +1,41 @@
--- `sheet_trial::turns::run` meets its contract: its count of turns falls, and the room and the list keep their lengths.
+-- `sheet_trial::turns::run` meets its contract: after each turn some records are carried out. Its count of turns falls.
+use Prim.Native.Nat.{ℕ}
 use native.Mathlib.Omega.{arith}
 use mathlib.Core.Path.{_≡_, refl, _∙_}
+use mathlib.Core.Bool.{Bool}
+use mathlib.Core.List.{List}
+use lib.Ieee.{Float}
 use lib.ListN.{length}
+use Rattle.sheet_trial.specs.Runs.{TookTurn, one-record, no-record, Ran, no-records, and-one}
 use Rattle.sheet_trial.proofs.turns.run.Statement.{statement}
 use Rattle.sheet_trial.proofs.turns.run.Tie as tie
 
+record Going (room₀ : List ℕ) (list₀ : List Float) (room : List ℕ) (list : List Float) : Type 0 where
+  rooms : length room ≡ length room₀
+  lists : length list ≡ length list₀
+  ran : Ran room₀ list₀ room list
+
+module _ {room₀ room : List ℕ} {list₀ list : List Float} where
+  on :
+      {more : Bool} {room′ : List ℕ} {list′ : List Float} →
+      Ran room₀ list₀ room list → TookTurn room list more room′ list′ → Ran room₀ list₀ room′ list′
+  on r (one-record k) = and-one r k
+  on r no-record = r
+
+  turned :
+      {more : Bool} {room′ : List ℕ} {list′ : List Float} →
+      Going room₀ list₀ room list → TookTurn room list more room′ list′ →
+      length room′ ≡ length room → length list′ ≡ length list → Going room₀ list₀ room′ list′
+  turned g t p q = record { rooms = p ∙ g .rooms; lists = q ∙ g .lists; ran = on (g .ran) t }
+
 abbrev Inv-loop : tie.InvT-loop
-Inv-loop room₀ list₀ turns₀ room list turns = (length room ≡ length room₀) × (length list ≡ length list₀)
+Inv-loop room₀ list₀ turns₀ room list turns = Going room₀ list₀ room list
 
 abbrev μ-loop : tie.MeasureT-loop
 μ-loop room₀ list₀ turns₀ room list turns = turns
 
 loop-holds : tie.Need-loop-holds Inv-loop μ-loop
-loop-holds c = (refl, refl)
+loop-holds c = record { rooms = refl; lists = refl; ran = no-records }
 
 sub-turns : tie.Need-sub-turns Inv-loop μ-loop
 sub-turns c = omega arith
@@ -24,25 +47,25 @@ loop-less : tie.Need-loop-less Inv-loop μ-loop
 loop-less c = omega (arith, c .before .before .before .before .before .before .before .before .loop-test .taken)
 
 loop-again : tie.Need-loop-again Inv-loop μ-loop
-loop-again c = (c .before .before .before .before .before .take-turn .kept .0 ∙ c .before .before .before .before .before .before .before .before .before .loop .inv .0, c .before .before .before .before .before .take-turn .kept .1 .0 ∙ c .before .before .before .before .before .before .before .before .before .loop .inv .1)
+loop-again c = turned (c .before .before .before .before .before .before .before .before .before .loop .inv) (c .before .before .before .before .before .take-turn .ensures) (c .before .before .before .before .before .take-turn .kept .0) (c .before .before .before .before .before .take-turn .kept .1 .0)
 
 same-length : tie.Need-same-length Inv-loop μ-loop
-same-length c = c .before .before .before .before .before .take-turn .kept .0 ∙ c .before .before .before .before .before .before .before .before .before .loop .inv .0
+same-length c = c .before .before .before .before .before .take-turn .kept .0 ∙ c .before .before .before .before .before .before .before .before .before .loop .inv .rooms
 
 same-length-2 : tie.Need-same-length-2 Inv-loop μ-loop
-same-length-2 c = c .before .before .before .before .before .take-turn .kept .1 .0 ∙ c .before .before .before .before .before .before .before .before .before .loop .inv .1
+same-length-2 c = c .before .before .before .before .before .take-turn .kept .1 .0 ∙ c .before .before .before .before .before .before .before .before .before .loop .inv .lists
 
 returns : tie.Need-returns Inv-loop μ-loop
-returns c = tt
+returns c = on (c .before .before .before .before .before .before .before .before .before .loop .inv .ran) (c .before .before .before .before .before .take-turn .ensures)
 
 same-length-3 : tie.Need-same-length-3 Inv-loop μ-loop
-same-length-3 c = c .before .loop .inv .0
+same-length-3 c = c .before .loop .inv .rooms
 
 same-length-4 : tie.Need-same-length-4 Inv-loop μ-loop
-same-length-4 c = c .before .loop .inv .1
+same-length-4 c = c .before .loop .inv .lists
 
 returns-2 : tie.Need-returns-2 Inv-loop μ-loop
-returns-2 c = tt
+returns-2 c = c .before .loop .inv .ran
 
 pub run-spec : {M : Type 1} → statement M
 run-spec =
