@@ -2,9 +2,9 @@
 --   laid b room k             the room with the first k of the record's 32 words laid into it
 --   lent n l                  the first n places of l, or all where it has fewer
 --   given-back n l part       l when these come back as part
---   memory-lent, list-lent    what the call is lent
---   machine-of b room         the registers and the memory that the call starts from
---   answer-to, list-left      what a record answers, and the list that it leaves
+--   machine-of b room         the registers that the call starts from, with the memory that it is lent
+--   list-lent b list          the list that it is lent
+--   sheet-from, list-from     what the record answers, and the list that it leaves
 --   Carried                   these and the room, as the contract of carrying out a record
 use Prim.Native.Nat.{ℕ, zero, suc, _+_, min}
 use mathlib.Core.Path.{_≡_}
@@ -38,15 +38,15 @@ machine-of b room = machine (registers-in b) (lent (number b 14) (laid b room 32
 abbrev pub list-lent : List ℕ → List Float → List Float
 list-lent b list = lent (number b 13) list
 
-unfoldable pub answer-to : List ℕ → List ℕ → List Float → Sheet
-answer-to b room list = sheet-of whole (machine-of b room) (table-in b) (time-in b) (length (list-lent b list))
+unfoldable pub sheet-from : List ℕ → List ℕ → List Float → Sheet
+sheet-from b room list = sheet-of whole (machine-of b room) (table-in b) (time-in b) (length (list-lent b list))
 
-unfoldable pub list-left : List ℕ → List ℕ → List Float → List Float
-list-left b room list =
+unfoldable pub list-from : List ℕ → List ℕ → List Float → List Float
+list-from b room list =
     given-back (number b 13) list (list-after whole (machine-of b room) (table-in b) (time-in b) (list-lent b list))
 
 -- what a record leaves: its sheet, the room with the record's words, and the list
 pub record Carried (b room : List ℕ) (list : List Float) (o : Sheet) (room′ : List ℕ) (list′ : List Float) : Type 0 where
-  pub answer : o ≡ answer-to b room list
-  pub left : room′ ≡ laid b room 32
-  pub list-left : list′ ≡ list-left b room list
+  pub answer : o ≡ sheet-from b room list
+  pub room-left : room′ ≡ laid b room 32
+  pub list-left : list′ ≡ list-from b room list

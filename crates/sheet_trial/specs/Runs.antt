@@ -1,6 +1,6 @@
 -- Records of a script, carried out one after another. What the bytes of a record are that a turn read, nothing here can know.
---   TookTurn room list more room′ list′   a turn: it carried out a record, and there may be more; or it found none, and left all as it was
---   Ran room list room′ list′             a run: some records, each on what the one before it left
+--   TookTurn   what a turn leaves: it carried out a record, and there may be more; or it found none, and left all as it was
+--   Ran        what a run leaves: some records, each carried out on what the one before it left
 use Prim.Native.Nat.{ℕ}
 use mathlib.Core.Bool.{Bool, true, false}
 use mathlib.Core.List.{List}

@@ -1,5 +1,6 @@
-// Carries out a script of strike sheets, read from standard input, and prints what each answers and leaves. A second program, written in
-// plain Rust from documents 01 and 02 alone, does the same, and what both print is held against each other.
+// Carries out a script of strike sheets, read from standard input, and prints what each answers and leaves: document 02, request (viii).
+// A second program, written in plain Rust from documents 01 and 02 alone, does the same; `second/compare` holds what both print against
+// each other.
 //
 // WHAT A RUN HOLDS
 //   room for 32,769 words, all 0 at the start; the lent memory is its first words, as many as a record says;

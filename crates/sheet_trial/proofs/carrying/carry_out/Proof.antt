@@ -69,9 +69,10 @@ strike-sheet-requires c κs = tt
 same-length : tie.Need-same-length
 same-length c =
     let struck = c .before .before .before .before in
-    let end = struck .before .before .before .before .before .before .before .before .least .result in
-    let laid = struck .before .before .before .before .before .before .before .before .before .before .before .before .lay-words in
-    same-len-mid 0 (end - 0) (laid .last .0) (struck .strike-sheet .last .1 .0) (struck .strike-sheet .kept .1 .0) ∙ laid .kept .0
+    let lent = struck .before .before .before .before .before .before .before .before in
+    let laid = lent .before .before .before .before .lay-words in
+    let sheet = struck .strike-sheet in
+    same-len-mid 0 (lent .least .result - 0) (laid .last .0) (sheet .last .1 .0) (sheet .kept .1 .0) ∙ laid .kept .0
 
 same-length-2 : tie.Need-same-length-2
 same-length-2 c = search needs
@@ -80,13 +81,16 @@ returns : tie.Need-returns
 returns c =
     let struck = c .before .before .before .before in
     let named = struck .before .before .before .before .before in
-    let laid = named .before .before .before .before .before .before .before in
+    let lent = named .before .before .before in
+    let laid = lent .before .before .before .before in
     let args = laid .before .before .before .before .args in
+    let words = lent .least .ensures in
+    let places = named .before .least2 .ensures in
     carried
     (record {
       filled = laid .lay-words .ensures;
-      words-are = c .before .before .before .before .before .before .before .before .before .before .before .before .least .ensures ∙ ap (λ (n : ℕ). min n (length (laid .lay-words .last .0))) (c .before .before .before .before .before .before .before .before .before .before .before .before .before .number-at .ensures);
-      places-are = c .before .before .before .before .before .before .before .before .before .before .least2 .ensures ∙ ap (λ (n : ℕ). min n (length (args .list .now))) (c .before .before .before .before .before .before .before .before .before .before .before .number-at2 .ensures);
+      words-lent = words ∙ ap (λ (n : ℕ). min n (length (laid .lay-words .last .0))) (lent .before .number-at .ensures);
+      places-lent = places ∙ ap (λ (n : ℕ). min n (length (args .list .now))) (named .before .before .number-at2 .ensures);
       registers = named .registers-of .ensures;
       table = struck .before .before .before .table-of .ensures;
       time = struck .before .before .time-of .ensures;

@@ -3,7 +3,7 @@ use borrow.Author.Needs.{needs}
 use Prim.Native.Nat.{ℕ, _+_, _-_, _≤_, _<_}
 use native.Mathlib.Numerals.{add-one}
 use native.Mathlib.Omega.{arith}
-use mathlib.Core.Path.{_≡_, refl, sym, ap, _∙_}
+use mathlib.Core.Path.{_≡_, refl, ap, _∙_}
 use mathlib.Core.List.{List}
 use lib.ListN.{length}
 use Rattle.words.specs.Memory.{store-at}
@@ -76,7 +76,11 @@ loop-less c = omega (arith, c .before .before .before .before .before .loop-test
 
 loop-again : tie.Need-loop-again Inv-loop μ-loop
 loop-again c =
-    turned (c .before .before .before .before .before .before .loop .inv) _ _ (c .before .before .before .before .before .loop-test .taken) (c .before .before .before .number-at2 .ensures) (c .before .before .store-word .ensures .memory) (c .before .before .store-word .kept .0)
+    let put = c .before .before in
+    let word = put .before in
+    let turn = word .before .before in
+    turned (turn .before .loop .inv) _ _ (turn .loop-test .taken) (word .number-at2 .ensures) (put .store-word .ensures .memory)
+    (put .store-word .kept .0)
 
 same-length : tie.Need-same-length Inv-loop μ-loop
 same-length c = c .before .loop .inv .long

@@ -17,7 +17,8 @@ number-at-requires-3 c κs = search needs
 
 returns : tie.Need-returns
 returns c =
-    rw (c .before .before .before .wide-at .ensures, c .before .before .number-at .ensures, c .before .number-at2 .ensures, c .number-at3 .ensures)
+    let pointer = c .before .before .before .wide-at .ensures in
+    rw (pointer, c .before .before .number-at .ensures, c .before .number-at2 .ensures, c .number-at3 .ensures)
 
 pub registers-of-spec : {M : Type 1} → statement M
 registers-of-spec =
