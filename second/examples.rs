@@ -60,7 +60,8 @@ N 3; F F 18 FFFFFFFF = 0 0 5
 T 0 10 = 0 8000 1; T 10 10 = 0 FFFF 1; T 20 10 = 0 007F 1
 ";
 
-fn numbers<const N: usize>(text: &str) -> Option<[u32; N]> {
+/// Numbers in hexadecimal; those left out are 0.
+pub fn numbers<const N: usize>(text: &str) -> Option<[u32; N]> {
     let mut numbers = [0; N];
     for (k, digits) in text.split_whitespace().enumerate() {
         *numbers.get_mut(k)? = u32::from_str_radix(digits, 16).ok()?;

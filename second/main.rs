@@ -1,5 +1,6 @@
-//! `second`: a model of the TMS34010 host port, its memory, fields, bus and blocks, written from
-//! document 01 without sight of the proved code, to compare the results of both by running.
+//! `second`: a model of the TMS34010 host port, its memory, fields, bus, blocks and strike sheets,
+//! written from documents 01 and 02 without sight of the proved code, to compare the results of
+//! both by running.
 
 mod block;
 mod bus;
@@ -9,21 +10,39 @@ mod field;
 mod fields;
 mod maker;
 mod port;
+mod random;
 mod run;
 mod script;
+mod sheet;
+mod sheet_examples;
+mod sheet_run;
+mod sheet_script;
 
 use std::io::{self, BufWriter, Read, Write};
 use std::process::ExitCode;
 
-const USAGE: &str =
-    "second: script SEED CALLS | fields | answers [--fault NAME] | faults | examples";
+const USAGE: &str = "second: script SEED CALLS | fields | answers [--fault NAME]
+    | sheet-script SEED COUNT | sheet-answers [--fault NAME] | faults | examples";
 
-fn answers() -> io::Result<()> {
+type Out = BufWriter<io::StdoutLock<'static>>;
+
+/// Carries out the script that is the input, by the function for its kind.
+fn answers(carry_out: fn(&[u8], &mut Out) -> io::Result<()>) -> bool {
     let mut script = Vec::new();
-    io::stdin().read_to_end(&mut script)?;
     let mut out = BufWriter::with_capacity(1 << 16, io::stdout().lock());
-    run::answers(&script, &mut out)?;
-    out.flush()
+    io::stdin()
+        .read_to_end(&mut script)
+        .and_then(|_| carry_out(&script, &mut out))
+        .and_then(|()| out.flush())
+        .is_ok()
+}
+
+/// Prints the script that a function makes from a seed and a count.
+fn made(make: fn(u64, u64) -> Vec<u8>, seed: &str, count: &str) -> bool {
+    match (seed.parse(), count.parse()) {
+        (Ok(seed), Ok(count)) => io::stdout().write_all(&make(seed, count)).is_ok(),
+        _ => false,
+    }
 }
 
 /// Plants the fault of that name, if there is one.
@@ -34,7 +53,7 @@ fn plant(name: &str) -> bool {
 
 /// Whether the examples hold; says so, or which doesn't.
 fn examples() -> bool {
-    let outcome = examples::run();
+    let outcome = examples::run().and_then(|calls| Ok(calls + sheet_examples::run()?));
     match outcome {
         Ok(count) => println!("second: {count} examples hold"),
         Err(name) => println!("second: example {name} fails"),
@@ -46,13 +65,13 @@ fn main() -> ExitCode {
     let arguments: Vec<String> = std::env::args().skip(1).collect();
     let words: Vec<&str> = arguments.iter().map(String::as_str).collect();
     let done = match words[..] {
-        ["script", seed, calls] => match (seed.parse(), calls.parse()) {
-            (Ok(seed), Ok(calls)) => io::stdout().write_all(&script::script(seed, calls)).is_ok(),
-            _ => false,
-        },
+        ["script", seed, calls] => made(script::script, seed, calls),
         ["fields"] => io::stdout().write_all(&fields::script()).is_ok(),
-        ["answers"] => answers().is_ok(),
-        ["answers", "--fault", name] => plant(name) && answers().is_ok(),
+        ["answers"] => answers(run::answers),
+        ["answers", "--fault", name] => plant(name) && answers(run::answers),
+        ["sheet-script", seed, count] => made(sheet_script::script, seed, count),
+        ["sheet-answers"] => answers(sheet_run::answers),
+        ["sheet-answers", "--fault", name] => plant(name) && answers(sheet_run::answers),
         ["faults"] => {
             fault::NAMED.iter().for_each(|(name, _)| println!("{name}"));
             true

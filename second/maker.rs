@@ -1,10 +1,10 @@
-//! Making a script: its lines, a digest after every so many calls, and a generator of numbers
-//! (splitmix64) that gives the same ones for the same seed on every machine.
+//! Making a script of calls: its lines, a digest after every so many calls, and random numbers.
 
-use std::cell::Cell;
+use crate::random::Random;
+use std::ops::Deref;
 
 pub struct Maker {
-    state: Cell<u64>,
+    random: Random,
     pub lines: Vec<u8>,
     pub calls: u64,
     every: u64,
@@ -16,7 +16,7 @@ pub struct Maker {
 impl Maker {
     pub fn new(seed: u64, every: u64) -> Maker {
         Maker {
-            state: Cell::new(seed),
+            random: Random::new(seed),
             lines: Vec::new(),
             calls: 0,
             every,
@@ -46,25 +46,12 @@ impl Maker {
             self.call('D', &[]);
         }
     }
+}
 
-    pub fn bits(&self) -> u32 {
-        let state = self.state.get().wrapping_add(0x9E37_79B9_7F4A_7C15);
-        self.state.set(state);
-        let z = (state ^ state >> 30).wrapping_mul(0xBF58_476D_1CE4_E5B9);
-        let z = (z ^ z >> 27).wrapping_mul(0x94D0_49BB_1331_11EB);
-        ((z ^ z >> 31) >> 32) as u32
-    }
+impl Deref for Maker {
+    type Target = Random;
 
-    /// 0 to n - 1.
-    pub fn below(&self, n: u32) -> u32 {
-        ((u64::from(self.bits()) * u64::from(n)) >> 32) as u32
-    }
-
-    pub fn one_in(&self, n: u32) -> bool {
-        self.below(n) == 0
-    }
-
-    pub fn pick<T: Copy>(&self, from: &[T]) -> T {
-        from[self.below(from.len() as u32) as usize]
+    fn deref(&self) -> &Random {
+        &self.random
     }
 }

@@ -17,7 +17,8 @@ use Rattle.sheet.specs.InPlainWords.{Passed-in, Begins, tick, Rises, Com
 use Rattle.sheet.specs.Reading.{whole}
 use Rattle.sheet.specs.Sheet.{strokes-of, list-after}
 use Rattle.sheet.specs.declared.TimeStruck.{TimeStruck}
-use Rattle.sheet.proofs.TheBet.{struck, passing}
+use Rattle.sheet.proofs.Strokes.{few-strokes}
+use Rattle.sheet.proofs.TheBet.{passing}
 
 -- Ticks that rise lie after the first.
 pub after-the-first : (m : List ℕ) (a : BitAddress) (n : ℕ) → Rises m a n → (k : ℕ) → k < n → tick m a 0 ≤ tick m a k
@@ -50,10 +51,10 @@ module _ (s : Machine) (a : BitAddress) (t : TimeStruck) (l : List Float) where
   module _ (p : Passed-in s a) (b : Begins s t (length l)) (c : Complete (s .memory) a (strokes-of t))
       (r : Rises (s .memory) a (strokes-of t)) where
     some : 1 ≤ strokes-of t
-    some = omega (arith, b .time .an-hour)
+    some = few-strokes t (b .time) .0
 
     few : strokes-of t ≤ 29
-    few = omega (arith, b .time .hours, b .time .quarters, b .time .minutes)
+    few = few-strokes t (b .time) .1
 
     own : strokes-of t ≤ 1 → first ≡ last
     own h = ap (tick (s .memory) a) (omega (arith, some))

@@ -1,6 +1,7 @@
 -- The laws of a strike sheet, in reading order.
 -- ---- the tests
 pub mod Range
+pub mod Strokes
 pub mod Rising
 -- ---- a sheet that is begun, and one that is refused; demand 1
 pub mod Taken

@@ -23,6 +23,7 @@ use Rattle.sheet.specs.declared.Sheet.{Sheet}
 use Rattle.sheet.specs.declared.TimeStruck.{TimeStruck}
 use Rattle.sheet.proofs.Heard.{count-right-says}
 use Rattle.sheet.proofs.Numbers.{begun, known}
+use Rattle.sheet.proofs.Strokes.{few-strokes}
 use Rattle.sheet.proofs.Taken.{sheet-begun, sheet-barred}
 
 module _ (s : Machine) (a : BitAddress) (p : Passed-in s a) (t : TimeStruck) (room : ℕ) where
@@ -63,5 +64,5 @@ module _ (s : Machine) (a : BitAddress) (p : Passed-in s a) (t : TimeStruck) (ro
       let c = count-right-says s (known s a p t room b) (b .steps) a (p .address) (strokes-of t) h e in (
         begun-left b ∙ rw (eq-eqb _ _ c),
         on-by-gains (suc (strokes-of t)) a (p .address) ∙
-            omega (arith, b .size, b .time .hours, b .time .quarters, b .time .minutes),
+            omega (arith, b .size, few-strokes t (b .time) .1),
       )

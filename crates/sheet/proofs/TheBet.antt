@@ -20,6 +20,7 @@ use Rattle.sheet.specs.declared.TimeStruck.{TimeStruck}
 use Rattle.sheet.proofs.Heard.{tick-told}
 use Rattle.sheet.proofs.Numbers.{known, numbered}
 use Rattle.sheet.proofs.Refused.{passed-fills}
+use Rattle.sheet.proofs.Strokes.{few-strokes}
 
 -- the even-tempo times of n strokes by the table in memory, and what the list had after them
 abbrev pub struck : List ℕ → BitAddress → ℕ → List Float → List Float
@@ -58,7 +59,7 @@ module _ (s : Machine) (a : BitAddress) (t : TimeStruck) (l : List Float) where
         let z = numbered s a p t (length l) 0 .1 (passes b c r) in
         let f = passed-fills whole s a t l z in
         let told = tick-told s (known s a p t (length l) b) (b .steps) a (p .address) n (c .lies) in
-        let some : 1 ≤ n = omega (arith, b .time .an-hour) in
+        let some = few-strokes t (b .time) .0 in
         record {
           number = z;
           strokes = f .strokes;
@@ -102,7 +103,7 @@ module _ (s : Machine) (a : BitAddress) (t : TimeStruck) (l : List Float) (p : P
       rw (same-word (word-at a .0 + 1 + k) (omega arith), same-word (word-at a .0 + 1 + suc k) (omega arith)) (r k h)
 
   some : 1 ≤ strokes-of t
-  some = omega (arith, b .time .an-hour)
+  some = few-strokes t (b .time) .0
 
   same-struck : struck m a (strokes-of t) l ≡ struck (s .memory) a (strokes-of t) l
   same-struck =

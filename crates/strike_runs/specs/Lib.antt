@@ -1,2 +1,2 @@
 -- ---- what only private functions state
-pub mod Thousandths
+pub mod Parts

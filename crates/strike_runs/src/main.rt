@@ -2,7 +2,7 @@
 // stroke, all 29, and each refusal. Each sheet prints its answer, the pointer and HSTDATA that it leaves, and then the list of times.
 // The stored output was worked out by hand from document 02, request (viii).
 ghost use mathlib.Core.Path.{_≡_};
-ghost use Rattle.strike_runs.specs.Thousandths.{in-thousandths};
+ghost use Rattle.strike_runs.specs.Parts.{in-thousandths, five-tables, time};
 use registers::Registers;
 use sheet::Sheet;
 use sheet::TimeStruck;
@@ -63,26 +63,32 @@ fn print_sheet(o: Sheet) {
     print_mark(r.hollow);
 }
 
-// A sheet on a lent memory, with a list of half ticks. The registers stand elsewhere at first, so that any move shows.
-fn strike(title: &[u8], memory: &mut [u16], control: u16, table: u32, t: TimeStruck, room: usize) {
+// A sheet on a lent memory, into a lent list. The registers stand elsewhere at first, so that any move shows.
+fn strike(
+    title: &[u8],
+    memory: &mut [u16],
+    control: u16,
+    table: u32,
+    t: TimeStruck,
+    list: &mut [f64],
+) {
     let r = Registers {
         pointer: BitAddress(0x000abcd0),
         latch: 0x5555,
         control,
         hollow: false,
     };
-    let mut list = [0.5; 30];
-    let start = 0;
-    let end = if room < 30 { room } else { 30 };
     io::write_all(1, title);
-    print_sheet(strikes::strike_sheet(r, memory, BitAddress(table), t, &mut list[start..end]));
-    print_times(&list[start..end]);
+    print_sheet(strikes::strike_sheet(r, memory, BitAddress(table), t, list));
+    print_times(list);
 }
 
 // Five tables: at word 0 six strokes, at 7 six with an equal pair, at 14 three that end with FFFFh, at 18 one, and at 20 six that end
-// with the memory's last word, if all 27 words are lent.
-fn strike_tables(title: &[u8], words: usize, control: u16, table: u32, t: TimeStruck) {
-    let mut memory = [
+// with the memory's last word.
+fn tables() -> [u16; 27]
+    ensures { λ m. ⌜ m ≡ five-tables ⌝ }
+{
+    [
         6,
         10,
         20,
@@ -110,13 +116,28 @@ fn strike_tables(title: &[u8], words: usize, control: u16, table: u32, t: TimeSt
         255,
         300,
         350,
-    ];
-    let start = 0;
-    let end = if words < 27 { words } else { 27 };
-    strike(title, &mut memory[start..end], control, table, t, 8);
+    ]
 }
 
-fn at(hours: u32, quarters: u32, minutes: u32) -> TimeStruck {
+// A sheet of one of them.
+fn strike_table(title: &[u8], control: u16, table: u32, t: TimeStruck) {
+    let mut memory = tables();
+    let mut list = [0.5; 8];
+    strike(title, &mut memory, control, table, t, &mut list);
+}
+
+// The same with the last word not lent.
+fn strike_short(title: &[u8], control: u16, table: u32, t: TimeStruck) {
+    let mut memory = tables();
+    let mut list = [0.5; 8];
+    let start = 0;
+    let end = 26;
+    strike(title, &mut memory[start..end], control, table, t, &mut list);
+}
+
+fn at(hours: u32, quarters: u32, minutes: u32) -> TimeStruck
+    ensures { λ t. ⌜ t ≡ time hours quarters minutes ⌝ }
+{
     TimeStruck {
         hours,
         quarters,
@@ -126,25 +147,22 @@ fn at(hours: u32, quarters: u32, minutes: u32) -> TimeStruck {
 
 fn run_passing() {
     let quarter_to_four = at(3, 3, 0);
-    strike_tables(
+    strike_table(
         b"3:45, a table that ends with the memory's last word\n",
-        27,
         0x1000,
         0x140,
         quarter_to_four,
     );
-    strike_tables(b"the same with LBL 1\n", 27, 0x3000, 0x140, quarter_to_four);
-    strike_tables(
+    strike_table(b"the same with LBL 1\n", 0x3000, 0x140, quarter_to_four);
+    strike_table(
         b"2:15, a table that ends with a true FFFFh\n",
-        27,
         0x1000,
         0xe0,
         at(2, 1, 0),
     );
-    strike_tables(b"1:00, a single stroke\n", 27, 0x1000, 0x120, at(1, 0, 0));
-    strike_tables(
+    strike_table(b"1:00, a single stroke\n", 0x1000, 0x120, at(1, 0, 0));
+    strike_table(
         b"the same, from an address inside its word\n",
-        27,
         0x1000,
         0x12f,
         at(1, 0, 0),
@@ -153,53 +171,109 @@ fn run_passing() {
 
 // 12:59: the ticks go up one by one, and the last leaps to 1,035.
 fn run_longest() {
-    let mut memory = [0u16; 30];
-    memory[0] = 29;
-    for k in 1..30 {
-        memory[k] = 999 + k as u16;
-    }
-    memory[29] = 1035;
+    let mut memory = [
+        29,
+        1000,
+        1001,
+        1002,
+        1003,
+        1004,
+        1005,
+        1006,
+        1007,
+        1008,
+        1009,
+        1010,
+        1011,
+        1012,
+        1013,
+        1014,
+        1015,
+        1016,
+        1017,
+        1018,
+        1019,
+        1020,
+        1021,
+        1022,
+        1023,
+        1024,
+        1025,
+        1026,
+        1027,
+        1035,
+    ];
+    let mut list = [0.5; 30];
     strike(
         b"12:59, all 29 strokes\n",
         &mut memory,
         0x1000,
         0,
         at(12, 3, 14),
-        30,
+        &mut list,
     );
 }
 
-fn run_refused_before() {
-    let mut longer = [0u16; 32769];
+// A sheet of a table of six strokes, into a list of six places.
+fn strike_six(title: &[u8], control: u16, t: TimeStruck) {
     let mut memory = [6, 10, 20, 30, 40, 50, 60];
-    let t = at(3, 3, 0);
-    strike(b"32,769 words\n", &mut longer, 0x1000, 0, t, 6);
-    strike(b"no hours\n", &mut memory, 0x1000, 0, at(0, 3, 3), 6);
-    strike(b"13 hours\n", &mut memory, 0x1000, 0, at(13, 0, 0), 6);
-    strike(b"four quarters\n", &mut memory, 0x1000, 0, at(2, 4, 0), 6);
-    strike(b"15 minutes\n", &mut memory, 0x1000, 0, at(1, 0, 15), 6);
-    strike(b"a list one place short\n", &mut memory, 0x1000, 0, t, 5);
-    strike(b"INCR not set\n", &mut memory, 0x0800, 0, t, 6);
+    let mut list = [0.5; 6];
+    strike(title, &mut memory, control, 0, t, &mut list);
+}
+
+fn run_too_long() {
+    let mut memory = [0u16; 32769];
+    let mut list = [0.5; 6];
+    strike(
+        b"32,769 words\n",
+        &mut memory,
+        0x1000,
+        0,
+        at(3, 3, 0),
+        &mut list,
+    );
+}
+
+fn run_out_of_range() {
+    strike_six(b"no hours\n", 0x1000, at(0, 3, 3));
+    strike_six(b"13 hours\n", 0x1000, at(13, 0, 0));
+    strike_six(b"four quarters\n", 0x1000, at(2, 4, 0));
+    strike_six(b"15 minutes\n", 0x1000, at(1, 0, 15));
+}
+
+fn run_no_room() {
+    let mut memory = tables();
+    let mut list = [0.5; 5];
+    strike(
+        b"a list one place short\n",
+        &mut memory,
+        0x1000,
+        0,
+        at(3, 3, 0),
+        &mut list,
+    );
 }
 
 fn run_refused_after() {
     let t = at(3, 3, 0);
-    strike_tables(b"a table beyond memory\n", 27, 0x1000, 0x1b0, t);
-    strike_tables(
+    strike_table(b"a table beyond memory\n", 0x1000, 0x1b0, t);
+    strike_table(
         b"a table at the top of the pointer's range\n",
-        27,
         0x1000,
         0xfffffff0,
         t,
     );
-    strike_tables(b"a count of six for 3:30\n", 27, 0x1000, 0, at(3, 2, 0));
-    strike_tables(b"3:45, a word short\n", 26, 0x1000, 0x140, t);
-    strike_tables(b"3:45, an equal pair\n", 27, 0x1000, 0x70, t);
+    strike_table(b"a count of six for 3:30\n", 0x1000, 0, at(3, 2, 0));
+    strike_short(b"3:45, a word short\n", 0x1000, 0x140, t);
+    strike_table(b"3:45, an equal pair\n", 0x1000, 0x70, t);
 }
 
 fn main() {
     run_passing();
     run_longest();
-    run_refused_before();
+    run_too_long();
+    run_out_of_range();
+    run_no_room();
+    strike_six(b"INCR not set\n", 0x0800, at(3, 3, 0));
     run_refused_after();
 }

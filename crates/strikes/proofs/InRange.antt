@@ -1,28 +1,14 @@
--- A time that is in range: how many strokes it has, and that a sheet is begun for no other. By the tests of the definitions, in turn.
+-- A sheet is begun only for a time in range, with room for its strokes. By the tests of the definition, in turn.
 use Prim.Native.Nat.{ℕ, _≤_}
 use native.Mathlib.Omega.{arith}
 use mathlib.Core.Path.{_≡_, refl}
-use mathlib.Core.Bool.{Bool, true, false, cond, _||_}
-use lib.Dec.{eqb, ltb}
-use borrow.Author.Tests.{ltb-false, eqb-false}
+use mathlib.Core.Bool.{Bool, true, false, cond}
+use lib.Dec.{ltb}
+use borrow.Author.Tests.{ltb-false}
 use Rattle.words.specs.Memory.{over-limit}
-use Rattle.words.proofs.Choices.{both-false}
 use Rattle.control.specs.Control.{incr}
 use Rattle.sheet.specs.Sheet.{out-of-range, strokes-of, refusal-before}
 use Rattle.sheet.specs.declared.TimeStruck.{TimeStruck}
-
--- A time that is in range has from one to 29 strokes.
-pub few-strokes : (t : TimeStruck) → out-of-range t ≡ false → (1 ≤ strokes-of t) × (strokes-of t ≤ 29)
-unfolding out-of-range
-few-strokes t e =
-    let tests = both-false (eqb (t .hours) 0 || ltb 12 (t .hours)) (ltb 3 (t .quarters) || ltb 14 (t .minutes)) e in
-    let hours = both-false (eqb (t .hours) 0) (ltb 12 (t .hours)) (tests .0) in
-    let others = both-false (ltb 3 (t .quarters)) (ltb 14 (t .minutes)) (tests .1) in
-    let some = eqb-false (t .hours) 0 (hours .0) in
-    let h = ltb-false 12 (t .hours) (hours .1) in
-    let q = ltb-false 3 (t .quarters) (others .0) in
-    let m = ltb-false 14 (t .minutes) (others .1) in
-    (omega (arith, some), omega arith)
 
 -- A sheet that is not refused before the port is touched is of a time in range, and the list has a place for each of its strokes.
 pub in-range-with-room : (words room c : ℕ) (t : TimeStruck) → refusal-before words room c t ≡ 0 →

@@ -10,3 +10,4 @@ pub mod LentFront
 -- ---- what a sheet leaves
 pub mod TicksTaken
 pub mod TableRead
+pub mod One

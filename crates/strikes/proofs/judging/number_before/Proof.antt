@@ -1,5 +1,5 @@
 -- `strikes::judging::number_before` meets its contract: the tests are the definition's, in its order.
-use borrow.Author.Needs.{needs}
+use native.Mathlib.Omega.{arith}
 use borrow.Author.Tests.{lt-ltb, le-ltb}
 use mathlib.Core.Path.{sym, _∙_}
 use Rattle.sheet.specs.Sheet.{refusal-before}
@@ -26,7 +26,7 @@ count-strokes-requires : tie.Need-count-strokes-requires
 count-strokes-requires c κs = sym (c .before .is-out-of-range .ensures) ∙ c .if2 .left
 
 cast-if3 : tie.Need-cast-if3
-cast-if3 c = search needs
+cast-if3 c = omega arith
 
 returns-3 : tie.Need-returns-3
 unfolding refusal-before

@@ -1,17 +1,16 @@
 -- `strikes::reading::load_pointer` meets its contract: two writes, in the order that LBL commands.
 use native.Mathlib.Omega.{arith}
 use mathlib.Core.Path.{sym, _∙_}
-use borrow.Author.Needs.{needs}
 use Rattle.port.specs.Runs.{machine}
 use Rattle.strikes.proofs.Loading.{low-last, high-last}
 use Rattle.strikes.proofs.reading.load_pointer.Statement.{statement}
 use Rattle.strikes.proofs.reading.load_pointer.Tie as tie
 
 cast-low : tie.Need-cast-low
-cast-low c = search needs
+cast-low c = omega arith
 
 cast-high : tie.Need-cast-high
-cast-high c = search needs
+cast-high c = omega arith
 
 fetches-by-requires : tie.Need-fetches-by-requires
 fetches-by-requires c κs = tt
@@ -23,7 +22,7 @@ write-half-requires-2 : tie.Need-write-half-requires-2
 write-half-requires-2 c κs = tt
 
 same-length : tie.Need-same-length
-same-length c = search needs
+same-length c = omega arith
 
 returns : tie.Need-returns
 returns c =
@@ -40,7 +39,7 @@ write-half-requires-4 : tie.Need-write-half-requires-4
 write-half-requires-4 c κs = tt
 
 same-length-2 : tie.Need-same-length-2
-same-length-2 c = search needs
+same-length-2 c = omega arith
 
 returns-2 : tie.Need-returns-2
 returns-2 c =

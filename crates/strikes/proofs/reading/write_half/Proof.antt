@@ -1,5 +1,5 @@
 -- `strikes::reading::write_half` meets its contract: it is one access.
-use borrow.Author.Needs.{needs}
+use native.Mathlib.Omega.{arith}
 use Rattle.strikes.proofs.OneAccess.{leaves}
 use Rattle.strikes.proofs.reading.write_half.Statement.{statement}
 use Rattle.strikes.proofs.reading.write_half.Tie as tie
@@ -8,7 +8,7 @@ host-access-requires : tie.Need-host-access-requires
 host-access-requires c κs = tt
 
 same-length : tie.Need-same-length
-same-length c = search needs
+same-length c = omega arith
 
 returns : tie.Need-returns
 returns c = leaves (c .before .before .before .host-access .ensures)

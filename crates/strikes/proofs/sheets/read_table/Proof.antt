@@ -1,5 +1,5 @@
 -- `strikes::sheets::read_table` meets its contract: the pointer is loaded, the count word is read and judged, and the ticks follow.
-use borrow.Author.Needs.{needs}
+use native.Mathlib.Omega.{arith}
 use Rattle.port.specs.Runs.{machine}
 use Rattle.strikes.proofs.TableRead.{count-refused, count-right}
 use Rattle.strikes.proofs.sheets.read_table.Statement.{statement}
@@ -18,7 +18,7 @@ refuse-requires : tie.Need-refuse-requires
 refuse-requires c κs = tt
 
 same-length : tie.Need-same-length
-same-length c = search needs
+same-length c = omega arith
 
 returns : tie.Need-returns
 returns c =
@@ -36,10 +36,10 @@ take-ticks-requires c κs =
     counted .before .before .before .before .before .before .before .before .before .before .before .before .before .pre
 
 same-length-2 : tie.Need-same-length-2
-same-length-2 c = search needs
+same-length-2 c = omega arith
 
 same-length-3 : tie.Need-same-length-3
-same-length-3 c = search needs
+same-length-3 c = omega arith
 
 returns-2 : tie.Need-returns-2
 returns-2 c =

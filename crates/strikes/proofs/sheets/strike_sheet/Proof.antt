@@ -1,6 +1,6 @@
 -- `strikes::sheets::strike_sheet` meets its contract: refused before the port is touched, or the table is read for a time in
 -- range.
-use borrow.Author.Needs.{needs}
+use native.Mathlib.Omega.{arith}
 use borrow.Author.Tests.{eq-eqb, ne-eqb}
 use mathlib.Core.Path.{refl, sym, _∙_}
 use Rattle.sheet.specs.Sheet.{sheet-of, list-after}
@@ -31,10 +31,10 @@ read-table-requires c κs =
     (few .1, few .2, rw (few .0) room)
 
 same-length : tie.Need-same-length
-same-length c = search needs
+same-length c = omega arith
 
 same-length-2 : tie.Need-same-length-2
-same-length-2 c = search needs
+same-length-2 c = omega arith
 
 returns-2 : tie.Need-returns-2
 unfolding sheet-of list-after

@@ -1,6 +1,5 @@
 -- `strikes::sheets::take_ticks` meets its contract: the first places of the array come back as the ticks, which are judged, and whose
 -- first and last give the times.
-use borrow.Author.Needs.{needs}
 use Prim.Native.Nat.{ℕ, _-_}
 use native.Mathlib.Omega.{arith}
 use mathlib.Core.Path.{_≡_}
@@ -20,16 +19,16 @@ abbrev behind : ℕ → List ℕ
 behind n = drop (n - 0) (replicate 29 0)
 
 mul-ticks : tie.Need-mul-ticks
-mul-ticks c = search needs
+mul-ticks c = omega arith
 
 sub-read-ticks : tie.Need-sub-read-ticks
-sub-read-ticks c = search needs
+sub-read-ticks c = omega arith
 
 part-ticks-start : tie.Need-part-ticks-start
-part-ticks-start c = search needs
+part-ticks-start c = omega arith
 
 part-ticks-end : tie.Need-part-ticks-end
-part-ticks-end c = search needs
+part-ticks-end c = omega arith
 
 read-ticks-requires : tie.Need-read-ticks-requires
 read-ticks-requires c κs = tt
@@ -44,13 +43,13 @@ read c =
     rw (front-length (start .args .strokes) (replicate 29 0) (start .pre .1)) at (c .read-ticks .ensures)
 
 mul-number-of-ticks : tie.Need-mul-number-of-ticks
-mul-number-of-ticks c = search needs
+mul-number-of-ticks c = omega arith
 
 sub-number-of-ticks : tie.Need-sub-number-of-ticks
-sub-number-of-ticks c = search needs
+sub-number-of-ticks c = omega arith
 
 part-number-of-ticks-start : tie.Need-part-number-of-ticks-start
-part-number-of-ticks-start c = search needs
+part-number-of-ticks-start c = omega arith
 
 part-number-of-ticks-end : tie.Need-part-number-of-ticks-end
 part-number-of-ticks-end c =
@@ -74,7 +73,7 @@ refuse-requires : tie.Need-refuse-requires
 refuse-requires c κs = tt
 
 same-length : tie.Need-same-length
-same-length c = search needs
+same-length c = omega arith
 
 returns : tie.Need-returns
 returns c =
@@ -83,16 +82,16 @@ returns c =
     rw (c .refuse .ensures) (ticks-refused (read t) _ (judged j) (c .before .if1 .taken) _)
 
 array-read-fill-times : tie.Need-array-read-fill-times
-array-read-fill-times c = search needs
+array-read-fill-times c = omega arith
 
 sub-fill-times : tie.Need-sub-fill-times
-sub-fill-times c = search needs
+sub-fill-times c = omega arith
 
 mul-fill-times : tie.Need-mul-fill-times
-mul-fill-times c = search needs
+mul-fill-times c = omega arith
 
 array-read-fill-times-2 : tie.Need-array-read-fill-times-2
-array-read-fill-times-2 c = search needs
+array-read-fill-times-2 c = omega arith
 
 fill-times-requires : tie.Need-fill-times-requires
 fill-times-requires c κs =
@@ -105,10 +104,10 @@ fill-times-requires c κs =
     (first-then-last (read t) _ (judged j) (c .before .if1 .left) (start .pre .0), start .pre .2)
 
 same-length-2 : tie.Need-same-length-2
-same-length-2 c = search needs
+same-length-2 c = omega arith
 
 same-length-3 : tie.Need-same-length-3
-same-length-3 c = search needs
+same-length-3 c = omega arith
 
 returns-2 : tie.Need-returns-2
 returns-2 c =

@@ -1,34 +1,34 @@
 -- `strikes::timing::time_of` meets its contract: the operations are the definition's, by cases on whether there is more than one stroke.
-use borrow.Author.Needs.{needs}
+use native.Mathlib.Omega.{arith}
 use borrow.Author.Tests.{lt-ltb, le-ltb}
 use Rattle.tempo.specs.Tempo.{even-time}
 use Rattle.strikes.proofs.timing.time_of.Statement.{statement}
 use Rattle.strikes.proofs.timing.time_of.Tie as tie
 
 sub-span : tie.Need-sub-span
-sub-span c = search needs
+sub-span c = omega arith
 
 sub-gaps : tie.Need-sub-gaps
-sub-gaps c = search needs
+sub-gaps c = omega arith
 
 int-to-float-result : tie.Need-int-to-float-result
-int-to-float-result c = search needs
+int-to-float-result c = omega arith
 
 int-to-float-result-2 : tie.Need-int-to-float-result-2
-int-to-float-result-2 c = search needs
+int-to-float-result-2 c = omega arith
 
 int-to-float-result-3 : tie.Need-int-to-float-result-3
-int-to-float-result-3 c = search needs
+int-to-float-result-3 c = omega arith
 
 int-to-float-result-4 : tie.Need-int-to-float-result-4
-int-to-float-result-4 c = search needs
+int-to-float-result-4 c = omega arith
 
 returns : tie.Need-returns
 unfolding even-time
 returns c = simp (lt-ltb _ _ (c .before .before .before .before .if1 .taken))
 
 int-to-float-result-5 : tie.Need-int-to-float-result-5
-int-to-float-result-5 c = search needs
+int-to-float-result-5 c = omega arith
 
 returns-2 : tie.Need-returns-2
 unfolding even-time

@@ -1,0 +1,34 @@
+-- Any two outcomes that the statement of a part of a sheet allows are one. Of the whole sheet that is `one-struck`, in crate sheet.
+use Prim.Native.Nat.{ℕ}
+use mathlib.Core.Path.{_≡_, ap, _∙_}
+use mathlib.Core.Bool.{Bool}
+use mathlib.Core.List.{List}
+use lib.Ieee.{Float}
+use Rattle.words.specs.declared.BitAddress.{BitAddress}
+use Rattle.words.proofs.One.{one-value}
+use Rattle.registers.specs.declared.Registers.{Registers}
+use Rattle.port.specs.Runs.{Machine}
+use Rattle.sheet.specs.declared.Sheet.{Sheet}
+use Rattle.strikes.specs.Parts.{ReadTicks, TookTicks, ReadTable}
+use Rattle.strikes.specs.declared.Run.{Run}
+
+module _ {s : Machine} {n : ℕ} where
+  -- The reads of some ticks have one outcome.
+  pub one-read-ticks : {o p : Run} {m′ m″ x y : List ℕ} → ReadTicks s n o m′ x → ReadTicks s n p m″ y → (o ≡ p) × (m′ ≡ m″) × (x ≡ y)
+  one-read-ticks {o} {p} a b =
+      let e = one-value (a .ends-at) (b .ends-at) in (
+        ap (λ (q : Registers). record { registers = q; hollow = o .hollow }) (ap (λ (t : Machine). t .registers) e) ∙
+            ap (λ (h : Bool). record { registers = p .registers; hollow = h }) (one-value (a .hollow) (b .hollow)),
+        ap (λ (t : Machine). t .memory) e,
+        one-value (a .words) (b .words),
+      )
+
+  -- So have ticks that are read, judged and timed,
+  pub one-took-ticks : {l : List Float} {o p : Sheet} {m′ m″ : List ℕ} {l′ l″ : List Float} →
+      TookTicks s n l o m′ l′ → TookTicks s n l p m″ l″ → (o ≡ p) × (m′ ≡ m″) × (l′ ≡ l″)
+  one-took-ticks a b = (one-value (a .outcome) (b .outcome), one-value (a .memory) (b .memory), one-value (a .list) (b .list))
+
+  -- and a whole table.
+  pub one-read-table : {a : BitAddress} {l : List Float} {o p : Sheet} {m′ m″ : List ℕ} {l′ l″ : List Float} →
+      ReadTable s a n l o m′ l′ → ReadTable s a n l p m″ l″ → (o ≡ p) × (m′ ≡ m″) × (l′ ≡ l″)
+  one-read-table a b = (one-value (a .outcome) (b .outcome), one-value (a .memory) (b .memory), one-value (a .list) (b .list))
