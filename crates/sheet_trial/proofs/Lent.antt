@@ -1,0 +1,22 @@
+-- Parts of the room or of the list that the code lends: from place 0 up to the smaller of two numbers.
+use Prim.Native.Nat.{ℕ, _-_, min}
+use native.Mathlib.Nat.{sub-zero}
+use native.Mathlib.Omega.{arith}
+use mathlib.Core.Path.{_≡_, ap, _∙_}
+use mathlib.Core.List.{List, _++_}
+use lib.ListN.{length, take, drop}
+use borrow.Rule.Slice.PartMut.{putMid, post-is, put-same}
+use Rattle.sheet_trial.specs.Carried.{lent, given-back}
+
+module _ {A : Type 0} (k n : ℕ) (l : List A) (e : n ≡ min k (length l)) where
+  -- What is lent.
+  pub lent-is : take (n - 0) l ≡ lent k l
+  lent-is = ap (λ (j : ℕ). take j l) (sub-zero n ∙ e)
+
+  -- What the whole is when the part comes back as ys.
+  pub back-is : (ys : List A) → putMid 0 (n - 0) l ys ≡ given-back k l ys
+  back-is ys = ap (λ (r : List A). ys ++ r) (post-is 0 n l (omega arith) ∙ ap (λ (j : ℕ). drop j l) e)
+
+-- A whole whose part comes back as it was is as it was.
+pub unchanged : {A : Type 0} (n : ℕ) (l ys : List A) → ys ≡ take (n - 0) l → putMid 0 (n - 0) l ys ≡ l
+unchanged n l ys e = ap (putMid 0 (n - 0) l) e ∙ put-same 0 (n - 0) l

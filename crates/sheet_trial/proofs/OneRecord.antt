@@ -1,0 +1,48 @@
+-- A record is carried out by a sheet on the parts of the room and of the list that it lends.
+use Prim.Native.Nat.{ℕ, _-_, min}
+use mathlib.Core.Path.{_≡_, ap, _∙_}
+use mathlib.Core.List.{List}
+use lib.Ieee.{Float}
+use lib.ListN.{length, take}
+use borrow.Rule.Slice.PartMut.{putMid}
+use Rattle.words.specs.declared.BitAddress.{BitAddress}
+use Rattle.registers.specs.declared.Registers.{Registers}
+use Rattle.port.specs.Runs.{machine}
+use Rattle.sheet.specs.Reading.{whole}
+use Rattle.sheet.specs.Sheet.{sheet-of, list-after, Struck}
+use Rattle.sheet.specs.declared.Sheet.{Sheet}
+use Rattle.sheet.specs.declared.TimeStruck.{TimeStruck}
+use Rattle.sheet_trial.specs.Record.{number, registers-in, table-in, time-in}
+use Rattle.sheet_trial.specs.Carried.{laid, lent, given-back, list-lent, sheet-from, list-from, Carried}
+use Rattle.sheet_trial.proofs.Lent.{lent-is, back-is, unchanged}
+
+-- What the code has in hand for the record b: the room with its words, how much of it and of the list it lends, and what it calls with.
+pub record Ready (b room room₁ : List ℕ) (list : List Float) (m n : ℕ) (r : Registers) (a : BitAddress) (t : TimeStruck) : Type 0 where
+  pub filled : room₁ ≡ laid b room 32
+  pub words-lent : m ≡ min (number b 14) (length room₁)
+  pub places-lent : n ≡ min (number b 13) (length list)
+  pub registers : r ≡ registers-in b
+  pub table : a ≡ table-in b
+  pub time : t ≡ time-in b
+
+module _ {b room room₁ : List ℕ} {list : List Float} {m n : ℕ} {r : Registers} {a : BitAddress} {t : TimeStruck}
+    (y : Ready b room room₁ list m n r a t) where
+  memory-is : take (m - 0) room₁ ≡ lent (number b 14) (laid b room 32)
+  memory-is = lent-is (number b 14) m room₁ (y .words-lent) ∙ ap (lent (number b 14)) (y .filled)
+
+  list-is : take (n - 0) list ≡ list-lent b list
+  list-is = lent-is (number b 13) n list (y .places-lent)
+
+  -- The sheet of the lent parts, which then come back, is what the record asks for.
+  pub carried : {o : Sheet} {m′ : List ℕ} {l′ : List Float} →
+      Struck r (take (m - 0) room₁) a t (take (n - 0) list) o m′ l′ →
+      Carried b room list o (putMid 0 (m - 0) room₁ m′) (putMid 0 (n - 0) list l′)
+  unfolding sheet-from list-from
+  carried {o} {m′} {l′} s =
+      let lent-list = s .list ∙ (λ i. list-after whole (machine (y .registers i) (memory-is i)) (y .table i) (y .time i) (list-is i)) in
+      record {
+        answer = s .outcome
+            ∙ (λ i. sheet-of whole (machine (y .registers i) (memory-is i)) (y .table i) (y .time i) (length (list-is i)));
+        room-left = unchanged m room₁ m′ (s .memory) ∙ y .filled;
+        list-left = back-is (number b 13) n list (y .places-lent) l′ ∙ ap (given-back (number b 13) list) lent-list;
+      }

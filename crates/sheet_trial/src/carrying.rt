@@ -1,0 +1,49 @@
+// A record of a script, carried out.
+ghost use mathlib.Core.Path.{_≡_};
+ghost use Prim.Native.Nat.{min};
+ghost use Rattle.sheet_trial.specs.Carried.{laid, Carried};
+use crate::reading::number_at;
+use crate::reading::registers_of;
+use crate::reading::table_of;
+use crate::reading::time_of;
+use sheet::Sheet;
+use strikes::strike_sheet;
+use words::WordNumber;
+use words::store_word;
+
+// The smaller of two numbers.
+fn least(a: usize, b: usize) -> usize
+    ensures { λ r. ⌜ r ≡ min a b ⌝ }
+{
+    if a < b { a } else { b }
+}
+
+// The record's 32 words laid into the room, as far as it reaches.
+fn lay_words(room: &mut [u16], bytes: &[u8; 96])
+    ensures { λ _. ⌜ now (room .exit) ≡ laid (now (bytes .entry)) (now (room .entry)) 32 ⌝ }
+{
+    let first = number_at(bytes, 15) as u32;
+    let mut k: usize = 0;
+    while k < 32 {
+        let n = first + k as u32;
+        store_word(room, WordNumber(n), number_at(bytes, 16 + k));
+        k += 1;
+    }
+}
+
+// One record. What is lent of the room and of the list is their first places, as many as the record says.
+pub(crate) fn carry_out(room: &mut [u16], list: &mut [f64], bytes: &[u8; 96]) -> Sheet
+    ensures { λ o. ⌜ Carried (now (bytes .entry)) (now (room .entry)) (now (list .entry)) o (now (room .exit)) (now (list .exit)) ⌝ }
+{
+    lay_words(room, bytes);
+    let start = 0;
+    let end = least(number_at(bytes, 14) as usize, room.len());
+    let last = least(number_at(bytes, 13) as usize, list.len());
+    strike_sheet(
+        registers_of(bytes),
+        &mut room[start..end],
+        table_of(bytes),
+        time_of(bytes),
+        &mut list[start..last],
+    )
+}
