@@ -23,11 +23,7 @@ part-is a n l =
 pub put-back : (a n : ℕ) (l ys : List ℕ) → putMid a (a + n - a) l ys ≡ with-stretch l a n ys
 put-back a n l ys = ap (λ (r : List ℕ). take a l ++ (ys ++ r)) (post-is a (a + n) l (omega arith))
 
--- The first n places, lent.
-pub first-length : (n : ℕ) (l : List ℕ) → n ≤ length l → length (take (n - 0) l) ≡ n
-first-length n l h = simp length-take (omega arith)
-
--- They are its first n words.
+-- The first n places, lent, are its first n words.
 pub first-is : (n : ℕ) (l : List ℕ) → take (n - 0) l ≡ take n l
 first-is n l = ap (λ (k : ℕ). take k l) (sub-zero n)
 

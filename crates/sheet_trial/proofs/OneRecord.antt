@@ -5,7 +5,9 @@ use mathlib.Core.List.{List}
 use lib.Ieee.{Float}
 use lib.ListN.{length, take}
 use borrow.Rule.Slice.PartMut.{putMid}
+use Rattle.words.specs.Lent.{lent, given-back}
 use Rattle.words.specs.declared.BitAddress.{BitAddress}
+use Rattle.words.proofs.Lent.{lent-is, back-is, unchanged}
 use Rattle.registers.specs.declared.Registers.{Registers}
 use Rattle.port.specs.Runs.{machine}
 use Rattle.sheet.specs.Reading.{whole}
@@ -13,8 +15,7 @@ use Rattle.sheet.specs.Sheet.{sheet-of, list-after, Struck}
 use Rattle.sheet.specs.declared.Sheet.{Sheet}
 use Rattle.sheet.specs.declared.TimeStruck.{TimeStruck}
 use Rattle.sheet_trial.specs.Record.{number, registers-in, table-in, time-in}
-use Rattle.sheet_trial.specs.Carried.{laid, lent, given-back, list-lent, sheet-from, list-from, Carried}
-use Rattle.sheet_trial.proofs.Lent.{lent-is, back-is, unchanged}
+use Rattle.sheet_trial.specs.Carried.{laid, list-lent, sheet-from, list-from, Carried}
 
 -- What the code has in hand for the record b: the room with its words, how much of it and of the list it lends, and what it calls with.
 pub record Ready (b room room₁ : List ℕ) (list : List Float) (m n : ℕ) (r : Registers) (a : BitAddress) (t : TimeStruck) : Type 0 where

@@ -1,16 +1,15 @@
 -- A record carried out: crates/sheet_trial/src/main.rt.
 --   laid b room k             the room with the first k of the record's 32 words laid into it
---   lent n l                  the first n places of l, or all where it has fewer
---   given-back n l part       l when these come back as part
 --   machine-of b room         the registers that the call starts from, with the memory that it is lent
 --   list-lent b list          the list that it is lent
 --   sheet-from, list-from     what the record answers, and the list that it leaves
 --   Carried                   these and the room, as the contract of carrying out a record
-use Prim.Native.Nat.{ℕ, zero, suc, _+_, min}
+use Prim.Native.Nat.{ℕ, zero, suc, _+_}
 use mathlib.Core.Path.{_≡_}
-use mathlib.Core.List.{List, _++_}
+use mathlib.Core.List.{List}
 use lib.Ieee.{Float}
-use lib.ListN.{length, take, drop}
+use lib.ListN.{length}
+use Rattle.words.specs.Lent.{lent, given-back}
 use Rattle.words.specs.Memory.{store-at}
 use Rattle.port.specs.Runs.{Machine, machine}
 use Rattle.sheet.specs.Reading.{whole}
@@ -23,15 +22,7 @@ unfoldable pub laid : List ℕ → List ℕ → ℕ → List ℕ
 laid b room zero = room
 laid b room (suc k) = store-at (laid b room k) (record { 0 = number b 15 + k }) (number b (16 + k))
 
-module _ {A : Type 0} where
-  -- "how many .. are lent; above .. it counts as .."
-  abbrev pub lent : ℕ → List A → List A
-  lent n l = take (min n (length l)) l
-
-  abbrev pub given-back : ℕ → List A → List A → List A
-  given-back n l part = part ++ drop (min n (length l)) l
-
--- ---- the record b, on a room and a list
+-- ---- the record b, on a room and a list: "how many .. are lent; above .. it counts as .."
 abbrev pub machine-of : List ℕ → List ℕ → Machine
 machine-of b room = machine (registers-in b) (lent (number b 14) (laid b room 32))
 

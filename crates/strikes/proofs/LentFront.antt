@@ -1,15 +1,11 @@
--- The first n places of an array: lent, and come back as other words with the rest behind them.
+-- The first n places of an array that were lent and came back as other words, with the rest behind them.
 use Prim.Native.Nat.{ℕ, _+_, _-_, _≤_, _<_}
 use native.Mathlib.Nat.{sub-zero}
 use native.Mathlib.Omega.{arith}
 use mathlib.Core.Path.{_≡_, ap, _∙_}
 use mathlib.Core.List.{List, _++_}
-use lib.ListN.{length, take, getD, length-append, length-take, List·getD-append}
+use lib.ListN.{length, take, getD, length-append, List·getD-append}
 use lib.Seq.{take-at}
-
--- What is lent has n places.
-pub front-length : (n : ℕ) (l : List ℕ) → n ≤ length l → length (take (n - 0) l) ≡ n
-front-length n l h = simp length-take (omega arith)
 
 module _ (n : ℕ) (words rest : List ℕ) (e : length words ≡ n) where
   -- The words that came back lie inside the array.

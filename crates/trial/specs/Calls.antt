@@ -4,15 +4,15 @@
 --   .. -answer, .. -memory, .. -room, .. -list   what calls of one kind answer, and leave of what they have
 --   access-in, place-of, registers-in, state-set   what the numbers of a call say
 --   filled, digest              the words that M and J lay down; the digest of the first n words of a list
---   lent n l, given-back n l part   the first n words of l, and l when they come back as part
 --   answer-to, room-after, list-after, Carried   any call
-use Prim.Native.Nat.{ℕ, zero, suc, _+_, _*_, _-_, _%_, _^_, min}
+use Prim.Native.Nat.{ℕ, zero, suc, _+_, _*_, _-_, _%_, _^_}
 use mathlib.Core.Bool.{cond}
 use mathlib.Core.List.{List, [], _∷_, _++_}
 use mathlib.Core.Path.{_≡_}
 use lib.Dec.{eqb}
 use lib.IntN.{ℤ, pos, negsuc}
-use lib.ListN.{length, getD, take, drop}
+use lib.ListN.{length, getD}
+use Rattle.words.specs.Lent.{lent, given-back}
 use Rattle.words.specs.Addresses.{address}
 use Rattle.bus.specs.Order.{asked, granted, released}
 use Rattle.bus.specs.declared.Bus.{Bus}
@@ -260,12 +260,6 @@ pub record LentDone (s : State) (m l : List ℕ) (c : Call) (d : Done) (m′ l�
   pub list : l′ ≡ lent-list s m l c
 
 -- "The lent memory is its first `length` words", "The lent list is its first `size` words"; no more than there are
-abbrev pub lent : ℕ → List ℕ → List ℕ
-lent n l = take (min n (length l)) l
-
-abbrev pub given-back : ℕ → List ℕ → List ℕ → List ℕ
-given-back n l part = part ++ drop (min n (length l)) l
-
 unfoldable pub answer-to : State → List ℕ → List ℕ → Call → Done
 answer-to s room list c =
     cond (plain-letter (c .letter)) (plain-answer s c)

@@ -5,4 +5,5 @@ pub mod Bits
 pub mod Lanes
 pub mod ByBytes
 pub mod MemoryWords
+pub mod Lent
 pub mod One

@@ -9,7 +9,8 @@ use Rattle.control.specs.Control.{incw}
 use Rattle.port.specs.Runs.{machine}
 use Rattle.block_words.specs.Parts.{WrittenFrom}
 use Rattle.block_words.proofs.Joining.{few-empties, join-writes}
-use Rattle.block_words.proofs.Lent.{first-length, first-is, rest-is}
+use Rattle.words.proofs.Lent.{first-length}
+use Rattle.block_words.proofs.Lent.{first-is, rest-is}
 use Rattle.block_words.proofs.Straight.{Straight, writes-go-straight}
 use Rattle.block.proofs.writing.write_words.Statement.{statement}
 use Rattle.block.proofs.writing.write_words.Tie as tie

@@ -8,7 +8,8 @@ use lib.ListN.{drop, replicate}
 use Rattle.port.specs.Runs.{machine}
 use Rattle.sheet.specs.Sheet.{ticks-refusal}
 use Rattle.strikes.specs.Parts.{ReadTicks}
-use Rattle.strikes.proofs.LentFront.{front-length, front-inside, front-is, front-at}
+use Rattle.words.proofs.Lent.{first-length}
+use Rattle.strikes.proofs.LentFront.{front-inside, front-is, front-at}
 use Rattle.strikes.proofs.ReadingOn.{read-length}
 use Rattle.strikes.proofs.TicksTaken.{ticks-refused, first-then-last, ticks-taken}
 use Rattle.strikes.proofs.sheets.take_ticks.Statement.{statement}
@@ -40,7 +41,7 @@ read : (c : tie.After-read-ticks) →
     (c .read-ticks .last .1 .0) (c .read-ticks .last .1 .1 .0)
 read c =
     let start = c .before .before .before .before .before in
-    rw (front-length (start .args .strokes) (replicate 29 0) (start .pre .1)) at (c .read-ticks .ensures)
+    rw (first-length (start .args .strokes) (replicate 29 0) (start .pre .1)) at (c .read-ticks .ensures)
 
 mul-number-of-ticks : tie.Need-mul-number-of-ticks
 mul-number-of-ticks c = omega arith

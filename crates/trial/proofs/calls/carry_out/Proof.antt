@@ -1,7 +1,8 @@
 -- `trial::calls::carry_out` meets its contract, by its tests of the letter; the lent parts of the room and of the list come back.
 use mathlib.Core.Path.{sym, ap, _∙_}
-use Rattle.trial.specs.Calls.{answer-to, room-after, list-after, lent-answer, lent-memory, lent-list, given-back}
-use Rattle.trial.proofs.Lent.{lent-is, back-is}
+use Rattle.trial.specs.Calls.{answer-to, room-after, list-after, lent-answer, lent-memory, lent-list}
+use Rattle.words.specs.Lent.{given-back}
+use Rattle.words.proofs.Lent.{lent-is, back-is}
 use borrow.Author.Needs.{needs}
 use Rattle.trial.proofs.calls.carry_out.Statement.{statement}
 use Rattle.trial.proofs.calls.carry_out.Tie as tie

@@ -1,13 +1,18 @@
--- Parts of the room or of the list that the code lends: from place 0 up to the smaller of two numbers.
-use Prim.Native.Nat.{ℕ, _-_, min}
+-- The first places of a list, as code lends them: from place 0 up to n.
+use Prim.Native.Nat.{ℕ, _-_, _≤_, min}
 use native.Mathlib.Nat.{sub-zero}
 use native.Mathlib.Omega.{arith}
 use mathlib.Core.Path.{_≡_, ap, _∙_}
 use mathlib.Core.List.{List, _++_}
-use lib.ListN.{length, take, drop}
+use lib.ListN.{length, take, drop, length-take}
 use borrow.Rule.Slice.PartMut.{putMid, post-is, put-same}
-use Rattle.sheet_trial.specs.Carried.{lent, given-back}
+use Rattle.words.specs.Lent.{lent, given-back}
 
+-- There are n of them, if the list has so many.
+pub first-length : (n : ℕ) (l : List ℕ) → n ≤ length l → length (take (n - 0) l) ≡ n
+first-length n l h = simp length-take (omega arith)
+
+-- up to the smaller of two numbers
 module _ {A : Type 0} (k n : ℕ) (l : List A) (e : n ≡ min k (length l)) where
   -- What is lent.
   pub lent-is : take (n - 0) l ≡ lent k l
