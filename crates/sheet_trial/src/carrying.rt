@@ -1,6 +1,5 @@
 // A record of a script, carried out.
 ghost use mathlib.Core.Path.{_≡_};
-ghost use Prim.Native.Nat.{min};
 ghost use Rattle.sheet_trial.specs.Carried.{laid, Carried};
 use crate::reading::number_at;
 use crate::reading::registers_of;
@@ -9,14 +8,8 @@ use crate::reading::time_of;
 use sheet::Sheet;
 use strikes::strike_sheet;
 use words::WordNumber;
+use words::least;
 use words::store_word;
-
-// The smaller of two numbers.
-fn least(a: usize, b: usize) -> usize
-    ensures { λ r. ⌜ r ≡ min a b ⌝ }
-{
-    if a < b { a } else { b }
-}
 
 // The record's 32 words laid into the room, as far as it reaches.
 fn lay_words(room: &mut [u16], bytes: &[u8; 96])

@@ -7,7 +7,6 @@ use crate::field_calls::call_fields;
 use crate::port_calls::call_host;
 use crate::port_calls::call_processor;
 use crate::setting::answer;
-use crate::setting::least;
 use crate::setting::set_state;
 use crate::whole_calls::call_whole;
 use script::Call;
@@ -19,6 +18,7 @@ use script::is_host_letter;
 use script::is_plain_letter;
 use script::is_processor_letter;
 use script::is_whole_letter;
+use words::least;
 
 // A call that is lent nothing: of the processor or the bus, or one that sets the state.
 fn call_plain(s: State, call: Call) -> Done

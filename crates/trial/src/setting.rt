@@ -1,19 +1,11 @@
 // The state of a run: parts of it replaced, and the calls that set it, N, L, G and Z.
 ghost use mathlib.Core.Path.{_≡_};
-ghost use Prim.Native.Nat.{min};
 ghost use Rattle.trial.specs.Calls.{with-registers, with-lengths, registers-in, woken, first-state, state-set, done};
 use registers::Registers;
 use script::Call;
 use script::Done;
 use script::State;
 use words::BitAddress;
-
-// The smaller of two numbers.
-pub(crate) fn least(a: usize, b: usize) -> usize
-    ensures { λ r. ⌜ r ≡ min a b ⌝ }
-{
-    if a < b { a } else { b }
-}
 
 // The state with other registers.
 fn set_registers(s: State, r: Registers) -> State

@@ -2,6 +2,7 @@
 // Document 01, "Memory and addresses", and what "The four host registers" says of lanes.
 ghost use mathlib.Core.Path.{_≡_};
 ghost use mathlib.Core.Bool.{cond, _&&_, _||_};
+ghost use Prim.Native.Nat.{min};
 ghost use Rattle.words.specs.Addresses.{word-at, step};
 ghost use Rattle.words.specs.Bytes.{lo, hi, bit, takes-low, takes-high, are-lanes, lay, shown, replaced};
 ghost use Rattle.words.specs.Memory.{over-limit, fetch-at, Stored};
@@ -72,6 +73,13 @@ pub fn either(a: bool, b: bool) -> bool
     ensures { λ r. ⌜ r ≡ (a || b) ⌝ }
 {
     if a { true } else { b }
+}
+
+// The smaller of two numbers.
+pub fn least(a: usize, b: usize) -> usize
+    ensures { λ r. ⌜ r ≡ min a b ⌝ }
+{
+    if a < b { a } else { b }
 }
 
 // The first byte where the test holds, else the second.
