@@ -16,6 +16,8 @@ pub mod Widths
 pub mod Pairs
 pub mod Alike
 pub mod Joined
+pub mod OneAccess
+pub mod Loading
 -- ---- the tuner's law: every word is handed out
 pub mod Handed
 pub mod TableWords

@@ -9,7 +9,7 @@ use borrow.Author.Tests.{eq-eqb, ne-eqb}
 use Rattle.words.specs.declared.BitAddress.{BitAddress}
 use Rattle.words.proofs.Choices.{same-or-not}
 use Rattle.port.specs.Runs.{Machine}
-use Rattle.tempo.specs.Tempo.{even-times}
+use Rattle.tempo.specs.Tempo.{with-times}
 use Rattle.sheet.specs.Reading.{Way}
 use Rattle.sheet.specs.Sheet.{strokes-of, number-before, ticks-heard, read-number, read-sheet, read-list, sheet-of, list-after}
 use Rattle.sheet.specs.declared.Sheet.{Sheet}
@@ -50,8 +50,7 @@ module _ (w : Way) (s : Machine) (a : BitAddress) (t : TimeStruck) (l : List Flo
   -- keeps its later places.
   pub record Fills : Type 0 where
     pub strokes : sheet .strokes ≡ strokes-of t
-    pub list : list-after w s a t l ≡
-        even-times (getD ticks 0 0) (getD ticks (strokes-of t - 1) 0) (strokes-of t) (strokes-of t) ++ drop (strokes-of t) l
+    pub list : list-after w s a t l ≡ with-times (getD ticks 0 0) (getD ticks (strokes-of t - 1) 0) (strokes-of t) l
 
   begun-passed : number-before s t (length l) ≡ 0 → sheet .number ≡ 0 → Fills
   unfolding read-sheet read-list

@@ -4,7 +4,8 @@
 use Prim.Native.Nat.{ℕ, suc, _+_, _-_, _<_, _≤_}
 use native.Mathlib.Omega.{arith}
 use mathlib.Core.Path.{_≡_, sym, ap, _∙_}
-use mathlib.Core.List.{List, _++_}
+use mathlib.Core.List.{List}
+use mathlib.Core.Logic.{_↔_}
 use lib.Ieee.{Float}
 use lib.ListN.{length, getD, take, drop, length-take}
 use lib.Seq.{getD-take}
@@ -12,7 +13,7 @@ use Rattle.words.specs.Addresses.{word-at}
 use Rattle.words.specs.Memory.{AreWords}
 use Rattle.words.specs.declared.BitAddress.{BitAddress}
 use Rattle.port.specs.Runs.{Machine, machine}
-use Rattle.tempo.specs.Tempo.{even-times}
+use Rattle.tempo.specs.Tempo.{with-times}
 use Rattle.sheet.specs.InPlainWords.{Passed-in, Begins, count-word, tick, Rises, Complete, Verdict, count-missed, tick-missed, passes}
 use Rattle.sheet.specs.Reading.{whole}
 use Rattle.sheet.specs.Sheet.{strokes-of, ticks-heard, sheet-of, list-after}
@@ -24,13 +25,24 @@ use Rattle.sheet.proofs.Strokes.{few-strokes}
 
 -- the even-tempo times of n strokes by the table in memory, and what the list had after them
 abbrev pub struck : List ℕ → BitAddress → ℕ → List Float → List Float
-struck m a n l = even-times (tick m a 0) (tick m a (n - 1)) n n ++ drop n l
+struck m a n l = with-times (tick m a 0) (tick m a (n - 1)) n l
 
 -- what is said of a sheet that passes
 pub record Passes (s : Machine) (a : BitAddress) (t : TimeStruck) (l : List Float) : Type 0 where
   pub number : sheet-of whole s a t (length l) .number ≡ 0
   pub strokes : sheet-of whole s a t (length l) .strokes ≡ strokes-of t
   pub list : list-after whole s a t l ≡ struck (s .memory) a (strokes-of t) l
+
+-- A sheet passes exactly if no refusal applies: nothing is refused before the port is touched, the count word and all ticks lie in
+-- memory with the right count, and the ticks rise.
+pub passes-exactly : (s : Machine) (a : BitAddress) → Passed-in s a → (t : TimeStruck) (room : ℕ) →
+    sheet-of whole s a t room .number ≡ 0 ↔
+    Begins s t room × Complete (s .memory) a (strokes-of t) × Rises (s .memory) a (strokes-of t)
+passes-exactly s a p t room =
+    (λ z. go (numbered s a p t room 0 .0 z), λ w. numbered s a p t room 0 .1 (passes (w .0) (w .1) (w .2)))
+  where
+    go : Verdict s a t room 0 → Begins s t room × Complete (s .memory) a (strokes-of t) × Rises (s .memory) a (strokes-of t)
+    go (passes b c r) = (b, c, r)
 
 -- a sheet that is not refused before the port is touched
 module _ (s : Machine) (a : BitAddress) (t : TimeStruck) (l : List Float) where
@@ -50,9 +62,6 @@ module _ (s : Machine) (a : BitAddress) (t : TimeStruck) (l : List Float) where
     pub nothing-else : number ≡ 0 → Complete (s .memory) a n × Rises (s .memory) a n
 
   module _ (p : Passed-in s a) (b : Begins s t (length l)) where
-    whole-table : Verdict s a t (length l) 0 → Complete (s .memory) a n × Rises (s .memory) a n
-    whole-table (passes _ c r) = (c, r)
-
     -- A sheet whose table is whole passes.
     pub passing : Complete (s .memory) a n → Rises (s .memory) a n → Passes s a t l
     passing c r =
@@ -65,9 +74,8 @@ module _ (s : Machine) (a : BitAddress) (t : TimeStruck) (l : List Float) where
           strokes = f .strokes;
           list =
               f .list ∙
-              ap (λ (x : ℕ). even-times x (getD (ticks-heard whole s a n) (n - 1) 0) n n ++ drop n l)
-              (told 0 (omega arith)) ∙
-              ap (λ (x : ℕ). even-times (tick (s .memory) a 0) x n n ++ drop n l) (told (n - 1) (omega arith));
+              ap (λ (x : ℕ). with-times x (getD (ticks-heard whole s a n) (n - 1) 0) n l) (told 0 (omega arith)) ∙
+              ap (λ (x : ℕ). with-times (tick (s .memory) a 0) x n l) (told (n - 1) (omega arith));
         }
 
     -- The bet holds.
@@ -77,7 +85,7 @@ module _ (s : Machine) (a : BitAddress) (t : TimeStruck) (l : List Float) where
           tuner = passing;
           no-count = λ h. numbered s a p t (length l) 42 .1 (count-missed b h);
           no-tick = λ h e k. numbered s a p t (length l) 42 .1 (tick-missed b h e k);
-          nothing-else = λ z. whole-table (numbered s a p t (length l) 0 .0 z);
+          nothing-else = λ z. let w = passes-exactly s a p t (length l) .0 z in (w .1, w .2);
         }
 
 -- ---- whatever lies after the table: another memory m that has the same words up to the table's last
@@ -112,7 +120,7 @@ module _ (s : Machine) (a : BitAddress) (t : TimeStruck) (l : List Float) (p : P
         same-word (word-at a .0 + 1 + (strokes-of t - 1)) (omega (arith, some)),
       )
 
-  -- It has the same sheet.
+  -- It passes there too, with the same strokes and the same list; only HSTDATA and its mark tell what follows.
   pub whatever-follows : Complete (s .memory) a (strokes-of t) → Rises (s .memory) a (strokes-of t) →
       Passes other a t l × (list-after whole other a t l ≡ list-after whole s a t l)
   whatever-follows c r =

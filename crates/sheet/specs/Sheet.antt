@@ -4,11 +4,13 @@
 --   count-refusal n hollow word      number 42 or 43, or 0: what is said of the count word
 --   ticks-refusal hollow ticks       number 42 or 44, or 0: what is said of the ticks
 --   or-else n m                      the refusal n, or m where n is none
---   heard, ticks-heard, times-heard  what the reader is told, the ticks among it, and their even-tempo times
+--   heard, ticks-heard               what the reader is told, and the ticks among it
+--   count-number                     the refusal of its count word, or 0
 --   read-number                      the first refusal of a sheet that is begun
---   made                             the accesses that its reader makes
+--   words-read, made                 how many words its reader reads, and all accesses that it makes
 --   read-sheet, read-list            such a sheet: what it answers, with the registers that it leaves; the list
---   sheet-of, list-after             any sheet: the same
+--   number-before                    the refusal before the port is touched, or 0
+--   sheet-of, list-after             any sheet: what it answers, with the registers that it leaves; the list
 --   Struck                           these, as the contract of the call
 -- Each takes the way in which the accesses are done; the call does them whole.
 use Prim.Native.Nat.{ℕ, suc, _+_, _-_}
@@ -25,7 +27,7 @@ use Rattle.registers.specs.declared.Registers.{Registers}
 use Rattle.port.specs.Runs.{Machine, machine, Sixteen, words-in}
 use Rattle.port.specs.Table.{loading, reading}
 use Rattle.port.specs.declared.Answer.{Answer}
-use Rattle.tempo.specs.Tempo.{even-times}
+use Rattle.tempo.specs.Tempo.{with-times}
 use Rattle.sheet.specs.Reading.{Way, whole, told, any-hollow, rising}
 use Rattle.sheet.specs.declared.Sheet.{Sheet}
 use Rattle.sheet.specs.declared.TimeStruck.{TimeStruck}
@@ -75,21 +77,21 @@ module _ (w : Way) (s : Machine) (a : BitAddress) (n : ℕ) where
   unfoldable pub read-number : ℕ
   read-number = or-else count-number (ticks-refusal (any-hollow (drop 1 heard)) ticks-heard)
 
-  -- "reads two lanes at a time: the count word, then, if that is right, every tick"
+  -- "reads .. the count word, then, if that is right, every tick"
+  abbrev pub words-read : ℕ
+  words-read = cond (eqb count-number 0) (suc n) 1
+
+  -- "The reader loads the pointer with two-lane writes .., and reads two lanes at a time"
   unfoldable pub made : List Sixteen
-  made = loading (s .registers .control) a ++ reading (cond (eqb count-number 0) (suc n) 1)
+  made = loading (s .registers .control) a ++ reading words-read
 
   -- "under 42 to 44 the port has moved as its accesses say"
   unfoldable pub read-sheet : Sheet
   read-sheet = record { number = read-number; strokes = cond (eqb read-number 0) n 0; registers = w .ended s made .registers }
 
-  -- "the list's place k takes the even-tempo time"
-  abbrev pub times-heard : List Float
-  times-heard = even-times (getD ticks-heard 0 0) (getD ticks-heard (n - 1) 0) n n
-
-  -- "later places stay"; "A refused sheet writes nothing"
+  -- "the list's place k takes the even-tempo time", from the first tick to the last; "A refused sheet writes nothing"
   unfoldable pub read-list : List Float → List Float
-  read-list l = cond (eqb read-number 0) (times-heard ++ drop n l) l
+  read-list l = cond (eqb read-number 0) (with-times (getD ticks-heard 0 0) (getD ticks-heard (n - 1) 0) n l) l
 
 -- ---- any sheet, of the time t
 abbrev pub number-before : Machine → TimeStruck → ℕ → ℕ

@@ -3,8 +3,6 @@
 pub mod InRange
 pub mod RisingTicks
 -- ---- what is read
-pub mod OneAccess
-pub mod Loading
 pub mod ReadingOn
 pub mod LentFront
 -- ---- what a sheet leaves

@@ -13,8 +13,8 @@ use Rattle.port.specs.declared.Outcome.{Outcome}
 use Rattle.port.proofs.Joined.{ends-join, answers-join, reading-join, reads-keep-memory, filled-length}
 use Rattle.sheet.specs.Reading.{any-hollow}
 use Rattle.strikes.specs.Parts.{ReadTicks}
-use Rattle.strikes.specs.declared.Run.{Run}
-use Rattle.strikes.proofs.OneAccess.{leaves, says}
+use Rattle.strikes.specs.declared.TicksRead.{TicksRead}
+use Rattle.port.proofs.OneAccess.{leaves, says}
 
 -- Some of two lists of answers is hollow if some of the first is or some of the second.
 pub hollow-join : (xs ys : List Answer) → any-hollow (xs ++ ys) ≡ (any-hollow xs || any-hollow ys)
@@ -33,7 +33,7 @@ pub answers-more : (s : Machine) (n : ℕ) →
 unfolding reading answers
 answers-more s n = ap (answers s) (reading-join n 1) ∙ answers-join s (reading n) (reading 1)
 
-module _ {s : Machine} {n : ℕ} {o : Run} {m part : List ℕ} (k : ReadTicks s n o m part) where
+module _ {s : Machine} {n : ℕ} {o : TicksRead} {m part : List ℕ} (k : ReadTicks s n o m part) where
   -- Reads leave the memory.
   pub memory-kept : m ≡ s .memory
   memory-kept = ap (λ (t : Machine). t .memory) (k .ends-at) ∙ reads-keep-memory s n

@@ -22,8 +22,8 @@ use Rattle.sheet.specs.Reading.{whole, told, any-hollow}
 use Rattle.sheet.specs.Sheet.{count-refusal, or-else, count-number, read-number, made, read-sheet, read-list}
 use Rattle.sheet.specs.declared.Sheet.{Sheet}
 use Rattle.strikes.specs.Parts.{refused-sheet, ticks-number, ticks-sheet, ticks-list, TookTicks, ReadTable}
-use Rattle.strikes.proofs.OneAccess.{leaves, says}
-use Rattle.strikes.proofs.Loading.{loading-keeps-memory}
+use Rattle.port.proofs.OneAccess.{leaves, says}
+use Rattle.port.proofs.Loading.{loading-keeps-memory}
 
 module _ (s : Machine) (a : BitAddress) (n : ℕ) where
   -- the read of the count word: what it answers, and the machine after it

@@ -11,11 +11,11 @@ use Rattle.port.specs.Runs.{Machine}
 use Rattle.tempo.specs.Tempo.{even-times}
 use Rattle.sheet.specs.Sheet.{ticks-refusal}
 use Rattle.strikes.specs.Parts.{refused-sheet, ReadTicks, ticks-number, ticks-sheet, ticks-list, TookTicks}
-use Rattle.strikes.specs.declared.Run.{Run}
+use Rattle.strikes.specs.declared.TicksRead.{TicksRead}
 use Rattle.strikes.proofs.ReadingOn.{memory-kept, read-length}
 use Rattle.strikes.proofs.RisingTicks.{none-before-first, unrefused-rise}
 
-module _ {s : Machine} {n : ℕ} {o : Run} {m ticks : List ℕ} (k : ReadTicks s n o m ticks)
+module _ {s : Machine} {n : ℕ} {o : TicksRead} {m ticks : List ℕ} (k : ReadTicks s n o m ticks)
     (number : ℕ) (e : number ≡ ticks-refusal (o .hollow) ticks) where
   told : number ≡ ticks-number s n
   unfolding ticks-number

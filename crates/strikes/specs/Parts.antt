@@ -19,13 +19,13 @@ use Rattle.tempo.specs.Tempo.{even-times}
 use Rattle.sheet.specs.Reading.{whole, any-hollow}
 use Rattle.sheet.specs.Sheet.{ticks-refusal, read-sheet, read-list}
 use Rattle.sheet.specs.declared.Sheet.{Sheet}
-use Rattle.strikes.specs.declared.Run.{Run}
+use Rattle.strikes.specs.declared.TicksRead.{TicksRead}
 
 abbrev pub refused-sheet : ℕ → Registers → Sheet
 refused-sheet n r = record { number = n; strokes = 0; registers = r }
 
 -- n reads from the machine s, into all of a part of n places
-pub record ReadTicks (s : Machine) (n : ℕ) (o : Run) (m′ part : List ℕ) : Type 0 where
+pub record ReadTicks (s : Machine) (n : ℕ) (o : TicksRead) (m′ part : List ℕ) : Type 0 where
   pub ends-at : machine (o .registers) m′ ≡ ends s (reading n)
   pub hollow : o .hollow ≡ any-hollow (answers s (reading n))
   pub words : part ≡ words-in (answers s (reading n))

@@ -5,7 +5,7 @@ ghost use Rattle.port.specs.declared.Access.the-variants.{Write};
 ghost use Rattle.port.specs.Runs.{machine, after};
 ghost use Rattle.port.specs.Table.{loaded};
 ghost use Rattle.strikes.specs.Parts.{ReadTicks};
-use crate::Run;
+use crate::TicksRead;
 use control::fetches_by;
 use host::host_access;
 use port::Access;
@@ -44,7 +44,7 @@ pub(crate) fn load_pointer(r: Registers, memory: &mut [u16], a: BitAddress) -> R
 }
 
 // A read on two lanes for each place of `ticks`, and whether any of them handed out a hollow word.
-pub(crate) fn read_ticks(r: Registers, memory: &mut [u16], ticks: &mut [u16]) -> Run
+pub(crate) fn read_ticks(r: Registers, memory: &mut [u16], ticks: &mut [u16]) -> TicksRead
     ensures { λ o. ⌜ ReadTicks (machine r (now (memory .entry))) (length (now (ticks .entry))) o (now (memory .exit)) (now (ticks .exit)) ⌝ }
 {
     let mut q = r;
@@ -65,7 +65,7 @@ pub(crate) fn read_ticks(r: Registers, memory: &mut [u16], ticks: &mut [u16]) ->
         q = o.registers;
         i += 1;
     }
-    Run {
+    TicksRead {
         registers: q,
         hollow,
     }

@@ -6,16 +6,13 @@ use mathlib.Core.Path.{_≡_, sym, _∙_}
 use mathlib.Core.Bool.{false}
 use lib.Dec.{T}
 use lib.Pow.{pow-pos}
-use lib.Ieee.{Float, binary64, low, round, add, mul, div, le, ofInt}
+use lib.Ieee.{Float, binary64, low, round, add, mul, le, ofInt}
 use lib.Ieee.Order.{round-mono}
 use lib.Ieee.Scale.{round-same, grid, round-val, round-under}
 use Rattle.tempo.specs.InPlainWords.{Fraction}
-use Rattle.tempo.specs.Tempo.{double}
+use Rattle.tempo.specs.Tempo.{double, quotient}
 use Rattle.tempo.proofs.Operations.{div-rounded, finite-between, sum-grows}
 use Rattle.tempo.proofs.WholeNumbers.{double-rounded, tick-whole, product-whole}
-
-abbrev pub quotient : ℕ → ℕ → ℕ → Float
-quotient span k gaps = div binary64 (mul binary64 (double span) (double k)) (double gaps)
 
 abbrev pub rounded : ℕ → ℕ → ℕ → Float
 rounded span k gaps = round binary64 false (span * k) gaps

@@ -2,7 +2,7 @@
 use native.Mathlib.Omega.{arith}
 use mathlib.Core.Path.{sym, _∙_}
 use Rattle.port.specs.Runs.{machine}
-use Rattle.strikes.proofs.Loading.{low-last, high-last}
+use Rattle.port.proofs.Loading.{low-last, high-last}
 use Rattle.strikes.proofs.reading.load_pointer.Statement.{statement}
 use Rattle.strikes.proofs.reading.load_pointer.Tie as tie
 

@@ -1,6 +1,6 @@
 -- `strikes::reading::write_half` meets its contract: it is one access.
 use native.Mathlib.Omega.{arith}
-use Rattle.strikes.proofs.OneAccess.{leaves}
+use Rattle.port.proofs.OneAccess.{leaves}
 use Rattle.strikes.proofs.reading.write_half.Statement.{statement}
 use Rattle.strikes.proofs.reading.write_half.Tie as tie
 
