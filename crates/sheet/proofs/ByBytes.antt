@@ -24,9 +24,13 @@ module _ (s : Machine) (a : BitAddress) (n : ℕ) where
   unfolding made
   made-alike = rw told-alike
 
+  -- They leave the port in the same state, memory and registers.
+  pub moves-alike : by-bytes .ended s (made by-bytes s a n) ≡ whole .ended s (made whole s a n)
+  moves-alike = rw made-alike (ends-alike s (made whole s a n))
+
   read-alike : read-sheet by-bytes s a n ≡ read-sheet whole s a n
   unfolding read-sheet read-number
-  read-alike = rw (told-alike, made-alike, ends-alike s (made whole s a n))
+  read-alike = rw (told-alike, moves-alike)
 
   read-list-alike : (l : List Float) → read-list by-bytes s a n l ≡ read-list whole s a n l
   unfolding read-list read-number

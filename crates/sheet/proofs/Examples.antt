@@ -15,7 +15,9 @@ use Rattle.port.specs.Runs.{Machine, answer-of, after, answers, ends}
 use Rattle.port.specs.Table.{loading, reading}
 use Rattle.tempo.specs.Tempo.{double, even-time, even-times}
 use Rattle.sheet.specs.Reading.{whole, told, any-hollow, rising}
-use Rattle.sheet.specs.Sheet.{out-of-range, refusal-before, count-refusal, ticks-refusal, read-number, made, read-sheet, read-list, sheet-of, list-after}
+use Rattle.sheet.specs.Sheet.{out-of-range, refusal-before, count-refusal, ticks-refusal}
+use Rattle.sheet.specs.Sheet.{read-number, made, read-sheet, read-list, sheet-of, list-after}
+use Rattle.sheet.specs.declared.Sheet.{Sheet}
 use Rattle.sheet.specs.declared.TimeStruck.{TimeStruck}
 
 -- INCR set, and a memory
@@ -28,32 +30,25 @@ three-o-clock = record { hours = 3; quarters = 0; minutes = 0 }
 abbrev four-places : List Float
 four-places = double 1 ∷ double 1 ∷ double 1 ∷ double 1 ∷ []
 
--- 3:00, a table that ends with the memory's last word: its three strokes are at 10, 15 and 20, and the list's fourth place stays.
-pub to-the-end : list-after whole (on (3 ∷ 10 ∷ 14 ∷ 20 ∷ [])) (address 0) three-o-clock four-places ≡
-    double 10 ∷ double 15 ∷ double 20 ∷ double 1 ∷ []
-unfolding
-    bit takes-low takes-high are-lanes lay fetch-at bare closes fetches register-word half-written written stepped mark after-fetch
-    carried memory-after read-due write-due begin-access refusal done access access-memory answer-of after answers ends loading reading
-    even-time even-times ofInt add mul div told any-hollow rising out-of-range refusal-before count-refusal ticks-refusal read-number
-    made read-sheet read-list sheet-of list-after
-to-the-end = refl
+-- what a sheet that is refused answers here, four words on
+abbrev stopped : ℕ → Sheet
+stopped number =
+    record { number = number; strokes = 0; registers = record { pointer = address 0x40; latch = 0xffff; control = 0x1000; hollow = true } }
 
--- The same with the last word missing: 42, no strokes, and the pointer past the table.
-pub word-short : sheet-of whole (on (3 ∷ 10 ∷ 14 ∷ [])) (address 0) three-o-clock 4 ≡
-    record { number = 42; strokes = 0; registers = record { pointer = address 0x40; latch = 0xffff; control = 0x1000; hollow = true } }
-unfolding
-    bit takes-low takes-high are-lanes lay fetch-at bare closes fetches register-word half-written written stepped mark after-fetch
-    carried memory-after read-due write-due begin-access refusal done access access-memory answer-of after answers ends loading reading
-    even-time even-times ofInt add mul div told any-hollow rising out-of-range refusal-before count-refusal ticks-refusal read-number
-    made read-sheet read-list sheet-of list-after
-word-short = refl
+pub record Sheets : Type 0 where
+  -- 3:00, a table that ends with the memory's last word: its three strokes are at 10, 15 and 20, and the list's fourth place stays
+  pub to-the-end : list-after whole (on (3 ∷ 10 ∷ 14 ∷ 20 ∷ [])) (address 0) three-o-clock four-places ≡
+      double 10 ∷ double 15 ∷ double 20 ∷ double 1 ∷ []
+  -- the same with the last word missing: 42
+  pub word-short : sheet-of whole (on (3 ∷ 10 ∷ 14 ∷ [])) (address 0) three-o-clock 4 ≡ stopped 42
+  -- the same with two strokes at one tick: 44
+  pub equal-pair : sheet-of whole (on (3 ∷ 10 ∷ 10 ∷ 20 ∷ [])) (address 0) three-o-clock 4 ≡ stopped 44
 
--- The same with two strokes at one tick: 44.
-pub equal-pair : sheet-of whole (on (3 ∷ 10 ∷ 10 ∷ 20 ∷ [])) (address 0) three-o-clock 4 ≡
-    record { number = 44; strokes = 0; registers = record { pointer = address 0x40; latch = 0xffff; control = 0x1000; hollow = true } }
+-- These three come out so.
+pub three-sheets : Sheets
 unfolding
     bit takes-low takes-high are-lanes lay fetch-at bare closes fetches register-word half-written written stepped mark after-fetch
     carried memory-after read-due write-due begin-access refusal done access access-memory answer-of after answers ends loading reading
     even-time even-times ofInt add mul div told any-hollow rising out-of-range refusal-before count-refusal ticks-refusal read-number
     made read-sheet read-list sheet-of list-after
-equal-pair = refl
+three-sheets = record { to-the-end = refl; word-short = refl; equal-pair = refl }

@@ -1,7 +1,7 @@
 -- The times that a sheet writes into the list: "It equals the first tick at the first stroke and the last tick at the last, exactly, and
 -- never lies before the first or after the last"; "later places stay". Document 02, request (viii).
 -- The list is that of `TheBet`; of the times in it crate tempo knows the rest, whatever the number of strokes.
-use Prim.Native.Nat.{ℕ, zero, suc, _-_, _<_, _≤_}
+use Prim.Native.Nat.{ℕ, _-_, _<_, _≤_}
 use native.Mathlib.Omega.{arith}
 use mathlib.Core.Path.{_≡_, sym, ap, _∙_, subst}
 use mathlib.Core.List.{List}
@@ -17,16 +17,9 @@ use Rattle.sheet.specs.InPlainWords.{Passed-in, Begins, tick, Rises, Com
 use Rattle.sheet.specs.Reading.{whole}
 use Rattle.sheet.specs.Sheet.{strokes-of, list-after}
 use Rattle.sheet.specs.declared.TimeStruck.{TimeStruck}
+use Rattle.sheet.proofs.Rising.{none-before-first}
 use Rattle.sheet.proofs.Strokes.{few-strokes}
 use Rattle.sheet.proofs.TheBet.{passing}
-
--- Ticks that rise lie after the first.
-pub after-the-first : (m : List ℕ) (a : BitAddress) (n : ℕ) → Rises m a n → (k : ℕ) → k < n → tick m a 0 ≤ tick m a k
-after-the-first m a n r zero h = omega arith
-after-the-first m a n r (suc k) h =
-    let before = after-the-first m a n r k (omega arith) in
-    let here = r k h in
-    omega (arith, before, here)
 
 module _ (s : Machine) (a : BitAddress) (t : TimeStruck) (l : List Float) where
   abbrev first : ℕ
@@ -35,18 +28,15 @@ module _ (s : Machine) (a : BitAddress) (t : TimeStruck) (l : List Float) where
   abbrev last : ℕ
   last = tick (s .memory) a (strokes-of t - 1)
 
-  -- place k of the list after the sheet, with d where it has no such place
-  abbrev place : Float → ℕ → Float
-  place d k = getD (list-after whole s a t l) k d
-
-  pub record InTempo (d : Float) : Type 0 where
+  -- l′ is the list after the sheet; place k of it, with d where it has no such place
+  pub record InTempo (l′ : List Float) (d : Float) : Type 0 where
     -- place k has the time of stroke k, by the formula
-    pub formula : (k : ℕ) → k < strokes-of t → place d k ≡ even-time first last (strokes-of t) k
+    pub formula : (k : ℕ) → k < strokes-of t → getD l′ k d ≡ even-time first last (strokes-of t) k
     -- so the places go from the first tick to the last, exactly, never outside them, and never back
-    pub tempo : EvenTempo first last (strokes-of t) (place d)
+    pub tempo : EvenTempo first last (strokes-of t) (λ k. getD l′ k d)
     -- the other places, and how many there are, stay
-    pub later : (k : ℕ) → strokes-of t ≤ k → place d k ≡ getD l k d
-    pub places : length (list-after whole s a t l) ≡ length l
+    pub later : (k : ℕ) → strokes-of t ≤ k → getD l′ k d ≡ getD l k d
+    pub places : length l′ ≡ length l
 
   module _ (p : Passed-in s a) (b : Begins s t (length l)) (c : Complete (s .memory) a (strokes-of t))
       (r : Rises (s .memory) a (strokes-of t)) where
@@ -62,14 +52,15 @@ module _ (s : Machine) (a : BitAddress) (t : TimeStruck) (l : List Float) where
     by-formula : EvenTempo first last (strokes-of t) (even-time first last (strokes-of t))
     by-formula =
         even-tempo first last (strokes-of t)
-        (after-the-first (s .memory) a (strokes-of t) r (strokes-of t - 1) (omega (arith, some)))
+        (none-before-first (tick (s .memory) a) (strokes-of t) r (strokes-of t - 1) (omega (arith, some)))
         (p .words _) (omega (arith, few)) own
 
     -- The times of every sheet that passes are in tempo.
-    pub in-tempo : (d : Float) → InTempo d
+    pub in-tempo : (d : Float) → InTempo (list-after whole s a t l) d
     in-tempo d =
+        let place : ℕ → Float = λ k. getD (list-after whole s a t l) k d in
         let list = passing s a t l p b c r .list in
-        let at : (k : ℕ) → k < strokes-of t → place d k ≡ even-time first last (strokes-of t) k =
+        let at : (k : ℕ) → k < strokes-of t → place k ≡ even-time first last (strokes-of t) k =
         λ k h. ap (λ (x : List Float). getD x k d) list ∙ filled-place first last (strokes-of t) (strokes-of t) k l d h in
         let e = by-formula in
         record {
@@ -82,7 +73,7 @@ module _ (s : Machine) (a : BitAddress) (t : TimeStruck) (l : List Float) where
                 not-after = λ k h. subst (λ (x : Float). T (le x (double last))) (sym (at k h)) (e .not-after k h);
                 never-falls =
                     λ j k i h.
-                    subst (λ (x : Float). T (le x (place d k))) (sym (at j (omega arith)))
+                    subst (λ (x : Float). T (le x (place k))) (sym (at j (omega arith)))
                     (subst (λ (x : Float). T (le (even-time first last (strokes-of t) j) x)) (sym (at k h)) (e .never-falls j k i h));
               };
           later = λ k h. ap (λ (x : List Float). getD x k d) list ∙ later-stays first last (strokes-of t) (strokes-of t) k l d h;

@@ -15,4 +15,7 @@ pub mod ByBytes
 -- ---- the tuner's bet and the partner's worry; the times
 pub mod TheBet
 pub mod InTempo
+-- ---- the contract of the call
+pub mod Promised
+-- ---- by computation
 pub mod Examples

@@ -1,15 +1,17 @@
 -- Where a sheet leaves the port. Its accesses are the two writes that load the pointer and some reads, so the registers end standing as
 -- many words on as were read (crate port, `Handed`), and memory stays.
-use Prim.Native.Nat.{ℕ, suc, _+_, _*_, _%_, _^_, _<_}
+use Prim.Native.Nat.{ℕ, suc, _+_, _*_, _%_, _^_, _<_, _≤_}
 use native.Mathlib.Omega.{arith}
-use mathlib.Core.Path.{_≡_, ap, _∙_}
-use mathlib.Core.Bool.{cond}
-use mathlib.Core.Logic.{_≢_}
+use mathlib.Core.Path.{_≡_, sym, ap, _∙_}
+use mathlib.Core.Bool.{Bool, true, false}
+use mathlib.Core.List.{List}
+use mathlib.Core.Logic.{_⊎_, inl, inr, ⊎-elim, _≢_}
 use lib.Dec.{eqb}
 use lib.ListN.{length}
 use borrow.Author.Tests.{eq-eqb, ne-eqb}
 use Rattle.words.specs.Addresses.{word-at}
 use Rattle.words.specs.declared.BitAddress.{BitAddress}
+use Rattle.words.proofs.Choices.{either-way, same-or-not}
 use Rattle.registers.specs.declared.Registers.{Registers}
 use Rattle.port.specs.Cycle.{standing}
 use Rattle.port.specs.Runs.{Machine, ends}
@@ -17,52 +19,93 @@ use Rattle.port.specs.Table.{loading, stands, reading, on-by}
 use Rattle.port.proofs.Handed.{on-by-gains, reads-leave}
 use Rattle.port.proofs.Joined.{ends-join}
 use Rattle.sheet.specs.InPlainWords.{Passed-in, Begins, count-word}
-use Rattle.sheet.specs.Reading.{whole}
-use Rattle.sheet.specs.Sheet.{strokes-of, number-before, count-number, made, read-sheet, sheet-of}
+use Rattle.sheet.specs.Reading.{Way, whole, rising}
+use Rattle.sheet.specs.Sheet.{strokes-of, count-refusal, ticks-refusal, number-before, count-number}
+use Rattle.sheet.specs.Sheet.{words-read, made, read-number, read-sheet, sheet-of}
 use Rattle.sheet.specs.declared.Sheet.{Sheet}
 use Rattle.sheet.specs.declared.TimeStruck.{TimeStruck}
-use Rattle.sheet.proofs.Heard.{count-right-says}
+use Rattle.sheet.proofs.Heard.{count-missed-says, count-wrong-says, count-right-says}
 use Rattle.sheet.proofs.Numbers.{begun, known}
 use Rattle.sheet.proofs.Strokes.{few-strokes}
 use Rattle.sheet.proofs.Taken.{sheet-begun, sheet-barred}
 
-module _ (s : Machine) (a : BitAddress) (p : Passed-in s a) (t : TimeStruck) (room : ℕ) where
+-- ---- refused before the port is touched
+
+-- 42, 43 and 44 say what was read; so does 0
+abbrev Late : ℕ → Type 0
+Late v = (v ≡ 0) ⊎ ((42 ≤ v) × (v ≤ 44))
+
+count-late : (n : ℕ) (hollow : Bool) (word : ℕ) → Late (count-refusal n hollow word)
+unfolding count-refusal
+count-late n true word = inr (omega arith, omega arith)
+count-late n false word = ⊎-elim (λ e. inl (rw e)) (λ e. inr (rw e (omega arith, omega arith))) (either-way (eqb word n))
+
+ticks-late : (hollow : Bool) (ticks : List ℕ) → Late (ticks-refusal hollow ticks)
+unfolding ticks-refusal
+ticks-late true ticks = inr (omega arith, omega arith)
+ticks-late false ticks = ⊎-elim (λ e. inl (rw e)) (λ e. inr (rw e (omega arith, omega arith))) (either-way (rising ticks))
+
+late : (w : Way) (s : Machine) (a : BitAddress) (n : ℕ) → Late (read-number w s a n)
+unfolding read-number
+late w s a n =
+    ⊎-elim
+    (λ e. rw (eq-eqb (count-number w s a n) 0 e) (ticks-late _ _))
+    (λ e. rw (ne-eqb (count-number w s a n) 0 e) (count-late _ _ _))
+    (same-or-not (count-number w s a n) 0)
+
+-- Refused with 1, 40, 41 or 46, that is with another number than 42 to 44, a sheet leaves the registers as they stood.
+pub untouched : (w : Way) (s : Machine) (a : BitAddress) (t : TimeStruck) (room : ℕ) →
+    sheet-of w s a t room .number ≢ 0 → (sheet-of w s a t room .number < 42) ⊎ (44 < sheet-of w s a t room .number) →
+    sheet-of w s a t room .registers ≡ s .registers
+unfolding read-sheet
+untouched w s a t room d out =
+    ⊎-elim
+    (λ e.
+    let b = ap (λ (o : Sheet). o .number) (sheet-begun w s a t room e) in
+    absurd
+    (⊎-elim
+    (λ z. d (b ∙ z))
+    (λ r. ⊎-elim (λ x. omega (arith, b, r .0)) (λ x. omega (arith, b, r .1)) out)
+    (late w s a (strokes-of t))))
+    (λ n. ap (λ (o : Sheet). o .registers) (sheet-barred w s a t room n))
+    (same-or-not (number-before s t room) 0)
+
+-- ---- begun
+module _ (s : Machine) (a : BitAddress) (p : Passed-in s a) (t : TimeStruck) (room : ℕ) (b : Begins s t room) where
   abbrev left : Registers
   left = sheet-of whole s a t room .registers
 
-  -- A sheet that is refused before the port is touched leaves the registers as they stood.
-  pub untouched : number-before s t room ≢ 0 → left ≡ s .registers
-  untouched d = ap (λ (o : Sheet). o .registers) (sheet-barred whole s a t room d)
+  abbrev n : ℕ
+  n = strokes-of t
 
-  -- how many words are read
-  abbrev reads : ℕ
-  reads = cond (eqb (count-number whole s a (strokes-of t)) 0) (suc (strokes-of t)) 1
-
-  -- All accesses of a sheet that is begun leave the port standing as many words on as were read: memory and control as they were.
-  pub accesses-leave : Begins s t room → ends s (made whole s a (strokes-of t)) ≡ stands s (on-by reads a)
+  -- All accesses of a sheet leave the port standing as many words on as were read: memory and control as they were.
+  pub accesses-leave : ends s (made whole s a n) ≡ stands s (on-by (words-read whole s a n) a)
   unfolding made
-  accesses-leave b =
-      ends-join s (loading (s .registers .control) a) (reading reads) ∙ reads-leave s (known s a p t room b) (b .steps) a (p .address) reads
+  accesses-leave =
+      ends-join s (loading (s .registers .control) a) (reading (words-read whole s a n)) ∙
+      reads-leave s (known s a p t room b) (b .steps) a (p .address) (words-read whole s a n)
 
-  begun-left : Begins s t room → left ≡ standing (s .memory) (s .registers .control) (on-by reads a)
+  begun-left : left ≡ standing (s .memory) (s .registers .control) (on-by (words-read whole s a n) a)
   unfolding read-sheet
-  begun-left b =
+  begun-left =
       ap (λ (o : Sheet). o .registers) (sheet-begun whole s a t room (begun s a p t room b)) ∙
-      ap (λ (x : Machine). x .registers) (accesses-leave b)
+      ap (λ (x : Machine). x .registers) accesses-leave
 
-  -- Refused by its count word, a sheet has read that word alone: the pointer stands one word on.
-  pub count-read : Begins s t room → count-number whole s a (strokes-of t) ≢ 0 →
+  refused-count : (length (s .memory) ≤ word-at a .0) ⊎ ((word-at a .0 < length (s .memory)) × (count-word (s .memory) a ≢ n)) →
+      count-number whole s a n ≢ 0
+  refused-count (inl h) z =
+      let e = count-missed-says s (known s a p t room b) (b .steps) a (p .address) n h in omega (arith, sym e ∙ z)
+  refused-count (inr h) z =
+      let e = count-wrong-says s (known s a p t room b) (b .steps) a (p .address) n (h .0) (h .1) in omega (arith, sym e ∙ z)
+
+  -- Where the count word lies beyond memory, or says another number, that word alone has been read: the pointer stands one word on.
+  pub count-read : (length (s .memory) ≤ word-at a .0) ⊎ ((word-at a .0 < length (s .memory)) × (count-word (s .memory) a ≢ n)) →
       (left ≡ standing (s .memory) (s .registers .control) (on-by 1 a)) × (on-by 1 a .0 ≡ (a .0 + 16) % 2 ^ 32)
-  count-read b d =
-      (begun-left b ∙ rw (ne-eqb _ _ d), on-by-gains 1 a (p .address))
+  count-read h = (begun-left ∙ rw (ne-eqb _ _ (refused-count h)), on-by-gains 1 a (p .address))
 
   -- With the right count all ticks have been read, whatever they are: the pointer stands just past the table.
-  pub ticks-read : Begins s t room → word-at a .0 < length (s .memory) → count-word (s .memory) a ≡ strokes-of t →
-      (left ≡ standing (s .memory) (s .registers .control) (on-by (suc (strokes-of t)) a)) ×
-      (on-by (suc (strokes-of t)) a .0 ≡ a .0 + 16 * suc (strokes-of t))
-  ticks-read b h e =
-      let c = count-right-says s (known s a p t room b) (b .steps) a (p .address) (strokes-of t) h e in (
-        begun-left b ∙ rw (eq-eqb _ _ c),
-        on-by-gains (suc (strokes-of t)) a (p .address) ∙
-            omega (arith, b .size, few-strokes t (b .time) .1),
-      )
+  pub ticks-read : word-at a .0 < length (s .memory) → count-word (s .memory) a ≡ n →
+      (left ≡ standing (s .memory) (s .registers .control) (on-by (suc n) a)) × (on-by (suc n) a .0 ≡ a .0 + 16 * suc n)
+  ticks-read h e =
+      let c = count-right-says s (known s a p t room b) (b .steps) a (p .address) n h e in
+      (begun-left ∙ rw (eq-eqb _ _ c), on-by-gains (suc n) a (p .address) ∙ omega (arith, b .size, few-strokes t (b .time) .1))

@@ -29,3 +29,10 @@ falls (t ∷ u ∷ rest) e =
     (λ x. let r = falls (u ∷ rest) (rw x at e) in (suc (r .0), omega (arith, r .1), r .2))
     (λ x. (0, omega arith, ltb-false t u x))
     (either-way (ltb t u))
+
+-- What rises from each number to the next lies nowhere below its first.
+pub none-before-first : (f : ℕ → ℕ) (n : ℕ) → ((k : ℕ) → suc k < n → f k < f (suc k)) → (k : ℕ) → k < n → f 0 ≤ f k
+none-before-first f n r zero h = omega arith
+none-before-first f n r (suc k) h =
+    let before = none-before-first f n r k (omega arith) in
+    omega (arith, before, r k h)

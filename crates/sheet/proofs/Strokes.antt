@@ -2,13 +2,9 @@
 use Prim.Native.Nat.{ℕ, suc, _≤_}
 use native.Mathlib.Omega.{arith}
 use mathlib.Core.Path.{_≡_, refl}
-use Rattle.sheet.specs.InPlainWords.{InRange}
+use Rattle.sheet.specs.InPlainWords.{time, InRange}
 use Rattle.sheet.specs.Sheet.{strokes-of}
 use Rattle.sheet.specs.declared.TimeStruck.{TimeStruck}
-
--- the time h, q, m
-abbrev time : ℕ → ℕ → ℕ → TimeStruck
-time h q m = record { hours = h; quarters = q; minutes = m }
 
 -- An hour, a quarter or a minute more is a stroke more, and nothing else is one.
 pub record OneEach (h q m : ℕ) : Type 0 where

@@ -1,5 +1,6 @@
 -- A sheet in plain words, by its table as it lies in memory: what the laws say of it. Document 02, request (viii).
 --   Passed-in s a         the memory's numbers are words, and the address is one of 32 bits, as what is lent and passed always is
+--   time h q m            the time struck with so many hours, quarters and minutes
 --   InRange t, OffRange t a time that a watch strikes, and one that none does
 --   Begins s t room       no refusal applies before the port is touched
 --   count-word m a        the word at the table's address
@@ -28,6 +29,9 @@ pub record Passed-in (s : Machine) (a : BitAddress) : Type 0 where
   pub address : a .0 < 2 ^ 32
 
 -- ---- the time struck
+
+abbrev pub time : ℕ → ℕ → ℕ → TimeStruck
+time h q m = record { hours = h; quarters = q; minutes = m }
 
 pub record InRange (t : TimeStruck) : Type 0 where
   pub an-hour : 1 ≤ t .hours

@@ -1,14 +1,13 @@
 -- The parts of the run: what the private functions state.
---   in-thousandths t   the whole thousandths of the time t, or 0 where they are no number of 64 bits
+--   whole-part x       x without its fraction, or 0 where that is no number of 64 bits
+--   in-thousandths t   the whole thousandths of the time t
 --   five-tables        the memory with five tables
---   time h q m         a time struck
 use Prim.Native.Nat.{ℕ}
 use mathlib.Core.Bool.{true, false, cond}
 use mathlib.Core.List.{List, [], _∷_}
 use lib.Ieee.{Float, fin, binary64, mul, lt, toUnsigned}
 use lib.IntN.{pos}
 use Rattle.tempo.specs.Tempo.{double}
-use Rattle.sheet.specs.declared.TimeStruck.{TimeStruck}
 
 unfoldable pub whole-part : Float → ℕ
 whole-part x = cond (lt (fin true 1 (pos 0)) x) (cond (lt x (fin false 1 (pos 64))) (toUnsigned 64 x) 0) 0
@@ -20,6 +19,3 @@ abbrev pub five-tables : List ℕ
 five-tables =
     6 ∷ 10 ∷ 20 ∷ 30 ∷ 40 ∷ 50 ∷ 60 ∷ 6 ∷ 11 ∷ 22 ∷ 33 ∷ 33 ∷ 44 ∷ 55 ∷ 3 ∷ 65532 ∷ 65533 ∷ 65535 ∷ 1 ∷ 77 ∷ 6 ∷ 100 ∷ 130 ∷ 190 ∷
     255 ∷ 300 ∷ 350 ∷ []
-
-abbrev pub time : ℕ → ℕ → ℕ → TimeStruck
-time h q m = record { hours = h; quarters = q; minutes = m }

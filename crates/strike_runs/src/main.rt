@@ -2,7 +2,8 @@
 // stroke, all 29, and each refusal. Each sheet prints its answer, the pointer and HSTDATA that it leaves, and then the list of times.
 // The stored output was worked out by hand from document 02, request (viii).
 ghost use mathlib.Core.Path.{_≡_};
-ghost use Rattle.strike_runs.specs.Parts.{in-thousandths, five-tables, time};
+ghost use Rattle.strike_runs.specs.Parts.{in-thousandths, five-tables};
+ghost use Rattle.sheet.specs.InPlainWords.{time};
 use registers::Registers;
 use sheet::Sheet;
 use sheet::TimeStruck;

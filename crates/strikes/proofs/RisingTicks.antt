@@ -1,5 +1,5 @@
--- Ticks that rise: judged from one place to the next, and what it says of the first and the last.
-use Prim.Native.Nat.{ℕ, zero, suc, _+_, _≤_, _<_}
+-- Ticks that rise: judged from one place to the next.
+use Prim.Native.Nat.{ℕ, suc, _+_, _≤_, _<_}
 use native.Mathlib.Numerals.{add-one}
 use native.Mathlib.Omega.{arith}
 use mathlib.Core.Path.{_≡_, refl}
@@ -9,8 +9,7 @@ use mathlib.Core.Logic.{⊎-elim}
 use lib.Dec.{ltb}
 use lib.ListN.{length, drop, getD, length-drop}
 use lib.Seq.{drop-cons}
-use borrow.Author.Tests.{ltb-true}
-use Rattle.words.proofs.Choices.{both-true, either-way}
+use Rattle.words.proofs.Choices.{either-way}
 use Rattle.sheet.specs.Reading.{rising}
 use Rattle.sheet.specs.Sheet.{ticks-refusal}
 
@@ -31,17 +30,6 @@ at-most-one (t ∷ u ∷ rest) h = absurd (omega arith)
 -- From the last place on they rise.
 pub rising-last : (ticks : List ℕ) (j : ℕ) → length ticks ≤ j + 1 → rising (drop j ticks) ≡ true
 rising-last ticks j h = at-most-one (drop j ticks) (simp length-drop (omega arith))
-
--- Of ticks that rise none lies before the first.
-pub none-before-first : (ticks : List ℕ) → rising ticks ≡ true → (j : ℕ) → j < length ticks → getD ticks 0 0 ≤ getD ticks j 0
-unfolding rising
-none-before-first [] e j h = absurd (omega arith)
-none-before-first (t ∷ rest) e zero h = omega arith
-none-before-first (t ∷ []) e (suc j) h = absurd (omega arith)
-none-before-first (t ∷ u ∷ rest) e (suc j) h =
-    let tests = both-true _ _ e in
-    let later = none-before-first (u ∷ rest) (tests .1) j (omega arith) in
-    omega (arith, ltb-true t u (tests .0), later)
 
 -- Ticks that are not refused rise.
 pub unrefused-rise : (hollow : Bool) (ticks : List ℕ) → ticks-refusal hollow ticks ≡ 0 → rising ticks ≡ true

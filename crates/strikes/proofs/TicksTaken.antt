@@ -2,18 +2,19 @@
 use Prim.Native.Nat.{ℕ, _-_, _≤_}
 use native.Mathlib.Omega.{arith}
 use mathlib.Core.Path.{_≡_, sym, ap, _∙_}
-use mathlib.Core.List.{List, _++_}
+use mathlib.Core.List.{List}
 use mathlib.Core.Logic.{_≢_}
 use lib.Ieee.{Float}
-use lib.ListN.{drop, getD}
+use lib.ListN.{length, getD}
 use borrow.Author.Tests.{eq-eqb, ne-eqb}
 use Rattle.port.specs.Runs.{Machine}
-use Rattle.tempo.specs.Tempo.{even-times}
+use Rattle.tempo.specs.Tempo.{with-times}
 use Rattle.sheet.specs.Sheet.{ticks-refusal}
+use Rattle.sheet.proofs.Rising.{rises, none-before-first}
 use Rattle.strikes.specs.Parts.{refused-sheet, ReadTicks, ticks-number, ticks-sheet, ticks-list, TookTicks}
 use Rattle.strikes.specs.declared.TicksRead.{TicksRead}
 use Rattle.strikes.proofs.ReadingOn.{memory-kept, read-length}
-use Rattle.strikes.proofs.RisingTicks.{none-before-first, unrefused-rise}
+use Rattle.strikes.proofs.RisingTicks.{unrefused-rise}
 
 module _ {s : Machine} {n : ℕ} {o : TicksRead} {m ticks : List ℕ} (k : ReadTicks s n o m ticks)
     (number : ℕ) (e : number ≡ ticks-refusal (o .hollow) ticks) where
@@ -35,10 +36,11 @@ module _ {s : Machine} {n : ℕ} {o : TicksRead} {m ticks : List ℕ} (k : ReadT
   -- Ticks that are good: the first lies before the last or is it.
   pub first-then-last : number ≡ 0 → 1 ≤ n → getD ticks 0 0 ≤ getD ticks (n - 1) 0
   first-then-last h some =
-      none-before-first ticks (unrefused-rise (o .hollow) ticks (sym e ∙ h)) (n - 1) (omega (arith, read-length k))
+      none-before-first (λ j. getD ticks j 0) (length ticks) (rises ticks (unrefused-rise (o .hollow) ticks (sym e ∙ h))) (n - 1)
+      (omega (arith, read-length k))
 
   -- The list takes their times.
-  pub ticks-taken : number ≡ 0 → (l l′ : List Float) → l′ ≡ even-times (getD ticks 0 0) (getD ticks (n - 1) 0) n n ++ drop n l →
+  pub ticks-taken : number ≡ 0 → (l l′ : List Float) → l′ ≡ with-times (getD ticks 0 0) (getD ticks (n - 1) 0) n l →
       TookTicks s n l (record { number = 0; strokes = n; registers = o .registers }) m l′
   unfolding ticks-sheet ticks-list
   ticks-taken h l l′ x =

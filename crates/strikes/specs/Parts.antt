@@ -1,21 +1,21 @@
 -- The parts of a sheet: what the private functions state.
 --   refused-sheet n r                a refusal, with the registers r
 --   ReadTicks                        what some reads leave: registers with memory, a hollow mark for all of them, and their words
---   ticks-number                     number 42 or 44, or 0, of n ticks that are read from the machine s on
+--   ticks-of, ticks-number           n ticks that are read from the machine s on, and their number: 42 or 44, or 0
 --   ticks-sheet, ticks-list          a sheet whose count was right: what it answers, and the list
 --   TookTicks, ReadTable             what the two halves of a sheet leave
 use Prim.Native.Nat.{ℕ, _-_}
 use mathlib.Core.Path.{_≡_}
 use mathlib.Core.Bool.{cond}
-use mathlib.Core.List.{List, _++_}
+use mathlib.Core.List.{List}
 use lib.Dec.{eqb}
 use lib.Ieee.{Float}
-use lib.ListN.{drop, getD}
+use lib.ListN.{getD}
 use Rattle.words.specs.declared.BitAddress.{BitAddress}
 use Rattle.registers.specs.declared.Registers.{Registers}
 use Rattle.port.specs.Runs.{Machine, machine, answers, ends, words-in}
 use Rattle.port.specs.Table.{reading}
-use Rattle.tempo.specs.Tempo.{even-times}
+use Rattle.tempo.specs.Tempo.{with-times}
 use Rattle.sheet.specs.Reading.{whole, any-hollow}
 use Rattle.sheet.specs.Sheet.{ticks-refusal, read-sheet, read-list}
 use Rattle.sheet.specs.declared.Sheet.{Sheet}
@@ -42,7 +42,7 @@ module _ (s : Machine) (n : ℕ) where
       record { number = ticks-number; strokes = cond (eqb ticks-number 0) n 0; registers = ends s (reading n) .registers }
 
   unfoldable pub ticks-list : List Float → List Float
-  ticks-list l = cond (eqb ticks-number 0) (even-times (getD ticks-of 0 0) (getD ticks-of (n - 1) 0) n n ++ drop n l) l
+  ticks-list l = cond (eqb ticks-number 0) (with-times (getD ticks-of 0 0) (getD ticks-of (n - 1) 0) n l) l
 
 -- the ticks, read from the machine s on
 pub record TookTicks (s : Machine) (n : ℕ) (l : List Float) (o : Sheet) (m′ : List ℕ) (l′ : List Float) : Type 0 where

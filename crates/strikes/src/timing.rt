@@ -1,9 +1,8 @@
 // The even-tempo times, in double precision.
 ghost use mathlib.Core.Path.{_≡_};
-ghost use mathlib.Core.List.{_++_};
 ghost use Prim.Native.Nat.{_≤_};
-ghost use lib.ListN.{length, drop};
-ghost use Rattle.tempo.specs.Tempo.{even-time, even-times};
+ghost use lib.ListN.{length};
+ghost use Rattle.tempo.specs.Tempo.{even-time, with-times};
 
 // The time of stroke k: the first tick plus span times k over strokes less one, each operation rounded once. A single stroke takes its
 // own tick.
@@ -22,7 +21,7 @@ fn time_of(first: u16, last: u16, strokes: u16, k: u16) -> f64
 // Place k of the list takes the time of stroke k; later places stay.
 pub(crate) fn fill_times(list: &mut [f64], first: u16, last: u16, strokes: u16)
     requires { ⌜ (first ≤ last) × (strokes ≤ length (now list)) ⌝ }
-    ensures { λ _. ⌜ now (list .exit) ≡ even-times first last strokes strokes ++ drop strokes (now (list .entry)) ⌝ }
+    ensures { λ _. ⌜ now (list .exit) ≡ with-times first last strokes (now (list .entry)) ⌝ }
 {
     for k in 0..strokes {
         list[k as usize] = time_of(first, last, strokes, k);

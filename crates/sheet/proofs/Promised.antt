@@ -1,0 +1,64 @@
+-- What the contract of the call promises, in plain words: the laws of the definitions, said of any outcome that `Struck` allows.
+use Prim.Native.Nat.{ℕ, _<_}
+use mathlib.Core.Path.{_≡_, sym, ap, _∙_, subst}
+use mathlib.Core.List.{List}
+use mathlib.Core.Logic.{_⊎_, _↔_, _≢_}
+use lib.Ieee.{Float}
+use lib.ListN.{length}
+use Rattle.words.specs.declared.BitAddress.{BitAddress}
+use Rattle.registers.specs.declared.Registers.{Registers}
+use Rattle.port.specs.Runs.{machine, ends}
+use Rattle.sheet.specs.InPlainWords.{Passed-in, Begins, Rises, Complete, Verdict}
+use Rattle.sheet.specs.Reading.{whole}
+use Rattle.sheet.specs.Sheet.{strokes-of, made, read-sheet, Struck}
+use Rattle.sheet.specs.declared.Sheet.{Sheet}
+use Rattle.sheet.specs.declared.TimeStruck.{TimeStruck}
+use Rattle.sheet.proofs.InTempo.{InTempo, in-tempo}
+use Rattle.sheet.proofs.Moves.{untouched}
+use Rattle.sheet.proofs.Numbers.{begun, numbered}
+use Rattle.sheet.proofs.Refused.{refused-leaves}
+use Rattle.sheet.proofs.Taken.{sheet-begun}
+use Rattle.sheet.proofs.TheBet.{passing}
+
+module _ {r : Registers} {m : List ℕ} {a : BitAddress} {t : TimeStruck} {l : List Float} {o : Sheet} {m′ : List ℕ} {l′ : List Float}
+    (k : Struck r m a t l o m′ l′) where
+  -- The call returns v exactly if v's row of the table of refusals holds, or for 0 none of them.
+  pub returns-number : Passed-in (machine r m) a → (v : ℕ) → o .number ≡ v ↔ Verdict (machine r m) a t (length l) v
+  returns-number p v =
+      let e = ap (λ (x : Sheet). x .number) (k .outcome) in
+      let n = numbered (machine r m) a p t (length l) v in
+      (λ x. n .0 (sym e ∙ x), λ x. e ∙ n .1 x)
+
+  -- The memory that it was lent stays, whatever it returns.
+  pub memory-stays : m′ ≡ m
+  memory-stays = k .memory
+
+  -- Refused, it counts no strokes and leaves every place of the list.
+  pub refused-call : o .number ≢ 0 → (o .strokes ≡ 0) × (l′ ≡ l)
+  refused-call d =
+      let n = refused-leaves whole (machine r m) a t l (λ x. d (ap (λ (y : Sheet). y .number) (k .outcome) ∙ x)) in
+      (ap (λ (x : Sheet). x .strokes) (k .outcome) ∙ n .strokes, k .list ∙ n .list)
+
+  -- Refused with a number other than 42 to 44, it leaves the registers.
+  pub early-call : o .number ≢ 0 → (o .number < 42) ⊎ (44 < o .number) → o .registers ≡ r
+  early-call d out =
+      let e = ap (λ (x : Sheet). x .number) (k .outcome) in
+      ap (λ (x : Sheet). x .registers) (k .outcome) ∙
+      untouched whole (machine r m) a t (length l) (λ x. d (e ∙ x)) (subst (λ (v : ℕ). (v < 42) ⊎ (44 < v)) e out)
+
+  -- a call that is not refused before the port is touched
+  module _ (p : Passed-in (machine r m) a) (b : Begins (machine r m) t (length l)) where
+    -- It leaves the registers as its accesses do.
+    pub moves-the-port : o .registers ≡ ends (machine r m) (made whole (machine r m) a (strokes-of t)) .registers
+    unfolding read-sheet
+    moves-the-port =
+        ap (λ (x : Sheet). x .registers)
+        (k .outcome ∙ sheet-begun whole (machine r m) a t (length l) (begun (machine r m) a p t (length l) b))
+
+    -- Of a whole table whose ticks rise it counts the strokes, and leaves the list in tempo.
+    pub passing-call : Complete m a (strokes-of t) → Rises m a (strokes-of t) →
+        (o .strokes ≡ strokes-of t) × ((d : Float) → InTempo (machine r m) a t l l′ d)
+    passing-call c x = (
+      ap (λ (y : Sheet). y .strokes) (k .outcome) ∙ passing (machine r m) a t l p b c x .strokes,
+      λ d. subst (λ (y : List Float). InTempo (machine r m) a t l y d) (sym (k .list)) (in-tempo (machine r m) a t l p b c x d),
+    )
