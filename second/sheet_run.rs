@@ -9,7 +9,8 @@
 //!
 //! Each sheet prints a line in lower-case hexadecimal digits, with single spaces: number (2
 //! digits), strokes (4), the pointer (8), HSTDATA (4), HSTCTL (4) and the hollow mark (1) as they
-//! end, and the bit patterns of the whole list (16 each).
+//! end, and the bit patterns of the whole list (16 each). The room isn't printed: no access of a sheet
+//! stores to it, and a word that changed would show when a later sheet reads it.
 
 use crate::fault::{instead, Fault};
 use crate::port::Port;
