@@ -17,7 +17,8 @@ pub struct BlockWrite {
     pub registers: Registers,
 }
 
-// What some accesses of a block leave: the registers, and how many of their answers bear the mark that is counted.
+// What some accesses of a block leave: the registers, and how many of their answers bear the mark that is counted. Only the code of
+// crate `block` makes one; it is here because the laws of a block's parts (specs/Parts.antt) speak of it.
 pub struct Run {
     pub registers: Registers,
     pub marked: u16,

@@ -15,12 +15,15 @@ use Rattle.control.specs.Control.{incr}
 use Rattle.port.specs.Runs.{Machine}
 use Rattle.port.specs.Table.{Memory, Lies}
 use Rattle.sheet.specs.InPlainWords.{Passed-in, InRange, Begins, count-word, Rises, Falls, Complete}
-use Rattle.sheet.specs.InPlainWords.{Verdict, too-long, no-such-time, list-short, not-stepping, count-missed, count-wrong, tick-missed, not-rising, passes}
+use Rattle.sheet.specs.InPlainWords.{Verdict, too-long, no-such-time, list-short, not-stepping}
+use Rattle.sheet.specs.InPlainWords.{count-missed, count-wrong, tick-missed, not-rising, passes}
 use Rattle.sheet.specs.Reading.{whole, any-hollow, rising}
-use Rattle.sheet.specs.Sheet.{out-of-range, strokes-of, refusal-before, ticks-refusal, number-before, heard, ticks-heard, read-number, read-sheet, sheet-of}
+use Rattle.sheet.specs.Sheet.{out-of-range, strokes-of, refusal-before, ticks-refusal, number-before}
+use Rattle.sheet.specs.Sheet.{heard, ticks-heard, read-number, read-sheet, sheet-of}
 use Rattle.sheet.specs.declared.Sheet.{Sheet}
 use Rattle.sheet.specs.declared.TimeStruck.{TimeStruck}
-use Rattle.sheet.proofs.Heard.{count-missed-says, count-wrong-says, count-right-says, tick-missed-says, ticks-held, tick-told, ticks-count}
+use Rattle.sheet.proofs.Heard.{count-missed-says, count-wrong-says, count-right-says, tick-missed-says}
+use Rattle.sheet.proofs.Heard.{ticks-held, tick-told, ticks-count}
 use Rattle.sheet.proofs.Range.{accepted-time, time-accepted, refused-time, time-refused}
 use Rattle.sheet.proofs.Rising.{rises, falls}
 use Rattle.sheet.proofs.Taken.{sheet-begun, sheet-barred}
