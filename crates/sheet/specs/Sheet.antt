@@ -65,6 +65,7 @@ or-else n m = cond (eqb n 0) m n
 
 -- ---- a sheet that is begun on the machine s, of the table at a and a time of n strokes
 module _ (w : Way) (s : Machine) (a : BitAddress) (n : ℕ) where
+  -- as if every tick were read: of a count that is refused only the first answer is looked at
   abbrev pub heard : List Answer
   heard = told w s a n
 
