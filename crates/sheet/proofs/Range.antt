@@ -6,7 +6,7 @@ use mathlib.Core.Logic.{_⊎_, inl, inr, ⊎-elim}
 use lib.Dec.{eqb, ltb}
 use borrow.Author.Tests.{eqb-true, eqb-false, ltb-true, ltb-false, ne-eqb, le-ltb}
 use Rattle.words.proofs.Choices.{either-way, both-false}
-use Rattle.sheet.specs.InPlainWords.{InRange, OffRange}
+use Rattle.sheet.specs.InPlainWords.{time, InRange, OffRange}
 use Rattle.sheet.specs.Sheet.{out-of-range}
 use Rattle.sheet.specs.declared.TimeStruck.{TimeStruck}
 
@@ -67,3 +67,19 @@ module _ (t : TimeStruck) where
   -- One out of range is refused.
   pub time-refused : OffRange t → out-of-range t ≡ true
   time-refused o = ⊎-elim (λ e. e) (λ e. absurd (never-both (accepted-time e) o)) (either-way (out-of-range t))
+
+-- ---- the edges
+pub record Edges : Type 0 where
+  -- 1:00 and 12:59 are struck
+  pub first : out-of-range (time 1 0 0) ≡ false
+  pub last : out-of-range (time 12 3 14) ≡ false
+  -- no hours, 13 hours, four quarters and 15 minutes are not
+  pub no-hours : out-of-range (time 0 3 14) ≡ true
+  pub hours : out-of-range (time 13 0 0) ≡ true
+  pub quarters : out-of-range (time 1 4 0) ≡ true
+  pub minutes : out-of-range (time 1 0 15) ≡ true
+
+-- They come out so.
+pub edges : Edges
+unfolding out-of-range
+edges = record { first = refl; last = refl; no-hours = refl; hours = refl; quarters = refl; minutes = refl }
