@@ -138,8 +138,7 @@ module _ (s : Machine) (a : BitAddress) (t : TimeStruck) (l : List Float) (p : P
       let d : Begins other t (length l) = record { size = size; time = b .time; fits = b .fits; steps = b .steps } in
       let elsewhere = passing other a t l q d (there c) (rise-there r) in
       let x = ticks-read s a p t (length l) b (omega (arith, c .lies)) (c .count) .0 in
-      let y = ticks-read other a q t (length l) d (omega (arith, there c .lies)) (there c .count) .0 in
-      (
+      let y = ticks-read other a q t (length l) d (omega (arith, there c .lies)) (there c .count) .0 in (
         elsewhere,
         elsewhere .list ∙ same-struck ∙ sym (here .list),
         ap (λ (z : Registers). z .pointer) y ∙ sym (ap (λ (z : Registers). z .pointer) x),
