@@ -2,26 +2,28 @@
 -- many words on as were read (crate port, `Handed`), and memory stays.
 use Prim.Native.Nat.{ℕ, suc, _+_, _*_, _%_, _^_, _<_, _≤_}
 use native.Mathlib.Omega.{arith}
-use mathlib.Core.Path.{_≡_, sym, ap, _∙_}
+use mathlib.Core.Path.{_≡_, refl, sym, ap, _∙_}
 use mathlib.Core.Bool.{Bool, true, false}
-use mathlib.Core.List.{List}
+use mathlib.Core.List.{List, _++_}
 use mathlib.Core.Logic.{_⊎_, inl, inr, ⊎-elim, _≢_}
 use lib.Dec.{eqb}
-use lib.ListN.{length}
+use lib.ListN.{length, take}
+use lib.Seq.{take-length}
 use borrow.Author.Tests.{eq-eqb, ne-eqb}
 use Rattle.words.specs.Addresses.{word-at}
 use Rattle.words.specs.declared.BitAddress.{BitAddress}
 use Rattle.words.proofs.Choices.{either-way, same-or-not}
 use Rattle.registers.specs.declared.Registers.{Registers}
 use Rattle.port.specs.Cycle.{standing}
-use Rattle.port.specs.Runs.{Machine, ends}
-use Rattle.port.specs.Table.{loading, stands, reading, on-by}
+use Rattle.port.specs.Runs.{Machine, answers, ends}
+use Rattle.port.specs.declared.Answer.{Answer}
+use Rattle.port.specs.Table.{loading, loaded, stands, reading, on-by}
 use Rattle.port.proofs.Handed.{on-by-gains, reads-leave}
-use Rattle.port.proofs.Joined.{ends-join}
+use Rattle.port.proofs.Joined.{ends-join, answers-join, answers-length, reading-length}
 use Rattle.sheet.specs.InPlainWords.{Passed-in, Begins, count-word}
-use Rattle.sheet.specs.Reading.{Way, whole, rising}
+use Rattle.sheet.specs.Reading.{Way, whole, told, rising}
 use Rattle.sheet.specs.Sheet.{strokes-of, count-refusal, ticks-refusal, number-before, count-number}
-use Rattle.sheet.specs.Sheet.{words-read, made, read-number, read-sheet, sheet-of}
+use Rattle.sheet.specs.Sheet.{heard, words-read, made, read-number, read-sheet, sheet-of}
 use Rattle.sheet.specs.declared.Sheet.{Sheet}
 use Rattle.sheet.specs.declared.TimeStruck.{TimeStruck}
 use Rattle.sheet.proofs.Heard.{count-missed-says, count-wrong-says, count-right-says}
@@ -69,6 +71,25 @@ untouched w s a t room d out =
     (late w s a (strokes-of t))))
     (λ n. ap (λ (o : Sheet). o .registers) (sheet-barred w s a t room n))
     (same-or-not (number-before s t room) 0)
+
+-- ---- the accesses, and what is judged
+
+first-read : (q : Machine) (n : ℕ) → answers q (reading 1) ≡ take 1 (answers q (reading (suc n)))
+unfolding answers reading
+first-read q n = refl
+
+-- What is judged is what the accesses of a sheet answer: after the two that load the pointer, one answer for each word read.
+pub answers-judged : (s : Machine) (a : BitAddress) (n : ℕ) →
+    answers s (made whole s a n) ≡
+    answers s (loading (s .registers .control) a) ++ take (words-read whole s a n) (heard whole s a n)
+unfolding made told
+answers-judged s a n =
+    answers-join s (loading (s .registers .control) a) (reading (words-read whole s a n)) ∙
+    ap (λ (l : List Answer). answers s (loading (s .registers .control) a) ++ l)
+    (⊎-elim
+    (λ e. rw e (sym (ap (λ (i : ℕ). take i (answers (loaded s a) (reading (suc n)))) (sym (answers-length (loaded s a) (reading (suc n)) ∙ reading-length (suc n))) ∙ take-length (answers (loaded s a) (reading (suc n))))))
+    (λ e. rw e (first-read (loaded s a) n))
+    (either-way (eqb (count-number whole s a n) 0)))
 
 -- ---- begun
 module _ (s : Machine) (a : BitAddress) (p : Passed-in s a) (t : TimeStruck) (room : ℕ) (b : Begins s t room) where

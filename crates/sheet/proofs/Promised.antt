@@ -1,20 +1,24 @@
 -- What the contract of the call promises, in plain words: the laws of the definitions, said of any outcome that `Struck` allows.
-use Prim.Native.Nat.{ℕ, _<_}
+use Prim.Native.Nat.{ℕ, suc, _<_, _≤_}
 use mathlib.Core.Path.{_≡_, sym, ap, _∙_, subst}
 use mathlib.Core.List.{List}
 use mathlib.Core.Logic.{_⊎_, _↔_, _≢_}
 use lib.Ieee.{Float}
 use lib.ListN.{length}
+use Rattle.words.specs.Addresses.{word-at}
 use Rattle.words.specs.declared.BitAddress.{BitAddress}
 use Rattle.registers.specs.declared.Registers.{Registers}
+use Rattle.port.specs.Cycle.{standing}
 use Rattle.port.specs.Runs.{machine, ends}
-use Rattle.sheet.specs.InPlainWords.{Passed-in, Begins, Rises, Complete, Verdict}
-use Rattle.sheet.specs.Reading.{whole}
-use Rattle.sheet.specs.Sheet.{strokes-of, made, read-sheet, Struck}
+use Rattle.port.specs.Table.{on-by}
+use Rattle.sheet.specs.InPlainWords.{Passed-in, Begins, count-word, Rises, Complete, Verdict}
+use Rattle.sheet.specs.Reading.{whole, by-bytes}
+use Rattle.sheet.specs.Sheet.{strokes-of, made, read-sheet, sheet-of, list-after, Struck}
 use Rattle.sheet.specs.declared.Sheet.{Sheet}
 use Rattle.sheet.specs.declared.TimeStruck.{TimeStruck}
 use Rattle.sheet.proofs.InTempo.{InTempo, in-tempo}
-use Rattle.sheet.proofs.Moves.{untouched}
+use Rattle.sheet.proofs.ByBytes.{sheet-alike, list-alike}
+use Rattle.sheet.proofs.Moves.{untouched, count-read, ticks-read}
 use Rattle.sheet.proofs.Numbers.{begun, numbered}
 use Rattle.sheet.proofs.Refused.{refused-leaves}
 use Rattle.sheet.proofs.Taken.{sheet-begun}
@@ -46,6 +50,11 @@ module _ {r : Registers} {m : List ℕ} {a : BitAddress} {t : TimeStruck} {l : L
       ap (λ (x : Sheet). x .registers) (k .outcome) ∙
       untouched whole (machine r m) a t (length l) (λ x. d (e ∙ x)) (subst (λ (v : ℕ). (v < 42) ⊎ (44 < v)) e out)
 
+  -- It is the sheet that the same accesses make when each is done as two byte accesses.
+  pub call-by-bytes : (o ≡ sheet-of by-bytes (machine r m) a t (length l)) × (l′ ≡ list-after by-bytes (machine r m) a t l)
+  call-by-bytes =
+      (k .outcome ∙ sym (sheet-alike (machine r m) a t (length l)), k .list ∙ sym (list-alike (machine r m) a t l))
+
   -- a call that is not refused before the port is touched
   module _ (p : Passed-in (machine r m) a) (b : Begins (machine r m) t (length l)) where
     -- It leaves the registers as its accesses do.
@@ -54,6 +63,19 @@ module _ {r : Registers} {m : List ℕ} {a : BitAddress} {t : TimeStruck} {l : L
     moves-the-port =
         ap (λ (x : Sheet). x .registers)
         (k .outcome ∙ sheet-begun whole (machine r m) a t (length l) (begun (machine r m) a p t (length l) b))
+
+    -- With a count word that lies beyond memory or says another number, it leaves the port one word on.
+    pub stops-at-the-count :
+        (length m ≤ word-at a .0) ⊎ ((word-at a .0 < length m) × (count-word m a ≢ strokes-of t)) →
+        o .registers ≡ standing m (r .control) (on-by 1 a)
+    stops-at-the-count h =
+        ap (λ (x : Sheet). x .registers) (k .outcome) ∙ count-read (machine r m) a p t (length l) b h .0
+
+    -- With the right count it leaves the port just past the table, whatever the ticks are.
+    pub stops-past-the-table : word-at a .0 < length m → count-word m a ≡ strokes-of t →
+        o .registers ≡ standing m (r .control) (on-by (suc (strokes-of t)) a)
+    stops-past-the-table h e =
+        ap (λ (x : Sheet). x .registers) (k .outcome) ∙ ticks-read (machine r m) a p t (length l) b h e .0
 
     -- Of a whole table whose ticks rise it counts the strokes, and leaves the list in tempo.
     pub passing-call : Complete m a (strokes-of t) → Rises m a (strokes-of t) →

@@ -20,3 +20,11 @@ one-each h q m = record { hour = omega arith; quarter = omega arith; minute = om
 -- A time in range has from one to 29 strokes.
 pub few-strokes : (t : TimeStruck) → InRange t → (1 ≤ strokes-of t) × (strokes-of t ≤ 29)
 few-strokes t r = (omega (arith, r .an-hour), omega (arith, r .hours, r .quarters, r .minutes))
+
+-- Both are reached: 1:00 is in range and has one stroke, and so is 12:59, which has 29.
+pub fewest-and-most :
+    (InRange (time 1 0 0) × (strokes-of (time 1 0 0) ≡ 1)) × (InRange (time 12 3 14) × (strokes-of (time 12 3 14) ≡ 29))
+fewest-and-most = (
+  (record { an-hour = omega arith; hours = omega arith; quarters = omega arith; minutes = omega arith }, refl),
+  (record { an-hour = omega arith; hours = omega arith; quarters = omega arith; minutes = omega arith }, refl),
+)

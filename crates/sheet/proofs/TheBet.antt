@@ -12,13 +12,16 @@ use lib.Seq.{getD-take}
 use Rattle.words.specs.Addresses.{word-at}
 use Rattle.words.specs.Memory.{AreWords}
 use Rattle.words.specs.declared.BitAddress.{BitAddress}
+use Rattle.port.specs.Cycle.{standing}
 use Rattle.port.specs.Runs.{Machine, machine}
+use Rattle.registers.specs.declared.Registers.{Registers}
 use Rattle.tempo.specs.Tempo.{with-times}
 use Rattle.sheet.specs.InPlainWords.{Passed-in, Begins, count-word, tick, Rises, Complete, Verdict, count-missed, tick-missed, passes}
 use Rattle.sheet.specs.Reading.{whole}
 use Rattle.sheet.specs.Sheet.{strokes-of, ticks-heard, sheet-of, list-after}
 use Rattle.sheet.specs.declared.TimeStruck.{TimeStruck}
 use Rattle.sheet.proofs.Heard.{tick-told}
+use Rattle.sheet.proofs.Moves.{ticks-read}
 use Rattle.sheet.proofs.Numbers.{known, numbered}
 use Rattle.sheet.proofs.Refused.{passed-fills}
 use Rattle.sheet.proofs.Strokes.{few-strokes}
@@ -120,12 +123,24 @@ module _ (s : Machine) (a : BitAddress) (t : TimeStruck) (l : List Float) (p : P
         same-word (word-at a .0 + 1 + (strokes-of t - 1)) (omega (arith, some)),
       )
 
-  -- It passes there too, with the same strokes and the same list; only HSTDATA and its mark tell what follows.
+  abbrev left : Machine → Registers
+  left x = sheet-of whole x a t (length l) .registers
+
+  -- It passes there too, with the same strokes and the same list, and leaves the same pointer and HSTCTL: only HSTDATA and its mark
+  -- tell what follows.
   pub whatever-follows : Complete (s .memory) a (strokes-of t) → Rises (s .memory) a (strokes-of t) →
-      Passes other a t l × (list-after whole other a t l ≡ list-after whole s a t l)
+      Passes other a t l × (list-after whole other a t l ≡ list-after whole s a t l) ×
+      (left other .pointer ≡ left s .pointer) × (left other .control ≡ left s .control)
+  unfolding standing
   whatever-follows c r =
       let here = passing s a t l p b c r in
       let q : Passed-in other a = record { words = w; address = p .address } in
       let d : Begins other t (length l) = record { size = size; time = b .time; fits = b .fits; steps = b .steps } in
       let elsewhere = passing other a t l q d (there c) (rise-there r) in
-      (elsewhere, elsewhere .list ∙ same-struck ∙ sym (here .list))
+      let x = ticks-read s a p t (length l) b (omega (arith, c .lies)) (c .count) .0 in
+      let y = ticks-read other a q t (length l) d (omega (arith, there c .lies)) (there c .count) .0 in (
+        elsewhere,
+        elsewhere .list ∙ same-struck ∙ sym (here .list),
+        ap (λ (z : Registers). z .pointer) y ∙ sym (ap (λ (z : Registers). z .pointer) x),
+        ap (λ (z : Registers). z .control) y ∙ sym (ap (λ (z : Registers). z .control) x),
+      )
