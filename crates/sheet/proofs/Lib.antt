@@ -12,7 +12,7 @@ pub mod Moves
 pub mod One
 -- ---- demand 3: a sheet done by bytes
 pub mod ByBytes
--- ---- the tuner's bet and the partner's worry; the times
+-- ---- the tuner's bet and the keeper's worry; the times
 pub mod TheBet
 pub mod InTempo
 -- ---- the contract of the call

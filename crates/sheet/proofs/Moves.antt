@@ -78,6 +78,11 @@ first-read : (q : Machine) (n : ℕ) → answers q (reading 1) ≡ take 1 (answe
 unfolding answers reading
 first-read q n = refl
 
+every-read : (q : Machine) (n : ℕ) → answers q (reading n) ≡ take n (answers q (reading n))
+every-read q n =
+    sym (take-length (answers q (reading n))) ∙
+    ap (λ (i : ℕ). take i (answers q (reading n))) (answers-length q (reading n) ∙ reading-length n)
+
 -- What is judged is what the accesses of a sheet answer: after the two that load the pointer, one answer for each word read.
 pub answers-judged : (s : Machine) (a : BitAddress) (n : ℕ) →
     answers s (made whole s a n) ≡
@@ -87,7 +92,7 @@ answers-judged s a n =
     answers-join s (loading (s .registers .control) a) (reading (words-read whole s a n)) ∙
     ap (λ (l : List Answer). answers s (loading (s .registers .control) a) ++ l)
     (⊎-elim
-    (λ e. rw e (sym (ap (λ (i : ℕ). take i (answers (loaded s a) (reading (suc n)))) (sym (answers-length (loaded s a) (reading (suc n)) ∙ reading-length (suc n))) ∙ take-length (answers (loaded s a) (reading (suc n))))))
+    (λ e. rw e (every-read (loaded s a) (suc n)))
     (λ e. rw e (first-read (loaded s a) n))
     (either-way (eqb (count-number whole s a n) 0)))
 

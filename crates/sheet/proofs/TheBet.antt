@@ -1,4 +1,5 @@
--- The tuner's bet and the partner's worry, in one law: a sheet passes exactly if its table is whole. The tuner's last word is a tick like
+-- The tuner's bet and the keeper's worry, in one law: a sheet that is not refused before the port is touched passes exactly if its table
+-- is whole and its ticks rise. The tuner's last word is a tick like
 -- the others, whatever lies after it, memory's end included; and no word beyond memory ever makes a stroke.
 -- By `Numbers`, which has the number of every sheet, and `Refused`, which has the list.
 use Prim.Native.Nat.{ℕ, suc, _+_, _-_, _<_, _≤_}
@@ -58,14 +59,14 @@ module _ (s : Machine) (a : BitAddress) (t : TimeStruck) (l : List Float) where
   pub record Bet : Type 0 where
     -- the tuner's: if the table lies in memory with the right count and its ticks rise, the sheet passes, the last tick included
     pub tuner : Complete (s .memory) a n → Rises (s .memory) a n → Passes s a t l
-    -- the partner's: if the count word lies beyond memory, or the count is right and a tick lies beyond memory, it is refused with 42
+    -- the keeper's: if the count word lies beyond memory, or the count is right and a tick lies beyond memory, it is refused with 42
     pub no-count : length (s .memory) ≤ word-at a .0 → number ≡ 42
     pub no-tick : word-at a .0 < length (s .memory) → count-word (s .memory) a ≡ n → length (s .memory) < word-at a .0 + suc n → number ≡ 42
     -- and both: nothing else passes
     pub nothing-else : number ≡ 0 → Complete (s .memory) a n × Rises (s .memory) a n
 
   module _ (p : Passed-in s a) (b : Begins s t (length l)) where
-    -- A sheet whose table is whole passes.
+    -- A sheet whose table is whole and whose ticks rise passes.
     pub passing : Complete (s .memory) a n → Rises (s .memory) a n → Passes s a t l
     passing c r =
         let z = numbered s a p t (length l) 0 .1 (passes b c r) in

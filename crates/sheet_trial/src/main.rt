@@ -31,7 +31,7 @@
 //   mark, 0 or 1;
 //   the bit patterns of all 32 places of the list, sixteen each;
 //   a line feed.
-// The room is not printed: that a sheet leaves its memory is proved.
+// The room is not printed: that a sheet leaves its memory as it was is proved.
 mod carrying;
 mod printing;
 mod reading;
