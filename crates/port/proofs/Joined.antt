@@ -1,10 +1,11 @@
 -- A run of accesses in two parts: the first, then the second from where the first ended. What they answer is joined.
 -- By the accesses of the first part, one after the other.
-use Prim.Native.Nat.{ℕ, zero, suc, _+_}
+use Prim.Native.Nat.{ℕ, zero, suc, _+_, _≤_}
 use native.Mathlib.Nat.{zero-add, suc-add}
+use native.Mathlib.Omega.{arith}
 use mathlib.Core.Path.{_≡_, refl, ap, _∙_}
 use mathlib.Core.List.{List, [], _∷_, _++_}
-use lib.ListN.{length, length-map}
+use lib.ListN.{length, take, length-map}
 use Rattle.port.specs.Runs.{Machine, Sixteen, load, on, answer-of, after, answers, ends, words-in}
 use Rattle.port.specs.Table.{reading}
 use Rattle.port.specs.declared.Answer.{Answer}
@@ -42,6 +43,14 @@ pub reading-length : (n : ℕ) → length (reading n) ≡ n
 unfolding reading
 reading-length zero = refl
 reading-length (suc n) = ap suc (reading-length n)
+
+-- Of n reads the first k answer what k reads do.
+pub reads-front : (s : Machine) (k n : ℕ) → k ≤ n → answers s (reading k) ≡ take k (answers s (reading n))
+unfolding reading answers
+reads-front s zero n h = refl
+reads-front s (suc k) zero h = absurd (omega arith)
+reads-front s (suc k) (suc n) h =
+    ap (λ (l : List Answer). answer-of s (Read 2 3) ∷ l) (reads-front (after s (Read 2 3)) k n (omega arith))
 
 -- Reads leave the memory.
 pub reads-keep-memory : (s : Machine) (n : ℕ) → ends s (reading n) .memory ≡ s .memory

@@ -2,13 +2,12 @@
 -- many words on as were read (crate port, `Handed`), and memory stays.
 use Prim.Native.Nat.{ℕ, suc, _+_, _*_, _%_, _^_, _<_, _≤_}
 use native.Mathlib.Omega.{arith}
-use mathlib.Core.Path.{_≡_, refl, sym, ap, _∙_}
+use mathlib.Core.Path.{_≡_, sym, ap, _∙_}
 use mathlib.Core.Bool.{Bool, true, false}
 use mathlib.Core.List.{List, _++_}
 use mathlib.Core.Logic.{_⊎_, inl, inr, ⊎-elim, _≢_}
 use lib.Dec.{eqb}
 use lib.ListN.{length, take}
-use lib.Seq.{take-length}
 use borrow.Author.Tests.{eq-eqb, ne-eqb}
 use Rattle.words.specs.Addresses.{word-at}
 use Rattle.words.specs.declared.BitAddress.{BitAddress}
@@ -19,7 +18,7 @@ use Rattle.port.specs.Runs.{Machine, answers, ends}
 use Rattle.port.specs.declared.Answer.{Answer}
 use Rattle.port.specs.Table.{loading, loaded, stands, reading, on-by}
 use Rattle.port.proofs.Handed.{on-by-gains, reads-leave}
-use Rattle.port.proofs.Joined.{ends-join, answers-join, answers-length, reading-length}
+use Rattle.port.proofs.Joined.{ends-join, answers-join, reads-front}
 use Rattle.sheet.specs.InPlainWords.{Passed-in, Begins, count-word}
 use Rattle.sheet.specs.Reading.{Way, whole, told, rising}
 use Rattle.sheet.specs.Sheet.{strokes-of, count-refusal, ticks-refusal, number-before, count-number}
@@ -74,14 +73,8 @@ untouched w s a t room d out =
 
 -- ---- the accesses, and what is judged
 
-first-read : (q : Machine) (n : ℕ) → answers q (reading 1) ≡ take 1 (answers q (reading (suc n)))
-unfolding answers reading
-first-read q n = refl
-
-every-read : (q : Machine) (n : ℕ) → answers q (reading n) ≡ take n (answers q (reading n))
-every-read q n =
-    sym (take-length (answers q (reading n))) ∙
-    ap (λ (i : ℕ). take i (answers q (reading n))) (answers-length q (reading n) ∙ reading-length n)
+no-more : (s : Machine) (a : BitAddress) (n : ℕ) → words-read whole s a n ≤ suc n
+no-more s a n = ⊎-elim (λ e. rw e (omega arith)) (λ e. rw e (omega arith)) (either-way (eqb (count-number whole s a n) 0))
 
 -- What is judged is what the accesses of a sheet answer: after the two that load the pointer, one answer for each word read.
 pub answers-judged : (s : Machine) (a : BitAddress) (n : ℕ) →
@@ -91,10 +84,7 @@ unfolding made told
 answers-judged s a n =
     answers-join s (loading (s .registers .control) a) (reading (words-read whole s a n)) ∙
     ap (λ (l : List Answer). answers s (loading (s .registers .control) a) ++ l)
-    (⊎-elim
-    (λ e. rw e (every-read (loaded s a) (suc n)))
-    (λ e. rw e (first-read (loaded s a) n))
-    (either-way (eqb (count-number whole s a n) 0)))
+    (reads-front (loaded s a) (words-read whole s a n) (suc n) (no-more s a n))
 
 -- ---- begun
 module _ (s : Machine) (a : BitAddress) (p : Passed-in s a) (t : TimeStruck) (room : ℕ) (b : Begins s t room) where
