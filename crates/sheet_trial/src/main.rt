@@ -1,5 +1,5 @@
 // Carries out a script of strike sheets, read from standard input, and prints what each answers and leaves: document 02, request (viii).
-// A second program, written in plain Rust from documents 01 and 02 alone, does the same; `second/compare` holds what both print against
+// A second program, written in plain Rust from documents 01 and 02, does the same; `second/compare` holds what both print against
 // each other.
 //
 // WHAT A RUN HOLDS
