@@ -7,12 +7,12 @@ use mathlib.Core.Path.{_≡_, sym, ap, _∙_, subst}
 use mathlib.Core.List.{List}
 use lib.Dec.{T}
 use lib.Ieee.{Float, le}
-use lib.ListN.{length, getD, drop, length-append, length-drop}
+use lib.ListN.{length, getD}
 use Rattle.words.specs.declared.BitAddress.{BitAddress}
 use Rattle.port.specs.Runs.{Machine}
-use Rattle.tempo.specs.Tempo.{double, even-time, even-times}
+use Rattle.tempo.specs.Tempo.{double, even-time}
 use Rattle.tempo.proofs.EvenTempo.{EvenTempo, even-tempo}
-use Rattle.tempo.proofs.Times.{times-length, filled-place, later-stays}
+use Rattle.tempo.proofs.Times.{struck-place, rest-stays, struck-length}
 use Rattle.sheet.specs.InPlainWords.{Passed-in, Begins, tick, Rises, Complete}
 use Rattle.sheet.specs.Reading.{whole}
 use Rattle.sheet.specs.Sheet.{strokes-of, list-after}
@@ -61,7 +61,7 @@ module _ (s : Machine) (a : BitAddress) (t : TimeStruck) (l : List Float) where
         let place : ℕ → Float = λ k. getD (list-after whole s a t l) k d in
         let list = passing s a t l p b c r .list in
         let at : (k : ℕ) → k < strokes-of t → place k ≡ even-time first last (strokes-of t) k =
-        λ k h. ap (λ (x : List Float). getD x k d) list ∙ filled-place first last (strokes-of t) (strokes-of t) k l d h in
+        λ k h. ap (λ (x : List Float). getD x k d) list ∙ struck-place first last (strokes-of t) k l d h in
         let e = by-formula in
         record {
           formula = at;
@@ -76,8 +76,6 @@ module _ (s : Machine) (a : BitAddress) (t : TimeStruck) (l : List Float) where
                     subst (λ (x : Float). T (le x (place k))) (sym (at j (omega arith)))
                     (subst (λ (x : Float). T (le (even-time first last (strokes-of t) j) x)) (sym (at k h)) (e .never-falls j k i h));
               };
-          later = λ k h. ap (λ (x : List Float). getD x k d) list ∙ later-stays first last (strokes-of t) (strokes-of t) k l d h;
-          places =
-              ap length list ∙ length-append (even-times first last (strokes-of t) (strokes-of t)) (drop (strokes-of t) l) ∙
-              rw (times-length first last (strokes-of t) (strokes-of t), length-drop (strokes-of t) l) (omega (arith, b .fits));
+          later = λ k h. ap (λ (x : List Float). getD x k d) list ∙ rest-stays first last (strokes-of t) k l d h;
+          places = ap length list ∙ struck-length first last (strokes-of t) l (b .fits);
         }

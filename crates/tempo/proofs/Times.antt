@@ -5,11 +5,11 @@ use native.Mathlib.Omega.{arith}
 use mathlib.Core.Path.{_≡_, refl, sym, ap, _∙_, subst}
 use mathlib.Core.Logic.{⊎-elim}
 use mathlib.Core.List.{List, [], _∷_, _++_}
-use lib.ListN.{length, drop, set, getD, length-append}
+use lib.ListN.{length, drop, set, getD, length-append, length-drop}
 use lib.Seq.{drop-cons, set-at, append-snoc, getD-at, getD-take, getD-drop, take-at, drop-at}
 use lib.Ieee.{Float, nan}
 use Rattle.words.proofs.Choices.{less-or-not}
-use Rattle.tempo.specs.Tempo.{even-time, even-times}
+use Rattle.tempo.specs.Tempo.{even-time, even-times, with-times}
 
 module _ (first last strokes : ℕ) where
   -- There are as many times as strokes asked for.
@@ -68,3 +68,20 @@ module _ (first last strokes : ℕ) where
       ∙ set-at times (getD l m nan) (drop (suc m) l) newest m (times-length m)
       ∙ sym (append-snoc times newest (drop (suc m) l))
       ∙ ap (λ (n : ℕ). even-times first last strokes n ++ drop n l) (sym (add-one m))
+
+  -- ---- the list that takes the times of all strokes
+
+  -- Place k of it has the time of stroke k.
+  pub struck-place : (k : ℕ) (l : List Float) (d : Float) → k < strokes
+      → getD (with-times first last strokes l) k d ≡ even-time first last strokes k
+  struck-place k l d h = filled-place strokes k l d h
+
+  -- Its later places are those of the list.
+  pub rest-stays : (k : ℕ) (l : List Float) (d : Float) → strokes ≤ k → getD (with-times first last strokes l) k d ≡ getD l k d
+  rest-stays k l d h = later-stays strokes k l d h
+
+  -- It has as many places as the list, if that has one for each stroke.
+  pub struck-length : (l : List Float) → strokes ≤ length l → length (with-times first last strokes l) ≡ length l
+  struck-length l h =
+      length-append (even-times first last strokes strokes) (drop strokes l)
+      ∙ rw (times-length strokes, length-drop strokes l) (omega arith)
