@@ -1,5 +1,5 @@
 -- Demand 3 for sheets: with each access done instead as two byte accesses, in the order that LBL commands when it begins, a sheet comes
--- out the same. There is no condition on the memory, the registers, the table or the time.
+-- out the same. There is no condition on the memory, the registers, the table, the rule or the time.
 -- A sheet is made of what its accesses answer and where they end, and those are alike (crate port, `Alike`).
 use Prim.Native.Nat.{ℕ}
 use mathlib.Core.Path.{_≡_}
@@ -28,21 +28,21 @@ module _ (s : Machine) (a : BitAddress) (n : ℕ) where
   pub moves-alike : by-bytes .ended s (made by-bytes s a n) ≡ whole .ended s (made whole s a n)
   moves-alike = rw made-alike (ends-alike s (made whole s a n))
 
-  read-alike : read-sheet by-bytes s a n ≡ read-sheet whole s a n
+  read-alike : (rule : ℕ) → read-sheet by-bytes s a n rule ≡ read-sheet whole s a n rule
   unfolding read-sheet read-number
-  read-alike = rw (told-alike, moves-alike)
+  read-alike rule = rw (told-alike, moves-alike)
 
   read-list-alike : (l : List Float) → read-list by-bytes s a n l ≡ read-list whole s a n l
   unfolding read-list read-number
   read-list-alike l = rw told-alike
 
-module _ (s : Machine) (a : BitAddress) (t : TimeStruck) where
+module _ (s : Machine) (a : BitAddress) (rule : ℕ) (t : TimeStruck) where
   -- A sheet read by bytes answers the same, and leaves the same registers.
-  pub sheet-alike : (room : ℕ) → sheet-of by-bytes s a t room ≡ sheet-of whole s a t room
+  pub sheet-alike : (room : ℕ) → sheet-of by-bytes s a rule t room ≡ sheet-of whole s a rule t room
   unfolding sheet-of
-  sheet-alike room = rw (read-alike s a (strokes-of t))
+  sheet-alike room = rw (read-alike s a (strokes-of rule t) rule)
 
   -- And it leaves the same list.
-  pub list-alike : (l : List Float) → list-after by-bytes s a t l ≡ list-after whole s a t l
+  pub list-alike : (l : List Float) → list-after by-bytes s a rule t l ≡ list-after whole s a rule t l
   unfolding list-after
-  list-alike l = rw (read-list-alike s a (strokes-of t) l)
+  list-alike l = rw (read-list-alike s a (strokes-of rule t) l)

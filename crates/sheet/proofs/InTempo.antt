@@ -21,61 +21,61 @@ use Rattle.sheet.proofs.Rising.{none-before-first}
 use Rattle.sheet.proofs.Strokes.{few-strokes}
 use Rattle.sheet.proofs.TheBet.{passing}
 
-module _ (s : Machine) (a : BitAddress) (t : TimeStruck) (l : List Float) where
+module _ (s : Machine) (a : BitAddress) (rule : ℕ) (t : TimeStruck) (l : List Float) where
   abbrev first : ℕ
   first = tick (s .memory) a 0
 
   abbrev last : ℕ
-  last = tick (s .memory) a (strokes-of t - 1)
+  last = tick (s .memory) a (strokes-of rule t - 1)
 
   -- l′ is the list after the sheet; place k of it, with d where it has no such place
   pub record InTempo (l′ : List Float) (d : Float) : Type 0 where
     -- place k has the time of stroke k, by the formula
-    pub formula : (k : ℕ) → k < strokes-of t → getD l′ k d ≡ even-time first last (strokes-of t) k
+    pub formula : (k : ℕ) → k < strokes-of rule t → getD l′ k d ≡ even-time first last (strokes-of rule t) k
     -- so the places go from the first tick to the last, exactly, never outside them, and never back
-    pub tempo : EvenTempo first last (strokes-of t) (λ k. getD l′ k d)
+    pub tempo : EvenTempo first last (strokes-of rule t) (λ k. getD l′ k d)
     -- the other places, and how many there are, stay
-    pub later : (k : ℕ) → strokes-of t ≤ k → getD l′ k d ≡ getD l k d
+    pub later : (k : ℕ) → strokes-of rule t ≤ k → getD l′ k d ≡ getD l k d
     pub places : length l′ ≡ length l
 
-  module _ (p : Passed-in s a) (b : Begins s t (length l)) (c : Complete (s .memory) a (strokes-of t))
-      (r : Rises (s .memory) a (strokes-of t)) where
-    some : 1 ≤ strokes-of t
-    some = few-strokes t (b .time) .0
+  module _ (p : Passed-in s a) (b : Begins s rule t (length l)) (c : Complete (s .memory) a (strokes-of rule t))
+      (r : Rises (s .memory) a (strokes-of rule t)) where
+    some : 1 ≤ strokes-of rule t
+    some = few-strokes t (b .time) rule .0
 
-    few : strokes-of t ≤ 29
-    few = few-strokes t (b .time) .1
+    few : strokes-of rule t ≤ 32
+    few = few-strokes t (b .time) rule .1
 
-    own : strokes-of t ≤ 1 → first ≡ last
+    own : strokes-of rule t ≤ 1 → first ≡ last
     own h = ap (tick (s .memory) a) (omega (arith, some))
 
-    by-formula : EvenTempo first last (strokes-of t) (even-time first last (strokes-of t))
+    by-formula : EvenTempo first last (strokes-of rule t) (even-time first last (strokes-of rule t))
     by-formula =
-        even-tempo first last (strokes-of t)
-        (none-before-first (tick (s .memory) a) (strokes-of t) r (strokes-of t - 1) (omega (arith, some)))
+        even-tempo first last (strokes-of rule t)
+        (none-before-first (tick (s .memory) a) (strokes-of rule t) r (strokes-of rule t - 1) (omega (arith, some)))
         (p .words _) (omega (arith, few)) own
 
     -- The times of every sheet that passes are in tempo.
-    pub in-tempo : (d : Float) → InTempo (list-after whole s a t l) d
+    pub in-tempo : (d : Float) → InTempo (list-after whole s a rule t l) d
     in-tempo d =
-        let place : ℕ → Float = λ k. getD (list-after whole s a t l) k d in
-        let list = passing s a t l p b c r .list in
-        let at : (k : ℕ) → k < strokes-of t → place k ≡ even-time first last (strokes-of t) k =
-        λ k h. ap (λ (x : List Float). getD x k d) list ∙ struck-place first last (strokes-of t) k l d h in
+        let place : ℕ → Float = λ k. getD (list-after whole s a rule t l) k d in
+        let list = passing s a rule t l p b c r .list in
+        let at : (k : ℕ) → k < strokes-of rule t → place k ≡ even-time first last (strokes-of rule t) k =
+        λ k h. ap (λ (x : List Float). getD x k d) list ∙ struck-place first last (strokes-of rule t) k l d h in
         let e = by-formula in
         record {
           formula = at;
           tempo =
               record {
                 starts = at 0 (omega (arith, some)) ∙ e .starts;
-                ends = at (strokes-of t - 1) (omega (arith, some)) ∙ e .ends;
+                ends = at (strokes-of rule t - 1) (omega (arith, some)) ∙ e .ends;
                 not-before = λ k h. subst (λ (x : Float). T (le (double first) x)) (sym (at k h)) (e .not-before k h);
                 not-after = λ k h. subst (λ (x : Float). T (le x (double last))) (sym (at k h)) (e .not-after k h);
                 never-falls =
                     λ j k i h.
                     subst (λ (x : Float). T (le x (place k))) (sym (at j (omega arith)))
-                    (subst (λ (x : Float). T (le (even-time first last (strokes-of t) j) x)) (sym (at k h)) (e .never-falls j k i h));
+                    (subst (λ (x : Float). T (le (even-time first last (strokes-of rule t) j) x)) (sym (at k h)) (e .never-falls j k i h));
               };
-          later = λ k h. ap (λ (x : List Float). getD x k d) list ∙ rest-stays first last (strokes-of t) k l d h;
-          places = ap length list ∙ struck-length first last (strokes-of t) l (b .fits);
+          later = λ k h. ap (λ (x : List Float). getD x k d) list ∙ rest-stays first last (strokes-of rule t) k l d h;
+          places = ap length list ∙ struck-length first last (strokes-of rule t) l (b .fits);
         }

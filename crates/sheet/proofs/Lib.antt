@@ -1,5 +1,6 @@
 -- The laws of a strike sheet, in reading order.
 -- ---- the tests
+pub mod Rule
 pub mod Range
 pub mod Strokes
 pub mod Rising
@@ -15,6 +16,8 @@ pub mod ByBytes
 -- ---- the tuner's bet and the keeper's worry; the times
 pub mod TheBet
 pub mod InTempo
+-- ---- the two rules beside each other
+pub mod BothRules
 -- ---- the contract of the call
 pub mod Promised
 -- ---- by computation

@@ -54,22 +54,22 @@ late w s a n =
     (λ e. rw (ne-eqb (count-number w s a n) 0 e) (count-late _ _ _))
     (same-or-not (count-number w s a n) 0)
 
--- Refused with 1, 40, 41 or 46, that is with another number than 42 to 44, a sheet leaves the registers as they stood.
-pub untouched : (w : Way) (s : Machine) (a : BitAddress) (t : TimeStruck) (room : ℕ) →
-    sheet-of w s a t room .number ≢ 0 → (sheet-of w s a t room .number < 42) ⊎ (44 < sheet-of w s a t room .number) →
-    sheet-of w s a t room .registers ≡ s .registers
+-- Refused with 1, 45, 40, 41 or 46, that is with another number than 42 to 44, a sheet leaves the registers as they stood.
+pub untouched : (w : Way) (s : Machine) (a : BitAddress) (rule : ℕ) (t : TimeStruck) (room : ℕ) →
+    sheet-of w s a rule t room .number ≢ 0 → (sheet-of w s a rule t room .number < 42) ⊎ (44 < sheet-of w s a rule t room .number) →
+    sheet-of w s a rule t room .registers ≡ s .registers
 unfolding read-sheet
-untouched w s a t room d out =
+untouched w s a rule t room d out =
     ⊎-elim
     (λ e.
-    let b = ap (λ (o : Sheet). o .number) (sheet-begun w s a t room e) in
+    let b = ap (λ (o : Sheet). o .number) (sheet-begun w s a rule t room e) in
     absurd
     (⊎-elim
     (λ z. d (b ∙ z))
     (λ r. ⊎-elim (λ x. omega (arith, b, r .0)) (λ x. omega (arith, b, r .1)) out)
-    (late w s a (strokes-of t))))
-    (λ n. ap (λ (o : Sheet). o .registers) (sheet-barred w s a t room n))
-    (same-or-not (number-before s t room) 0)
+    (late w s a (strokes-of rule t))))
+    (λ n. ap (λ (o : Sheet). o .registers) (sheet-barred w s a rule t room n))
+    (same-or-not (number-before s rule t room) 0)
 
 -- ---- the accesses, and what is judged
 
@@ -87,32 +87,32 @@ answers-judged s a n =
     (reads-front (loaded s a) (words-read whole s a n) (suc n) (no-more s a n))
 
 -- ---- begun
-module _ (s : Machine) (a : BitAddress) (p : Passed-in s a) (t : TimeStruck) (room : ℕ) (b : Begins s t room) where
+module _ (s : Machine) (a : BitAddress) (p : Passed-in s a) (rule : ℕ) (t : TimeStruck) (room : ℕ) (b : Begins s rule t room) where
   abbrev left : Registers
-  left = sheet-of whole s a t room .registers
+  left = sheet-of whole s a rule t room .registers
 
   abbrev n : ℕ
-  n = strokes-of t
+  n = strokes-of rule t
 
   -- All accesses of a sheet leave the port standing as many words on as were read: memory and control as they were.
   pub accesses-leave : ends s (made whole s a n) ≡ stands s (on-by (words-read whole s a n) a)
   unfolding made
   accesses-leave =
       ends-join s (loading (s .registers .control) a) (reading (words-read whole s a n)) ∙
-      reads-leave s (known s a p t room b) (b .steps) a (p .address) (words-read whole s a n)
+      reads-leave s (known s a p rule t room b) (b .steps) a (p .address) (words-read whole s a n)
 
   begun-left : left ≡ standing (s .memory) (s .registers .control) (on-by (words-read whole s a n) a)
   unfolding read-sheet
   begun-left =
-      ap (λ (o : Sheet). o .registers) (sheet-begun whole s a t room (begun s a p t room b)) ∙
+      ap (λ (o : Sheet). o .registers) (sheet-begun whole s a rule t room (begun s a p rule t room b)) ∙
       ap (λ (x : Machine). x .registers) accesses-leave
 
   refused-count : (length (s .memory) ≤ word-at a .0) ⊎ ((word-at a .0 < length (s .memory)) × (count-word (s .memory) a ≢ n)) →
       count-number whole s a n ≢ 0
   refused-count (inl h) z =
-      let e = count-missed-says s (known s a p t room b) (b .steps) a (p .address) n h in omega (arith, sym e ∙ z)
+      let e = count-missed-says s (known s a p rule t room b) (b .steps) a (p .address) n h in omega (arith, sym e ∙ z)
   refused-count (inr h) z =
-      let e = count-wrong-says s (known s a p t room b) (b .steps) a (p .address) n (h .0) (h .1) in omega (arith, sym e ∙ z)
+      let e = count-wrong-says s (known s a p rule t room b) (b .steps) a (p .address) n (h .0) (h .1) in omega (arith, sym e ∙ z)
 
   -- Where the count word lies beyond memory, or says another number, that word alone has been read: the pointer stands one word on.
   pub count-read : (length (s .memory) ≤ word-at a .0) ⊎ ((word-at a .0 < length (s .memory)) × (count-word (s .memory) a ≢ n)) →
@@ -123,5 +123,5 @@ module _ (s : Machine) (a : BitAddress) (p : Passed-in s a) (t : TimeStruck) (ro
   pub ticks-read : word-at a .0 < length (s .memory) → count-word (s .memory) a ≡ n →
       (left ≡ standing (s .memory) (s .registers .control) (on-by (suc n) a)) × (on-by (suc n) a .0 ≡ a .0 + 16 * suc n)
   ticks-read h e =
-      let c = count-right-says s (known s a p t room b) (b .steps) a (p .address) n h e in
-      (begun-left ∙ rw (eq-eqb _ _ c), on-by-gains (suc n) a (p .address) ∙ omega (arith, b .size, few-strokes t (b .time) .1))
+      let c = count-right-says s (known s a p rule t room b) (b .steps) a (p .address) n h e in
+      (begun-left ∙ rw (eq-eqb _ _ c), on-by-gains (suc n) a (p .address) ∙ omega (arith, b .size, few-strokes t (b .time) rule .1))

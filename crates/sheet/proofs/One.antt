@@ -11,8 +11,8 @@ use Rattle.sheet.specs.declared.Sheet.{Sheet}
 use Rattle.sheet.specs.declared.TimeStruck.{TimeStruck}
 
 -- A sheet has one outcome.
-pub one-struck : {r : Registers} {m : List ℕ} {a : BitAddress} {t : TimeStruck} {l : List Float}
+pub one-struck : {r : Registers} {m : List ℕ} {a : BitAddress} {rule : ℕ} {t : TimeStruck} {l : List Float}
     {o p : Sheet} {m′ m″ : List ℕ} {l′ l″ : List Float} →
-    Struck r m a t l o m′ l′ → Struck r m a t l p m″ l″ → (o ≡ p) × (m′ ≡ m″) × (l′ ≡ l″)
+    Struck r m a rule t l o m′ l′ → Struck r m a rule t l p m″ l″ → (o ≡ p) × (m′ ≡ m″) × (l′ ≡ l″)
 one-struck p q =
     (one-value (p .outcome) (q .outcome), one-value (p .memory) (q .memory), one-value (p .list) (q .list))

@@ -16,26 +16,28 @@ use Rattle.sheet.specs.declared.Sheet.{Sheet}
 use Rattle.sheet.specs.declared.TimeStruck.{TimeStruck}
 use Rattle.sheet.proofs.Taken.{sheet-begun, list-begun, sheet-barred, list-barred}
 
-module _ (w : Way) (s : Machine) (a : BitAddress) (t : TimeStruck) (l : List Float) where
+module _ (w : Way) (s : Machine) (a : BitAddress) (rule : ℕ) (t : TimeStruck) (l : List Float) where
   abbrev sheet : Sheet
-  sheet = sheet-of w s a t (length l)
+  sheet = sheet-of w s a rule t (length l)
 
   abbrev ticks : List ℕ
-  ticks = ticks-heard w s a (strokes-of t)
+  ticks = ticks-heard w s a (strokes-of rule t)
 
-  -- A refusal counts no strokes, and writes nothing to the list.
+  -- A refusal shows no rule, counts no strokes, and writes nothing to the list.
   pub record Leaves : Type 0 where
+    pub shown : sheet .rule ≡ 0
     pub strokes : sheet .strokes ≡ 0
-    pub list : list-after w s a t l ≡ l
+    pub list : list-after w s a rule t l ≡ l
 
-  begun-refused : number-before s t (length l) ≡ 0 → sheet .number ≢ 0 → Leaves
+  begun-refused : number-before s rule t (length l) ≡ 0 → sheet .number ≢ 0 → Leaves
   unfolding read-sheet read-list
   begun-refused e d =
-      let b = sheet-begun w s a t (length l) e in
-      let n : read-number w s a (strokes-of t) ≢ 0 = λ z. d (ap (λ (o : Sheet). o .number) b ∙ z) in
+      let b = sheet-begun w s a rule t (length l) e in
+      let n : read-number w s a (strokes-of rule t) ≢ 0 = λ z. d (ap (λ (o : Sheet). o .number) b ∙ z) in
       record {
+        shown = ap (λ (o : Sheet). o .rule) b ∙ rw (ne-eqb _ _ n);
         strokes = ap (λ (o : Sheet). o .strokes) b ∙ rw (ne-eqb _ _ n);
-        list = list-begun w s a t l e ∙ rw (ne-eqb _ _ n);
+        list = list-begun w s a rule t l e ∙ rw (ne-eqb _ _ n);
       }
 
   -- Every refused sheet does so.
@@ -43,23 +45,31 @@ module _ (w : Way) (s : Machine) (a : BitAddress) (t : TimeStruck) (l : List Flo
   refused-leaves d =
       ⊎-elim
       (λ e. begun-refused e d)
-      (λ n. record { strokes = ap (λ (o : Sheet). o .strokes) (sheet-barred w s a t (length l) n); list = list-barred w s a t l n })
-      (same-or-not (number-before s t (length l)) 0)
+      (λ n.
+      let b = sheet-barred w s a rule t (length l) n in
+      record {
+        shown = ap (λ (o : Sheet). o .rule) b;
+        strokes = ap (λ (o : Sheet). o .strokes) b;
+        list = list-barred w s a rule t l n;
+      })
+      (same-or-not (number-before s rule t (length l)) 0)
 
-  -- A sheet that passes counts its strokes; the list takes their even-tempo times, from the first tick that was read to the last, and
-  -- keeps its later places.
+  -- A sheet that passes shows its rule and counts its strokes; the list takes their even-tempo times, from the first tick that was read
+  -- to the last, and keeps its later places.
   pub record Fills : Type 0 where
-    pub strokes : sheet .strokes ≡ strokes-of t
-    pub list : list-after w s a t l ≡ with-times (getD ticks 0 0) (getD ticks (strokes-of t - 1) 0) (strokes-of t) l
+    pub shown : sheet .rule ≡ rule
+    pub strokes : sheet .strokes ≡ strokes-of rule t
+    pub list : list-after w s a rule t l ≡ with-times (getD ticks 0 0) (getD ticks (strokes-of rule t - 1) 0) (strokes-of rule t) l
 
-  begun-passed : number-before s t (length l) ≡ 0 → sheet .number ≡ 0 → Fills
+  begun-passed : number-before s rule t (length l) ≡ 0 → sheet .number ≡ 0 → Fills
   unfolding read-sheet read-list
   begun-passed e z =
-      let b = sheet-begun w s a t (length l) e in
-      let n : read-number w s a (strokes-of t) ≡ 0 = sym (ap (λ (o : Sheet). o .number) b) ∙ z in
+      let b = sheet-begun w s a rule t (length l) e in
+      let n : read-number w s a (strokes-of rule t) ≡ 0 = sym (ap (λ (o : Sheet). o .number) b) ∙ z in
       record {
+        shown = ap (λ (o : Sheet). o .rule) b ∙ rw (eq-eqb _ _ n);
         strokes = ap (λ (o : Sheet). o .strokes) b ∙ rw (eq-eqb _ _ n);
-        list = list-begun w s a t l e ∙ rw (eq-eqb _ _ n);
+        list = list-begun w s a rule t l e ∙ rw (eq-eqb _ _ n);
       }
 
   -- Every sheet that passes does so.
@@ -67,5 +77,5 @@ module _ (w : Way) (s : Machine) (a : BitAddress) (t : TimeStruck) (l : List Flo
   passed-fills z =
       ⊎-elim
       (λ e. begun-passed e z)
-      (λ n. absurd (n (sym (ap (λ (o : Sheet). o .number) (sheet-barred w s a t (length l) n)) ∙ z)))
-      (same-or-not (number-before s t (length l)) 0)
+      (λ n. absurd (n (sym (ap (λ (o : Sheet). o .number) (sheet-barred w s a rule t (length l) n)) ∙ z)))
+      (same-or-not (number-before s rule t (length l)) 0)
