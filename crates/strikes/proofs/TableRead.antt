@@ -19,9 +19,9 @@ use Rattle.port.specs.declared.Outcome.{Outcome}
 use Rattle.port.proofs.DataRegister.{read-keeps-memory}
 use Rattle.port.proofs.Joined.{ends-join}
 use Rattle.sheet.specs.Reading.{whole, told, any-hollow}
-use Rattle.sheet.specs.Sheet.{count-refusal, or-else, count-number, read-number, made, read-sheet, read-list}
+use Rattle.sheet.specs.Sheet.{count-refusal, or-else, count-number, read-number, made, read-sheet, read-list, refused-sheet}
 use Rattle.sheet.specs.declared.Sheet.{Sheet}
-use Rattle.strikes.specs.Parts.{refused-sheet, ticks-number, ticks-sheet, ticks-list, TookTicks, ReadTable}
+use Rattle.strikes.specs.Parts.{ticks-number, ticks-sheet, ticks-list, TookTicks, ReadTable}
 use Rattle.port.proofs.OneAccess.{leaves, says}
 use Rattle.port.proofs.Loading.{loading-keeps-memory}
 
@@ -67,9 +67,9 @@ module _ (s : Machine) (a : BitAddress) (n : ℕ) where
         sym count-is
 
     -- A count that is hollow or wrong: a refusal, after one read.
-    pub count-refused : number ≢ 0 → (l : List Float) → ReadTable s a n l (refused-sheet number (o .registers)) m′ l
+    pub count-refused : number ≢ 0 → (rule : ℕ) (l : List Float) → ReadTable s a rule n l (refused-sheet number (o .registers)) m′ l
     unfolding read-sheet read-list
-    count-refused h l =
+    count-refused h rule l =
         let no = ne-eqb (count-number whole s a n) 0 (λ z. h (judged ∙ z)) in
         let same : read-number whole s a n ≡ number = number-is ∙ rw no (sym judged) in
         let no-number = ne-eqb (read-number whole s a n) 0 (λ z. h (sym same ∙ z)) in
@@ -80,14 +80,14 @@ module _ (s : Machine) (a : BitAddress) (n : ℕ) where
         }
 
     -- A count that is right: what the ticks leave.
-    pub count-right : number ≡ 0 → {l : List Float} {p : Sheet} {m″ : List ℕ} {l′ : List Float} →
-        TookTicks (machine (o .registers) m′) n l p m″ l′ → ReadTable s a n l p m″ l′
+    pub count-right : number ≡ 0 → {rule : ℕ} {l : List Float} {p : Sheet} {m″ : List ℕ} {l′ : List Float} →
+        TookTicks (machine (o .registers) m′) rule n l p m″ l′ → ReadTable s a rule n l p m″ l′
     unfolding told answers reading read-sheet read-list ticks-sheet ticks-list
-    count-right h {l} t =
+    count-right h {rule} {l} t =
         let yes = eq-eqb (count-number whole s a n) 0 (sym judged ∙ h) in
         let same : read-number whole s a n ≡ ticks-number next n = number-is ∙ rw yes in
         record {
-          outcome = t .outcome ∙ ap (λ (u : Machine). ticks-sheet u n) stands ∙ rw (same, made-all yes);
+          outcome = t .outcome ∙ ap (λ (u : Machine). ticks-sheet u n rule) stands ∙ rw (same, made-all yes);
           memory = t .memory ∙ ap (λ (u : Machine). u .memory) stands ∙ memory-stays;
           list = t .list ∙ ap (λ (u : Machine). ticks-list u n l) stands ∙ rw same;
         }

@@ -9,9 +9,9 @@ use lib.ListN.{length, getD}
 use borrow.Author.Tests.{eq-eqb, ne-eqb}
 use Rattle.port.specs.Runs.{Machine}
 use Rattle.tempo.specs.Tempo.{with-times}
-use Rattle.sheet.specs.Sheet.{ticks-refusal}
+use Rattle.sheet.specs.Sheet.{ticks-refusal, refused-sheet}
 use Rattle.sheet.proofs.Rising.{rises, none-before-first}
-use Rattle.strikes.specs.Parts.{refused-sheet, ReadTicks, ticks-number, ticks-sheet, ticks-list, TookTicks}
+use Rattle.strikes.specs.Parts.{ReadTicks, ticks-number, ticks-sheet, ticks-list, TookTicks}
 use Rattle.strikes.specs.declared.TicksRead.{TicksRead}
 use Rattle.strikes.proofs.ReadingOn.{memory-kept, read-length}
 use Rattle.strikes.proofs.RisingTicks.{unrefused-rise}
@@ -23,9 +23,9 @@ module _ {s : Machine} {n : ℕ} {o : TicksRead} {m ticks : List ℕ} (k : ReadT
   told = e ∙ rw (k .hollow, k .words)
 
   -- A refusal.
-  pub ticks-refused : number ≢ 0 → (l : List Float) → TookTicks s n l (refused-sheet number (o .registers)) m l
+  pub ticks-refused : number ≢ 0 → (rule : ℕ) (l : List Float) → TookTicks s rule n l (refused-sheet number (o .registers)) m l
   unfolding ticks-sheet ticks-list
-  ticks-refused h l =
+  ticks-refused h rule l =
       let t = ne-eqb (ticks-number s n) 0 (λ z. h (told ∙ z)) in
       record {
         outcome = rw (t, told, ap (λ (u : Machine). u .registers) (k .ends-at));
@@ -40,10 +40,10 @@ module _ {s : Machine} {n : ℕ} {o : TicksRead} {m ticks : List ℕ} (k : ReadT
       (omega (arith, read-length k))
 
   -- The list takes their times.
-  pub ticks-taken : number ≡ 0 → (l l′ : List Float) → l′ ≡ with-times (getD ticks 0 0) (getD ticks (n - 1) 0) n l →
-      TookTicks s n l (record { number = 0; strokes = n; registers = o .registers }) m l′
+  pub ticks-taken : number ≡ 0 → (rule : ℕ) (l l′ : List Float) → l′ ≡ with-times (getD ticks 0 0) (getD ticks (n - 1) 0) n l →
+      TookTicks s rule n l (record { number = 0; rule = rule; strokes = n; registers = o .registers }) m l′
   unfolding ticks-sheet ticks-list
-  ticks-taken h l l′ x =
+  ticks-taken h rule l l′ x =
       let z = sym told ∙ h in
       let t = eq-eqb (ticks-number s n) 0 z in
       record {

@@ -3,11 +3,18 @@ ghost use mathlib.Core.Path.{_≡_};
 ghost use mathlib.Core.Bool.{false};
 ghost use Prim.Native.Nat.{_≤_};
 ghost use Rattle.sheet.specs.Reading.{rising};
-ghost use Rattle.sheet.specs.Sheet.{out-of-range, strokes-of, refusal-before, count-refusal, ticks-refusal};
+ghost use Rattle.sheet.specs.Sheet.{unknown-rule, out-of-range, strokes-of, refusal-before, count-refusal, ticks-refusal};
 use control::steps_reading;
 use sheet::TimeStruck;
 use words::either;
 use words::is_over_limit;
+
+// The rule is neither 1 nor 2.
+fn is_unknown(rule: u32) -> bool
+    ensures { λ r. ⌜ r ≡ unknown-rule rule ⌝ }
+{
+    !either(rule == 1, rule == 2)
+}
 
 // No watch strikes this time.
 fn is_out_of_range(t: TimeStruck) -> bool
@@ -19,25 +26,31 @@ fn is_out_of_range(t: TimeStruck) -> bool
     )
 }
 
-// The strokes of a time that is in range: from one to 29.
-pub(crate) fn count_strokes(t: TimeStruck) -> u16
+// The strokes of a time that is in range, by a rule: from one to 32.
+pub(crate) fn count_strokes(rule: u32, t: TimeStruck) -> u16
     requires { ⌜ out-of-range t ≡ false ⌝ }
-    ensures { λ n. ⌜ (n ≡ strokes-of t) × (1 ≤ n) × (n ≤ 29) ⌝ }
+    ensures { λ n. ⌜ (n ≡ strokes-of rule t) × (1 ≤ n) × (n ≤ 32) ⌝ }
 {
+    if rule == 2 {
+        return (t.hours + 2 * t.quarters + t.minutes) as u16;
+    }
     (t.hours + t.quarters + t.minutes) as u16
 }
 
-// Number 1, 40, 41 or 46, or 0 where none applies.
-pub(crate) fn number_before(words: usize, room: usize, control: u16, t: TimeStruck) -> u8
-    ensures { λ r. ⌜ r ≡ refusal-before words room control t ⌝ }
+// Number 1, 45, 40, 41 or 46, or 0 where none applies.
+pub(crate) fn number_before(words: usize, room: usize, control: u16, rule: u32, t: TimeStruck) -> u8
+    ensures { λ r. ⌜ r ≡ refusal-before words room control rule t ⌝ }
 {
     if is_over_limit(words) {
         return 1;
     }
+    if is_unknown(rule) {
+        return 45;
+    }
     if is_out_of_range(t) {
         return 40;
     }
-    if room < count_strokes(t) as usize {
+    if room < count_strokes(rule, t) as usize {
         return 41;
     }
     if steps_reading(control) {

@@ -3,8 +3,8 @@ ghost use mathlib.Core.Path.{_≡_};
 ghost use Prim.Native.Nat.{_≤_};
 ghost use lib.ListN.{length};
 ghost use Rattle.port.specs.Runs.{machine};
-ghost use Rattle.sheet.specs.Sheet.{Struck};
-ghost use Rattle.strikes.specs.Parts.{refused-sheet, TookTicks, ReadTable};
+ghost use Rattle.sheet.specs.Sheet.{refused-sheet, Struck};
+ghost use Rattle.strikes.specs.Parts.{TookTicks, ReadTable};
 use crate::judging::count_strokes;
 use crate::judging::number_before;
 use crate::judging::number_of_count;
@@ -19,23 +19,24 @@ use sheet::Sheet;
 use sheet::TimeStruck;
 use words::BitAddress;
 
-// A refusal: its number and no strokes, with the registers as they are.
+// A refusal: its number and zeros, with the registers as they are.
 fn refuse(number: u8, r: Registers) -> Sheet
     ensures { λ o. ⌜ o ≡ refused-sheet number r ⌝ }
 {
     Sheet {
         number,
+        rule: 0,
         strokes: 0,
         registers: r,
     }
 }
 
 // The ticks: all are read before any is judged, and the list is written only if all are good.
-fn take_ticks(r: Registers, memory: &mut [u16], strokes: u16, list: &mut [f64]) -> Sheet
-    requires { ⌜ (1 ≤ strokes) × (strokes ≤ 29) × (strokes ≤ length (now list)) ⌝ }
-    ensures { λ o. ⌜ TookTicks (machine r (now (memory .entry))) strokes (now (list .entry)) o (now (memory .exit)) (now (list .exit)) ⌝ }
+fn take_ticks(r: Registers, memory: &mut [u16], rule: u32, strokes: u16, list: &mut [f64]) -> Sheet
+    requires { ⌜ (1 ≤ strokes) × (strokes ≤ 32) × (strokes ≤ length (now list)) ⌝ }
+    ensures { λ o. ⌜ TookTicks (machine r (now (memory .entry))) rule strokes (now (list .entry)) o (now (memory .exit)) (now (list .exit)) ⌝ }
 {
-    let mut ticks = [0u16; 29];
+    let mut ticks = [0u16; 32];
     let start = 0;
     let end = strokes as usize;
     let run = read_ticks(r, memory, &mut ticks[start..end]);
@@ -47,6 +48,7 @@ fn take_ticks(r: Registers, memory: &mut [u16], strokes: u16, list: &mut [f64]) 
     fill_times(list, ticks[0], ticks[end - 1], strokes);
     Sheet {
         number: 0,
+        rule,
         strokes,
         registers: q,
     }
@@ -57,11 +59,12 @@ fn read_table(
     r: Registers,
     memory: &mut [u16],
     table: BitAddress,
+    rule: u32,
     strokes: u16,
     list: &mut [f64],
 ) -> Sheet
-    requires { ⌜ (1 ≤ strokes) × (strokes ≤ 29) × (strokes ≤ length (now list)) ⌝ }
-    ensures { λ o. ⌜ ReadTable (machine r (now (memory .entry))) table strokes (now (list .entry)) o (now (memory .exit)) (now (list .exit)) ⌝ }
+    requires { ⌜ (1 ≤ strokes) × (strokes ≤ 32) × (strokes ≤ length (now list)) ⌝ }
+    ensures { λ o. ⌜ ReadTable (machine r (now (memory .entry))) table rule strokes (now (list .entry)) o (now (memory .exit)) (now (list .exit)) ⌝ }
 {
     let loaded = load_pointer(r, memory, table);
     let o = host_access(
@@ -78,22 +81,24 @@ fn read_table(
     if number != 0 {
         return refuse(number, q);
     }
-    take_ticks(q, memory, strokes, list)
+    take_ticks(q, memory, rule, strokes, list)
 }
 
-// The strike sheet of the table at a bit address, for the time struck: what it answers, and the list of times.
+// The strike sheet of the table at a bit address, for the time struck, whose strokes are counted by a rule: what it answers, and the list
+// of times.
 pub fn strike_sheet(
     r: Registers,
     memory: &mut [u16],
     table: BitAddress,
+    rule: u32,
     t: TimeStruck,
     list: &mut [f64],
 ) -> Sheet
-    ensures { λ o. ⌜ Struck r (now (memory .entry)) table t (now (list .entry)) o (now (memory .exit)) (now (list .exit)) ⌝ }
+    ensures { λ o. ⌜ Struck r (now (memory .entry)) table rule t (now (list .entry)) o (now (memory .exit)) (now (list .exit)) ⌝ }
 {
-    let number = number_before(memory.len(), list.len(), r.control, t);
+    let number = number_before(memory.len(), list.len(), r.control, rule, t);
     if number != 0 {
         return refuse(number, r);
     }
-    read_table(r, memory, table, count_strokes(t), list)
+    read_table(r, memory, table, rule, count_strokes(rule, t), list)
 }

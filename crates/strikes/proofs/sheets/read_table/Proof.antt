@@ -28,7 +28,7 @@ returns c =
     let a = load .before .before .before .before .args in
     rw (c .refuse .ensures)
     (count-refused (machine (a .r) (a .memory .now)) (a .table) (a .strokes) (load .load-pointer .ensures) (read .host-access .ensures) _
-    (counted .number-of-count .ensures) (c .before .if1 .taken) (a .list .now))
+    (counted .number-of-count .ensures) (c .before .if1 .taken) (a .rule) (a .list .now))
 
 take-ticks-requires : tie.Need-take-ticks-requires
 take-ticks-requires c κs =

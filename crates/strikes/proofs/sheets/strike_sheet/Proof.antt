@@ -21,12 +21,12 @@ returns c =
     record { outcome = rw (no, c .refuse .ensures, c .before .before .number-before .ensures); memory = refl; list = rw no }
 
 count-strokes-requires : tie.Need-count-strokes-requires
-count-strokes-requires c κs = in-range-with-room _ _ _ _ (sym (c .before .before .number-before .ensures) ∙ c .before .if1 .left) .0
+count-strokes-requires c κs = in-range-with-room _ _ _ _ _ (sym (c .before .before .number-before .ensures) ∙ c .before .if1 .left) .0
 
 read-table-requires : tie.Need-read-table-requires
 read-table-requires c κs =
     let judged = c .before .before .before in
-    let room = in-range-with-room _ _ _ _ (sym (judged .before .number-before .ensures) ∙ judged .if1 .left) .1 in
+    let room = in-range-with-room _ _ _ _ _ (sym (judged .before .number-before .ensures) ∙ judged .if1 .left) .1 in
     let few = c .before .count-strokes .ensures in
     (few .1, few .2, rw (few .0) room)
 

@@ -17,7 +17,7 @@ use Rattle.strikes.proofs.sheets.take_ticks.Tie as tie
 
 -- the places of the array behind those that are lent
 abbrev behind : ℕ → List ℕ
-behind n = drop (n - 0) (replicate 29 0)
+behind n = drop (n - 0) (replicate 32 0)
 
 mul-ticks : tie.Need-mul-ticks
 mul-ticks c = omega arith
@@ -41,7 +41,7 @@ read : (c : tie.After-read-ticks) →
     (c .read-ticks .last .1 .0) (c .read-ticks .last .1 .1 .0)
 read c =
     let start = c .before .before .before .before .before in
-    rw (first-length (start .args .strokes) (replicate 29 0) (start .pre .1)) at (c .read-ticks .ensures)
+    rw (first-length (start .args .strokes) (replicate 32 0) (start .pre .1)) at (c .read-ticks .ensures)
 
 mul-number-of-ticks : tie.Need-mul-number-of-ticks
 mul-number-of-ticks c = omega arith
@@ -80,7 +80,7 @@ returns : tie.Need-returns
 returns c =
     let j = c .before .before in
     let t = j .before .before .before .before .before .before .before in
-    rw (c .refuse .ensures) (ticks-refused (read t) _ (judged j) (c .before .if1 .taken) _)
+    rw (c .refuse .ensures) (ticks-refused (read t) _ (judged j) (c .before .if1 .taken) _ _)
 
 array-read-fill-times : tie.Need-array-read-fill-times
 array-read-fill-times c = omega arith
@@ -117,7 +117,7 @@ returns-2 c =
     let n = t .before .before .before .before .before .args .strokes in
     let at = front-at n (t .read-ticks .last .1 .1 .0) (behind n) (read-length (read t)) in
     let filled = rw (at 0 (omega arith), at (n - 1) (omega arith)) at (c .before .before .fill-times .ensures) in
-    ticks-taken (read t) _ (judged j) (c .before .before .before .before .if1 .left) _ _ filled
+    ticks-taken (read t) _ (judged j) (c .before .before .before .before .if1 .left) _ _ _ filled
 
 pub take-ticks-spec : {M : Type 1} → statement M
 take-ticks-spec =
