@@ -2,6 +2,7 @@
 --   whole-part x       x without its fraction, or 0 where that is no number of 64 bits
 --   in-thousandths t   the whole thousandths of the time t
 --   five-tables        the memory with five tables
+--   tables-of-both-rules   the memory with a table of nine strokes and one of six
 use Prim.Native.Nat.{ℕ}
 use mathlib.Core.Bool.{true, false, cond}
 use mathlib.Core.List.{List, [], _∷_}
@@ -19,3 +20,7 @@ abbrev pub five-tables : List ℕ
 five-tables =
     6 ∷ 10 ∷ 20 ∷ 30 ∷ 40 ∷ 50 ∷ 60 ∷ 6 ∷ 11 ∷ 22 ∷ 33 ∷ 33 ∷ 44 ∷ 55 ∷ 3 ∷ 65532 ∷ 65533 ∷ 65535 ∷ 1 ∷ 77 ∷ 6 ∷ 100 ∷ 130 ∷ 190 ∷
     255 ∷ 300 ∷ 350 ∷ []
+
+abbrev pub tables-of-both-rules : List ℕ
+tables-of-both-rules =
+    9 ∷ 100 ∷ 130 ∷ 160 ∷ 200 ∷ 250 ∷ 300 ∷ 340 ∷ 370 ∷ 420 ∷ 6 ∷ 11 ∷ 20 ∷ 30 ∷ 40 ∷ 50 ∷ 66 ∷ []

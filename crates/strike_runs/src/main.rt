@@ -1,8 +1,9 @@
 // Strike sheets at their edges: a table at the end of memory and one a word short of it, an equal pair, FFFFh as a true tick, a single
-// stroke, all 29, and each refusal. Each sheet prints its answer, the pointer and HSTDATA that it leaves, and then the list of times.
-// The stored output was worked out by hand from document 02, request (viii).
+// stroke, all 29 or 32, both rules with quarters and without, and each refusal. Each sheet prints its answer, the pointer and HSTDATA that
+// it leaves, and then the list of times.
+// The stored output was worked out by hand from document 02, requests (viii) and (ix).
 ghost use mathlib.Core.Path.{_≡_};
-ghost use Rattle.strike_runs.specs.Parts.{in-thousandths, five-tables};
+ghost use Rattle.strike_runs.specs.Parts.{in-thousandths, five-tables, tables-of-both-rules};
 ghost use Rattle.sheet.specs.InPlainWords.{time};
 use registers::Registers;
 use sheet::Sheet;
@@ -55,6 +56,8 @@ fn print_sheet(o: Sheet) {
     let pointer = r.pointer;
     io::write_all(1, b"number ");
     io::print_decimal(1, o.number as u64);
+    io::write_all(1, b", rule ");
+    io::print_decimal(1, o.rule as u64);
     io::write_all(1, b", strokes ");
     io::print_decimal(1, o.strokes as u64);
     io::write_all(1, b", pointer ");
@@ -70,6 +73,7 @@ fn strike(
     memory: &mut [u16],
     control: u16,
     table: u32,
+    rule: u32,
     t: TimeStruck,
     list: &mut [f64],
 ) {
@@ -80,7 +84,7 @@ fn strike(
         hollow: false,
     };
     io::write_all(1, title);
-    print_sheet(strikes::strike_sheet(r, memory, BitAddress(table), t, list));
+    print_sheet(strikes::strike_sheet(r, memory, BitAddress(table), rule, t, list));
     print_times(list);
 }
 
@@ -120,11 +124,11 @@ fn tables() -> [u16; 27]
     ]
 }
 
-// A sheet of one of them.
+// A sheet of one of them, by rule 1.
 fn strike_table(title: &[u8], control: u16, table: u32, t: TimeStruck) {
     let mut memory = tables();
     let mut list = [0.5; 8];
-    strike(title, &mut memory, control, table, t, &mut list);
+    strike(title, &mut memory, control, table, 1, t, &mut list);
 }
 
 // The same with the last word not lent.
@@ -133,7 +137,15 @@ fn strike_short(title: &[u8], control: u16, table: u32, t: TimeStruck) {
     let mut list = [0.5; 8];
     let start = 0;
     let end = 26;
-    strike(title, &mut memory[start..end], control, table, t, &mut list);
+    strike(
+        title,
+        &mut memory[start..end],
+        control,
+        table,
+        1,
+        t,
+        &mut list,
+    );
 }
 
 fn at(hours: u32, quarters: u32, minutes: u32) -> TimeStruck
@@ -170,8 +182,8 @@ fn run_passing() {
     );
 }
 
-// 12:59: the ticks go up one by one, and the last leaps to 1,035.
-fn run_longest() {
+// 12:59 by rule 1's table, into a list of 30 places: the ticks go up one by one, and the last leaps to 1,035.
+fn strike_longest(title: &[u8], rule: u32) {
     let mut memory = [
         29,
         1000,
@@ -206,33 +218,145 @@ fn run_longest() {
     ];
     let mut list = [0.5; 30];
     strike(
-        b"12:59, all 29 strokes\n",
+        title,
         &mut memory,
         0x1000,
         0,
+        rule,
         at(12, 3, 14),
         &mut list,
     );
 }
 
-// A sheet of a table of six strokes, into a list of six places.
-fn strike_six(title: &[u8], control: u16, t: TimeStruck) {
-    let mut memory = [6, 10, 20, 30, 40, 50, 60];
-    let mut list = [0.5; 6];
-    strike(title, &mut memory, control, 0, t, &mut list);
-}
-
-fn run_too_long() {
-    let mut memory = [0u16; 32769];
-    let mut list = [0.5; 6];
+// 12:59 by rule 2's table: the ticks go up one by one, and the last leaps to 2,062.
+fn run_longest_by_rule_two() {
+    let mut memory = [
+        32,
+        2000,
+        2001,
+        2002,
+        2003,
+        2004,
+        2005,
+        2006,
+        2007,
+        2008,
+        2009,
+        2010,
+        2011,
+        2012,
+        2013,
+        2014,
+        2015,
+        2016,
+        2017,
+        2018,
+        2019,
+        2020,
+        2021,
+        2022,
+        2023,
+        2024,
+        2025,
+        2026,
+        2027,
+        2028,
+        2029,
+        2030,
+        2062,
+    ];
+    let mut list = [0.5; 33];
     strike(
-        b"32,769 words\n",
+        b"12:59 by rule 2, all 32 strokes\n",
         &mut memory,
         0x1000,
         0,
-        at(3, 3, 0),
+        2,
+        at(12, 3, 14),
         &mut list,
     );
+}
+
+fn run_longest() {
+    strike_longest(b"12:59, all 29 strokes\n", 1);
+    strike_longest(
+        b"the same by rule 2, whose 32 strokes are more than the list's 30 places\n",
+        2,
+    );
+    run_longest_by_rule_two();
+}
+
+// Two tables: at word 0 nine strokes, and at 10 six.
+fn two_tables() -> [u16; 17]
+    ensures { λ m. ⌜ m ≡ tables-of-both-rules ⌝ }
+{
+    [
+        9,
+        100,
+        130,
+        160,
+        200,
+        250,
+        300,
+        340,
+        370,
+        420,
+        6,
+        11,
+        20,
+        30,
+        40,
+        50,
+        66,
+    ]
+}
+
+// A sheet of one of them, by a rule.
+fn strike_by(title: &[u8], rule: u32, table: u32, t: TimeStruck) {
+    let mut memory = two_tables();
+    let mut list = [0.5; 9];
+    strike(title, &mut memory, 0x1000, table, rule, t, &mut list);
+}
+
+fn run_both_rules() {
+    let quarter_to_four = at(3, 3, 0);
+    let one_past_five = at(5, 0, 1);
+    strike_by(b"3:45 by rule 1, six strokes\n", 1, 0xa0, quarter_to_four);
+    strike_by(b"3:45 by rule 2, nine strokes\n", 2, 0, quarter_to_four);
+    strike_by(
+        b"3:45 by rule 2, the table of six\n",
+        2,
+        0xa0,
+        quarter_to_four,
+    );
+    strike_by(
+        b"3:45 by rule 1, the table of nine\n",
+        1,
+        0,
+        quarter_to_four,
+    );
+    strike_by(b"5:01 by rule 1, no quarters\n", 1, 0xa0, one_past_five);
+    strike_by(b"5:01 by rule 2, no quarters\n", 2, 0xa0, one_past_five);
+}
+
+fn run_unknown_rules() {
+    strike_by(b"rule 0\n", 0, 0xa0, at(3, 3, 0));
+    strike_by(b"rule 3\n", 3, 0xa0, at(3, 3, 0));
+    strike_by(b"rule 65,537\n", 65537, 0xa0, at(3, 3, 0));
+    strike_by(b"rule 3, no hours\n", 3, 0xa0, at(0, 3, 3));
+}
+
+// A sheet of a table of six strokes, by rule 1, into a list of six places.
+fn strike_six(title: &[u8], control: u16, t: TimeStruck) {
+    let mut memory = [6, 10, 20, 30, 40, 50, 60];
+    let mut list = [0.5; 6];
+    strike(title, &mut memory, control, 0, 1, t, &mut list);
+}
+
+fn strike_too_long(title: &[u8], rule: u32) {
+    let mut memory = [0u16; 32769];
+    let mut list = [0.5; 6];
+    strike(title, &mut memory, 0x1000, 0, rule, at(3, 3, 0), &mut list);
 }
 
 fn run_out_of_range() {
@@ -250,6 +374,7 @@ fn run_no_room() {
         &mut memory,
         0x1000,
         0,
+        1,
         at(3, 3, 0),
         &mut list,
     );
@@ -272,7 +397,10 @@ fn run_refused_after() {
 fn main() {
     run_passing();
     run_longest();
-    run_too_long();
+    run_both_rules();
+    strike_too_long(b"32,769 words\n", 1);
+    strike_too_long(b"32,769 words, rule 3\n", 3);
+    run_unknown_rules();
     run_out_of_range();
     run_no_room();
     strike_six(b"INCR not set\n", 0x0800, at(3, 3, 0));
