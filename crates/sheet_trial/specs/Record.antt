@@ -1,7 +1,7 @@
--- What a record of a script says: crates/sheet_trial/src/main.rt, the table of 'A script'. A record is a list of 96 bytes.
+-- What a record of a script says: crates/sheet_trial/src/main.rt, the table of 'A script'. A record is a list of 108 bytes.
 --   number b k      number k of the record b
 --   wide b k        the number of 32 bits whose low half is number k, and whose high half is the next
---   registers-in b, table-in b, time-in b   what the call takes
+--   registers-in b, table-in b, rule-in b, time-in b   what the call takes
 use Prim.Native.Nat.{ℕ, _+_, _*_, _%_}
 use mathlib.Core.List.{List}
 use lib.Dec.{eqb}
@@ -11,7 +11,7 @@ use Rattle.words.specs.declared.BitAddress.{BitAddress}
 use Rattle.registers.specs.declared.Registers.{Registers}
 use Rattle.sheet.specs.declared.TimeStruck.{TimeStruck}
 
--- "48 numbers of 16 bits, low byte first, n0 to n47"
+-- "54 numbers of 16 bits, low byte first, n0 to n53"
 abbrev pub number : List ℕ → ℕ → ℕ
 number b k = getD b (2 * k) 0 + 256 * getD b (2 * k + 1) 0
 
@@ -33,6 +33,10 @@ registers-in b =
 abbrev pub table-in : List ℕ → BitAddress
 table-in b = address (wide b 5)
 
--- "n7, n8: hours"; "n9, n10: quarters"; "n11, n12: minutes"
+-- "n7, n8: the rule"
+abbrev pub rule-in : List ℕ → ℕ
+rule-in b = wide b 7
+
+-- "n9, n10: hours"; "n11, n12: quarters"; "n13, n14: minutes"
 abbrev pub time-in : List ℕ → TimeStruck
-time-in b = record { hours = wide b 7; quarters = wide b 9; minutes = wide b 11 }
+time-in b = record { hours = wide b 9; quarters = wide b 11; minutes = wide b 13 }

@@ -35,6 +35,7 @@ pub(crate) fn print_sheet(o: Sheet, list: &[f64]) {
     let r = o.registers;
     let pointer = r.pointer;
     print_number(o.number as u64, 2);
+    print_number(o.rule as u64, 8);
     print_number(o.strokes as u64, 4);
     print_number(pointer.0 as u64, 8);
     print_number(r.latch as u64, 4);

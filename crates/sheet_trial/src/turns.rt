@@ -7,9 +7,9 @@ use crate::printing::print_sheet;
 fn take_turn(room: &mut [u16], list: &mut [f64]) -> bool
     ensures { λ more. ⌜ TookTurn (now (room .entry)) (now (list .entry)) more (now (room .exit)) (now (list .exit)) ⌝ }
 {
-    let mut bytes = [0u8; 96];
+    let mut bytes = [0u8; 108];
     let got = io::read_full(0, &mut bytes);
-    if got == 96 {
+    if got == 108 {
         let o = carry_out(room, list, &bytes);
         print_sheet(o, list);
         return true;

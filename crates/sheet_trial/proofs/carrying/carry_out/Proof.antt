@@ -48,6 +48,9 @@ part-strike-sheet-end c = search needs
 table-of-requires : tie.Need-table-of-requires
 table-of-requires c κs = tt
 
+rule-of-requires : tie.Need-rule-of-requires
+rule-of-requires c κs = tt
+
 time-of-requires : tie.Need-time-of-requires
 time-of-requires c κs = tt
 
@@ -69,7 +72,7 @@ strike-sheet-requires c κs = tt
 same-length : tie.Need-same-length
 same-length c =
     let struck = c .before .before .before .before in
-    let lent = struck .before .before .before .before .before .before .before .before in
+    let lent = struck .before .before .before .before .before .before .before .before .before in
     let laid = lent .before .before .before .before .lay-words in
     let sheet = struck .strike-sheet in
     same-len-mid 0 (lent .least .result - 0) (laid .last .0) (sheet .last .1 .0) (sheet .kept .1 .0) ∙ laid .kept .0
@@ -80,7 +83,7 @@ same-length-2 c = search needs
 returns : tie.Need-returns
 returns c =
     let struck = c .before .before .before .before in
-    let named = struck .before .before .before .before .before in
+    let named = struck .before .before .before .before .before .before in
     let lent = named .before .before .before in
     let laid = lent .before .before .before .before in
     let args = laid .before .before .before .before .args in
@@ -92,7 +95,8 @@ returns c =
       words-lent = words ∙ ap (λ (n : ℕ). min n (length (laid .lay-words .last .0))) (lent .before .number-at .ensures);
       places-lent = places ∙ ap (λ (n : ℕ). min n (length (args .list .now))) (named .before .before .number-at2 .ensures);
       registers = named .registers-of .ensures;
-      table = struck .before .before .before .table-of .ensures;
+      table = struck .before .before .before .before .table-of .ensures;
+      counting = struck .before .before .before .rule-of .ensures;
       time = struck .before .before .time-of .ensures;
     })
     (struck .strike-sheet .ensures)
@@ -114,6 +118,7 @@ carry-out-spec =
     part-strike-sheet-start
     part-strike-sheet-end
     table-of-requires
+    rule-of-requires
     time-of-requires
     mul-strike-sheet-2
     sub-strike-sheet-2

@@ -13,8 +13,8 @@ use Rattle.sheet_trial.proofs.carrying.lay_words.Statement.{statement}
 use Rattle.sheet_trial.proofs.carrying.lay_words.Tie as tie
 
 record Laying (b room₀ : List ℕ) (first : ℕ) (room : List ℕ) (k : ℕ) : Type 0 where
-  most : k ≤ 32
-  from : first ≡ number b 15
+  most : k ≤ 36
+  from : first ≡ number b 17
   small : first < 65536
   long : length room ≡ length room₀
   done : room ≡ laid b room₀ k
@@ -22,7 +22,7 @@ record Laying (b room₀ : List ℕ) (first : ℕ) (room : List ℕ) (k : ℕ) :
 module _ {b room₀ : List ℕ} {first : ℕ} {room : List ℕ} {k : ℕ} (l : Laying b room₀ first room k) where
   -- one more
   turned :
-      (room′ : List ℕ) (w : ℕ) → k < 32 → w ≡ number b (16 + k) → room′ ≡ store-at room (record { 0 = first + k }) w →
+      (room′ : List ℕ) (w : ℕ) → k < 36 → w ≡ number b (18 + k) → room′ ≡ store-at room (record { 0 = first + k }) w →
       length room′ ≡ length room → Laying b room₀ first room′ (k + 1)
   unfolding laid
   turned room′ w h e put same =
@@ -34,14 +34,14 @@ module _ {b room₀ : List ℕ} {first : ℕ} {room : List ℕ} {k : ℕ} (l : L
         done = rw add-one (put ∙ (λ i. store-at (l .done i) (record { 0 = l .from i + k }) (e i)));
       }
 
-  ended : 32 ≤ k → room ≡ laid b room₀ 32
-  ended h = let e : k ≡ 32 = omega (arith, l .most) in l .done ∙ ap (laid b room₀) e
+  ended : 36 ≤ k → room ≡ laid b room₀ 36
+  ended h = let e : k ≡ 36 = omega (arith, l .most) in l .done ∙ ap (laid b room₀) e
 
 abbrev Inv-loop : tie.InvT-loop
 Inv-loop room₀ bytes first k₀ room k = Laying bytes room₀ first room k
 
 abbrev μ-loop : tie.MeasureT-loop
-μ-loop room₀ bytes first k₀ room k = 32 - k
+μ-loop room₀ bytes first k₀ room k = 36 - k
 
 number-at-requires : tie.Need-number-at-requires Inv-loop μ-loop
 number-at-requires c κs = omega arith
