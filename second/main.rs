@@ -17,6 +17,7 @@ mod sheet;
 mod sheet_examples;
 mod sheet_run;
 mod sheet_script;
+mod struck;
 
 use std::io::{self, BufWriter, Read, Write};
 use std::process::ExitCode;

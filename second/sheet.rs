@@ -1,33 +1,37 @@
-//! The strike sheet, by single host accesses of the port: document 02, request (viii).
+//! The strike sheet, by single host accesses of the port: document 02, requests (viii) and (ix).
 
 use crate::fault::{instead, planted, Fault};
 use crate::port::{too_long, Answer, Port, INCR, LBL};
+use crate::struck::Struck;
 
-/// Hours, quarters and minutes struck.
-pub type Time = [u32; 3];
+/// What a sheet shows: the rule used and its strokes if it passes, zeros if it is refused.
+pub struct Shown {
+    pub rule: u32,
+    pub strokes: u16,
+}
 
-/// The strokes of a sheet that passes, or the number of its refusal. The list's first places take
-/// the times if it passes, and only then.
+/// What a sheet that passes shows, or the number of its refusal. The list's first places take the
+/// times if it passes, and only then.
 pub fn sheet(
     port: &mut Port,
     memory: &mut [u16],
     address: u32,
-    time: Time,
+    struck: Struck,
     list: &mut [f64],
-) -> Result<u16, u8> {
-    let strokes = before_any_access(port, memory, time, list)?;
+) -> Result<Shown, u8> {
+    before_any_access(port, memory, struck, list)?;
     load(port, memory, address);
     let count = port.read(memory, 2, 3);
-    let right = none_of(&[(usize::from(count.word) != strokes, 43)]);
+    let right = none_of(&[(!right_count(count.word, struck), 43)]);
     let [at_once, late] = instead(Fault::SheetCountLast, [Ok(()), right], [right, Ok(())]);
     none_of(&[(hollow(&count), 42)]).and(at_once)?;
-    let ticks = ticks(port, memory, strokes);
+    let ticks = ticks(port, memory, struck);
     if planted(Fault::SheetListFirst) {
-        write(list, &ticks);
+        write(list, &ticks, struck);
     }
-    judged(&ticks).and(late)?;
-    write(list, &ticks);
-    Ok(ticks.len() as u16)
+    judged(&ticks, struck).and(late)?;
+    write(list, &ticks, struck);
+    Ok(shown(ticks.len(), struck))
 }
 
 /// The first refusal that applies, if any does.
@@ -38,28 +42,32 @@ fn none_of(refusals: &[(bool, u8)]) -> Result<(), u8> {
     }
 }
 
-/// How many strokes the time has, unless the sheet is refused before the port is reached.
-fn before_any_access(port: &Port, memory: &[u16], time: Time, list: &[f64]) -> Result<usize, u8> {
-    let [hours, quarters, minutes] = time.map(u64::from);
-    let strokes = hours + quarters + minutes;
-    let by_part = (1..=12).contains(&hours) && quarters <= 3 && minutes <= 14;
-    let by_sum = (1..=29).contains(&(strokes as u32));
-    let in_range = instead(Fault::SheetRangeOfSum, by_sum, by_part);
+/// Whether the sheet is refused before the port is reached.
+fn before_any_access(port: &Port, memory: &[u16], struck: Struck, list: &[f64]) -> Result<(), u8> {
+    let needed = struck.by_rule_1_if(Fault::SheetPlacesByRuleOne);
+    let needed = instead(Fault::SheetPlacesByRuleTwo, struck.by(2), needed);
     let increments = port.control & INCR != 0 || planted(Fault::SheetIncrUnasked);
     let mut refusals = [
         (too_long(memory), 1),
-        (!in_range, 40),
-        (strokes > list.len() as u64, 41),
+        (!struck.known(), 45),
+        (!struck.in_range(), 40),
+        (needed.strokes() > list.len() as u64, 41),
         (!increments, 46),
     ];
-    if planted(Fault::SheetPlacesFirst) {
-        refusals.swap(1, 2);
+    // The fault at place k tests the refusal after place k one too early.
+    let too_early = [
+        Fault::SheetRuleFirst,
+        Fault::SheetTimeFirst,
+        Fault::SheetPlacesFirst,
+        Fault::SheetIncrFirst,
+    ];
+    if let Some(k) = too_early.into_iter().position(planted) {
+        refusals.swap(k, k + 1);
     }
-    if planted(Fault::SheetIncrFirst) {
-        refusals.swap(2, 3);
+    if planted(Fault::SheetRuleLast) {
+        refusals[1..].rotate_left(1);
     }
-    none_of(&refusals)?;
-    Ok(strokes as usize)
+    none_of(&refusals)
 }
 
 /// Loads the pointer, with the half that fetches last: the high one if LBL is 0, else the low one.
@@ -81,32 +89,57 @@ fn hollow(answer: &Answer) -> bool {
     instead(Fault::SheetHollowByValue, filler, answer.hollow)
 }
 
+/// Whether a count word is that of the rule named.
+fn right_count(count: u16, struck: Struck) -> bool {
+    let is_that_of = |struck: Struck| u64::from(count) == struck.strokes();
+    let either = is_that_of(struck.by(1)) || is_that_of(struck.by(2));
+    let named = is_that_of(struck.by_rule_1_if(Fault::SheetCountByRuleOne));
+    instead(Fault::SheetCountByEither, either, named)
+}
+
 /// Every tick, read before any is judged.
-fn ticks(port: &mut Port, memory: &[u16], strokes: usize) -> Vec<Answer> {
+fn ticks(port: &mut Port, memory: &[u16], struck: Struck) -> Vec<Answer> {
+    let strokes = struck.by_rule_1_if(Fault::SheetTicksByRuleOne).strokes();
+    let strokes = instead(Fault::SheetOldMost, strokes.min(29), strokes);
     let fewer = (strokes - 1).max(1);
     let mut ticks = Vec::new();
     for _ in 0..instead(Fault::SheetLastTickLost, fewer, strokes) {
         ticks.push(port.read(memory, 2, 3));
-        if planted(Fault::SheetStopsAtBadTick) && judged(&ticks).is_err() {
+        if planted(Fault::SheetStopsAtBadTick) && judged(&ticks, struck).is_err() {
             break;
         }
     }
     ticks
 }
 
-fn judged(ticks: &[Answer]) -> Result<(), u8> {
+fn judged(ticks: &[Answer], struck: Struck) -> Result<(), u8> {
     let missing = ticks.iter().any(hollow) && !planted(Fault::SheetHollowTick);
+    let at_once = planted(Fault::SheetGongsAtOnce) && struck.rule == 2;
+    let may_be_equal = planted(Fault::SheetEqualTicks) || at_once;
     let rises = |pair: &[Answer]| {
-        let equal = planted(Fault::SheetEqualTicks) && pair[0].word == pair[1].word;
-        pair[0].word < pair[1].word || equal
+        let equal = pair[0].word == pair[1].word;
+        pair[0].word < pair[1].word || equal && may_be_equal
     };
     none_of(&[(missing, 42), (!ticks.windows(2).all(rises), 44)])
 }
 
-fn write(list: &mut [f64], ticks: &[Answer]) {
+/// What a sheet with that many ticks shows, now that it has passed.
+fn shown(ticks: usize, struck: Struck) -> Shown {
+    let rule = instead(Fault::SheetRuleOneShown, 1, struck.rule);
+    let old = struck.by(1).strokes() as u16;
+    Shown {
+        rule: instead(Fault::SheetRuleFromZero, rule.wrapping_sub(1), rule),
+        strokes: instead(Fault::SheetOldStrokesShown, old, ticks as u16),
+    }
+}
+
+/// Lays the times into the list's first places, one for each tick.
+fn write(list: &mut [f64], ticks: &[Answer], struck: Struck) {
     let (first, last) = (ticks[0].word, ticks[ticks.len() - 1].word);
-    for (k, place) in list[..ticks.len()].iter_mut().enumerate() {
-        *place = even_tempo(first, last, k, ticks.len());
+    let old = struck.by(1).strokes() as usize;
+    let strokes = instead(Fault::SheetTempoByRuleOne, old, ticks.len());
+    for (k, place) in list.iter_mut().take(ticks.len()).enumerate() {
+        *place = even_tempo(first, last, k, strokes);
     }
     if planted(Fault::SheetRestCleared) {
         list[ticks.len()..].fill(0.0);

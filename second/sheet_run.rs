@@ -1,26 +1,29 @@
-//! A run of sheets: a script of strike sheets (document 02, request (viii)) carried out on a room of
-//! 32,769 words and a list of 32 doubles, all 0 at the start, which persist from sheet to sheet.
+//! A run of sheets: a script of strike sheets (document 02, requests (viii) and (ix)) carried out
+//! on a room of 32,769 words and a list of 36 doubles, all 0 at the start, which persist from sheet
+//! to sheet.
 //!
-//! A script is records of 96 bytes: 48 numbers of 16 bits, their low byte first. They are the
+//! A script is records of 108 bytes: 54 numbers of 16 bits, their low byte first. They are the
 //! pointer (low half, high half), HSTDATA, HSTCTL, the hollow mark (set if odd); the table's bit
-//! address, hours, quarters and minutes (each low half, high half); how many places of the list and
-//! how many words of the room are lent, at most all; and the word number from which the last 32
-//! numbers are laid into the room before the call, those beyond its end dropped.
+//! address, the rule, hours, quarters and minutes (each low half, high half); how many places of
+//! the list and how many words of the room are lent, at most all; and the word number from which
+//! the last 36 numbers are laid into the room before the call, those beyond its end dropped.
 //!
 //! Each sheet prints a line in lower-case hexadecimal digits, with single spaces: number (2
-//! digits), strokes (4), the pointer (8), HSTDATA (4), HSTCTL (4) and the hollow mark (1) as they
-//! end, and the bit patterns of the whole list (16 each). The room isn't printed: no access of a sheet
-//! stores to it, and a word that changed would show when a later sheet reads it.
+//! digits), the rule shown (8), strokes (4), the pointer (8), HSTDATA (4), HSTCTL (4) and the
+//! hollow mark (1) as they end, and the bit patterns of the whole list (16 each). The room isn't
+//! printed: no access of a sheet stores to it, and a word that changed would show when a later
+//! sheet reads it.
 
 use crate::fault::{instead, Fault};
 use crate::port::Port;
 use crate::run::ROOM;
-use crate::sheet::{sheet, Time};
+use crate::sheet::{sheet, Shown};
+use crate::struck::Struck;
 use std::io::{self, Write};
 
-const RECORD: usize = 96;
-pub const LAID: usize = 32;
-pub const LIST: usize = 32;
+const RECORD: usize = 108;
+pub const LAID: usize = 36;
+pub const LIST: usize = 36;
 
 /// One sheet of a script.
 pub struct Record {
@@ -30,7 +33,7 @@ pub struct Record {
     /// Hollow if odd.
     pub hollow: u16,
     pub address: u32,
-    pub time: Time,
+    pub struck: Struck,
     /// How many places of the list and how many words of the room are lent.
     pub places: u16,
     pub words: u16,
@@ -49,11 +52,14 @@ impl Record {
             control: at(3),
             hollow: at(4),
             address: wide(5),
-            time: [wide(7), wide(9), wide(11)],
-            places: at(13),
-            words: at(14),
-            first: at(15),
-            laid: std::array::from_fn(|k| at(16 + k)),
+            struck: Struck {
+                rule: wide(7),
+                time: [wide(9), wide(11), wide(13)],
+            },
+            places: at(15),
+            words: at(16),
+            first: at(17),
+            laid: std::array::from_fn(|k| at(18 + k)),
         }
     }
 
@@ -71,7 +77,8 @@ impl Record {
         let mut numbers = Vec::from(halves(self.pointer));
         numbers.extend([self.data, self.control, self.hollow]);
         numbers.extend(halves(self.address));
-        numbers.extend(self.time.iter().flat_map(|&part| halves(part)));
+        numbers.extend(halves(self.struck.rule));
+        numbers.extend(self.struck.time.into_iter().flat_map(halves));
         numbers.extend([self.places, self.words, self.first]);
         numbers.extend(self.laid);
         numbers.into_iter().flat_map(u16::to_le_bytes).collect()
@@ -100,24 +107,26 @@ impl Run {
         let mut port = record.port();
         let memory = &mut self.room[..usize::from(record.words).min(ROOM)];
         let list = &mut self.list[..usize::from(record.places).min(LIST)];
-        let outcome = sheet(&mut port, memory, record.address, record.time, list);
-        if outcome.is_err() {
-            port = instead(Fault::SheetPortRestored, record.port(), port);
-        }
-        line(outcome, port, &self.list)
+        let outcome = sheet(&mut port, memory, record.address, record.struck, list);
+        let (number, shown) = match outcome {
+            Ok(shown) => (0, shown),
+            Err(number) => {
+                port = instead(Fault::SheetPortRestored, record.port(), port);
+                let rule = instead(Fault::SheetRuleOnRefusal, record.struck.rule, 0);
+                (number, Shown { rule, strokes: 0 })
+            }
+        };
+        line(number, shown, port, &self.list)
     }
 }
 
 /// The line that a sheet prints, without its line feed.
-pub fn line(outcome: Result<u16, u8>, port: Port, list: &[f64; LIST]) -> String {
-    let (number, strokes) = match outcome {
-        Ok(strokes) => (0, strokes),
-        Err(number) => (number, 0),
-    };
+pub fn line(number: u8, shown: Shown, port: Port, list: &[f64; LIST]) -> String {
+    let Shown { rule, strokes } = shown;
     let (pointer, data, control) = (port.pointer, port.data, port.control);
     let hollow = u8::from(port.hollow);
-    let mut line =
-        format!("{number:02x} {strokes:04x} {pointer:08x} {data:04x} {control:04x} {hollow}");
+    let mut line = format!("{number:02x} {rule:08x} {strokes:04x} ");
+    line += &format!("{pointer:08x} {data:04x} {control:04x} {hollow}");
     for place in list {
         line += &format!(" {:016x}", place.to_bits());
     }
