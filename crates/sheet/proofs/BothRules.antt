@@ -5,7 +5,7 @@ use Prim.Native.Nat.{ℕ, _≤_, _<_}
 use native.Mathlib.Omega.{arith}
 use mathlib.Core.Path.{_≡_, refl, sym, _∙_}
 use mathlib.Core.List.{List}
-use mathlib.Core.Logic.{inl, inr, ⊎-elim, _≢_}
+use mathlib.Core.Logic.{inl, inr, ⊎-elim, _↔_, _≢_}
 use lib.Ieee.{Float}
 use lib.ListN.{length}
 use borrow.Author.Tests.{eq-eqb, ne-eqb}
@@ -54,7 +54,7 @@ module _ (w : Way) (s : Machine) (a : BitAddress) where
     unfolding refusal-before unknown-rule
     judged-alike room = rw (no-quarters t e)
 
-    -- The two sheets of such a time differ in the rule shown alone, so a table passes under both rules or under neither.
+    -- The two sheets of such a time differ in the rule shown alone.
     pub rule-alone : (room : ℕ) → RuleAlone (sheet-of w s a 1 t room) (sheet-of w s a 2 t room)
     rule-alone room =
         ⊎-elim
@@ -68,7 +68,13 @@ module _ (w : Way) (s : Machine) (a : BitAddress) where
         rw (one, two, sym (judged-alike room)) (refused-alike (number-before s 1 t room) d s))
         (same-or-not (number-before s 1 t room) 0)
 
-    -- They leave the same list.
+    -- So a table passes under both rules or under neither.
+    pub both-or-neither : (room : ℕ) → sheet-of w s a 1 t room .number ≡ 0 ↔ sheet-of w s a 2 t room .number ≡ 0
+    both-or-neither room =
+        let same = rule-alone room .number in
+        (λ z. sym same ∙ z, λ z. same ∙ z)
+
+    -- Both leave the same list.
     pub one-list : (l : List Float) → list-after w s a 1 t l ≡ list-after w s a 2 t l
     unfolding list-after
     one-list l = rw (judged-alike (length l), no-quarters t e)

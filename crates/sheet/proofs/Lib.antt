@@ -5,6 +5,7 @@ pub mod Range
 pub mod Strokes
 pub mod Rising
 -- ---- a sheet that is begun, and one that is refused; demand 1
+pub mod Begun
 pub mod Taken
 pub mod Heard
 pub mod Numbers

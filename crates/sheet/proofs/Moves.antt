@@ -25,8 +25,9 @@ use Rattle.sheet.specs.Sheet.{strokes-of, count-refusal, ticks-refusal, 
 use Rattle.sheet.specs.Sheet.{heard, words-read, made, read-number, read-sheet, sheet-of}
 use Rattle.sheet.specs.declared.Sheet.{Sheet}
 use Rattle.sheet.specs.declared.TimeStruck.{TimeStruck}
+use Rattle.sheet.proofs.Begun.{begun}
 use Rattle.sheet.proofs.Heard.{count-missed-says, count-wrong-says, count-right-says}
-use Rattle.sheet.proofs.Numbers.{begun, known}
+use Rattle.sheet.proofs.Numbers.{known}
 use Rattle.sheet.proofs.Strokes.{few-strokes}
 use Rattle.sheet.proofs.Taken.{sheet-begun, sheet-barred}
 
@@ -104,7 +105,7 @@ module _ (s : Machine) (a : BitAddress) (p : Passed-in s a) (rule : ℕ) (t : Ti
   begun-left : left ≡ standing (s .memory) (s .registers .control) (on-by (words-read whole s a n) a)
   unfolding read-sheet
   begun-left =
-      ap (λ (o : Sheet). o .registers) (sheet-begun whole s a rule t room (begun s a p rule t room b)) ∙
+      ap (λ (o : Sheet). o .registers) (sheet-begun whole s a rule t room (begun s rule t room b)) ∙
       ap (λ (x : Machine). x .registers) accesses-leave
 
   refused-count : (length (s .memory) ≤ word-at a .0) ⊎ ((word-at a .0 < length (s .memory)) × (count-word (s .memory) a ≢ n)) →

@@ -22,6 +22,7 @@ use Rattle.sheet.specs.Sheet.{unknown-rule, out-of-range, strokes-of, re
 use Rattle.sheet.specs.Sheet.{heard, ticks-heard, read-number, read-sheet, sheet-of}
 use Rattle.sheet.specs.declared.Sheet.{Sheet}
 use Rattle.sheet.specs.declared.TimeStruck.{TimeStruck}
+use Rattle.sheet.proofs.Begun.{begun}
 use Rattle.sheet.proofs.Heard.{count-missed-says, count-wrong-says, count-right-says, tick-missed-says}
 use Rattle.sheet.proofs.Heard.{ticks-held, tick-told, ticks-count}
 use Rattle.sheet.proofs.Range.{accepted-time, time-accepted, refused-time, time-refused}
@@ -68,14 +69,9 @@ module _ (s : Machine) (a : BitAddress) (p : Passed-in s a) (rule : ℕ) (t : Ti
   barred : (v : ℕ) → v ≢ 0 → number-before s rule t room ≡ v → number ≡ v
   barred v d e = ap (λ (o : Sheet). o .number) (sheet-barred whole s a rule t room (λ z. d (sym e ∙ z))) ∙ e
 
-  -- A sheet that begins is not refused before the port is touched.
-  pub begun : Begins s rule t room → number-before s rule t room ≡ 0
-  unfolding refusal-before
-  begun b = rw (le-ltb _ _ (b .size), rule-accepted rule (b .known), time-accepted t (b .time), le-ltb _ _ (b .fits), b .steps)
-
   begun-number : Begins s rule t room → number ≡ read-number whole s a n
   unfolding read-sheet
-  begun-number b = ap (λ (o : Sheet). o .number) (sheet-begun whole s a rule t room (begun b))
+  begun-number b = ap (λ (o : Sheet). o .number) (sheet-begun whole s a rule t room (begun s rule t room b))
 
   -- Its memory is one that is not refused.
   pub known : Begins s rule t room → Memory (s .memory)

@@ -11,17 +11,18 @@ use Rattle.registers.specs.declared.Registers.{Registers}
 use Rattle.port.specs.Cycle.{standing}
 use Rattle.port.specs.Runs.{machine, ends}
 use Rattle.port.specs.Table.{on-by}
-use Rattle.sheet.specs.InPlainWords.{Passed-in, Begins, count-word, Rises, Complete, Verdict}
+use Rattle.sheet.specs.InPlainWords.{Passed-in, KnownRule, Begins, count-word, Rises, Complete, Verdict}
 use Rattle.sheet.specs.Reading.{whole, by-bytes}
 use Rattle.sheet.specs.Sheet.{strokes-of, made, read-sheet, sheet-of, list-after, Struck}
 use Rattle.sheet.specs.declared.Sheet.{Sheet}
 use Rattle.sheet.specs.declared.TimeStruck.{TimeStruck}
+use Rattle.sheet.proofs.Begun.{begun}
 use Rattle.sheet.proofs.BothRules.{RuleAlone, rule-alone, one-list}
 use Rattle.sheet.proofs.InTempo.{InTempo, in-tempo}
 use Rattle.sheet.proofs.ByBytes.{sheet-alike, list-alike}
 use Rattle.sheet.proofs.Moves.{untouched, count-read, ticks-read}
-use Rattle.sheet.proofs.Numbers.{begun, numbered}
-use Rattle.sheet.proofs.Refused.{refused-leaves}
+use Rattle.sheet.proofs.Numbers.{numbered}
+use Rattle.sheet.proofs.Refused.{refused-leaves, passed-fills, passed-begins}
 use Rattle.sheet.proofs.Taken.{sheet-begun}
 use Rattle.sheet.proofs.TheBet.{passing}
 
@@ -44,6 +45,16 @@ module _ {r : Registers} {m : List ℕ} {a : BitAddress} {rule : ℕ} {t : TimeS
       let n = refused-leaves whole (machine r m) a rule t l (λ x. d (ap (λ (y : Sheet). y .number) (k .outcome) ∙ x)) in
       (ap (λ (x : Sheet). x .rule) (k .outcome) ∙ n .shown, ap (λ (x : Sheet). x .strokes) (k .outcome) ∙ n .strokes, k .list ∙ n .list)
 
+  -- A call that passes shows the rule that it was given, which is 1 or 2, and counts the strokes by that rule.
+  pub passed-call : o .number ≡ 0 → KnownRule rule × (o .rule ≡ rule) × (o .strokes ≡ strokes-of rule t)
+  passed-call z =
+      let n = sym (ap (λ (x : Sheet). x .number) (k .outcome)) ∙ z in
+      let f = passed-fills whole (machine r m) a rule t l n in (
+        passed-begins whole (machine r m) a rule t l n .known,
+        ap (λ (x : Sheet). x .rule) (k .outcome) ∙ f .shown,
+        ap (λ (x : Sheet). x .strokes) (k .outcome) ∙ f .strokes,
+      )
+
   -- Refused with a number other than 42 to 44, it leaves the registers.
   pub early-call : o .number ≢ 0 → (o .number < 42) ⊎ (44 < o .number) → o .registers ≡ r
   early-call d out =
@@ -63,7 +74,7 @@ module _ {r : Registers} {m : List ℕ} {a : BitAddress} {rule : ℕ} {t : TimeS
     unfolding read-sheet
     moves-the-port =
         ap (λ (x : Sheet). x .registers)
-        (k .outcome ∙ sheet-begun whole (machine r m) a rule t (length l) (begun (machine r m) a p rule t (length l) b))
+        (k .outcome ∙ sheet-begun whole (machine r m) a rule t (length l) (begun (machine r m) rule t (length l) b))
 
     -- With a count word that lies beyond memory or says another number, it leaves the port one word on.
     pub stops-at-the-count :
@@ -78,12 +89,11 @@ module _ {r : Registers} {m : List ℕ} {a : BitAddress} {rule : ℕ} {t : TimeS
     stops-past-the-table h e =
         ap (λ (x : Sheet). x .registers) (k .outcome) ∙ ticks-read (machine r m) a p rule t (length l) b h e .0
 
-    -- Of a whole table whose ticks rise it shows the rule, counts the strokes, and leaves the list in tempo.
+    -- Of a whole table whose ticks rise it passes, and leaves the list in tempo.
     pub passing-call : Complete m a (strokes-of rule t) → Rises m a (strokes-of rule t) →
-        (o .rule ≡ rule) × (o .strokes ≡ strokes-of rule t) × ((d : Float) → InTempo (machine r m) a rule t l l′ d)
+        (o .number ≡ 0) × ((d : Float) → InTempo (machine r m) a rule t l l′ d)
     passing-call c x = (
-      ap (λ (y : Sheet). y .rule) (k .outcome) ∙ passing (machine r m) a rule t l p b c x .shown,
-      ap (λ (y : Sheet). y .strokes) (k .outcome) ∙ passing (machine r m) a rule t l p b c x .strokes,
+      ap (λ (y : Sheet). y .number) (k .outcome) ∙ passing (machine r m) a rule t l p b c x .number,
       λ d. subst (λ (y : List Float). InTempo (machine r m) a rule t l y d) (sym (k .list)) (in-tempo (machine r m) a rule t l p b c x d),
     )
 

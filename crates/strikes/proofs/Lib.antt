@@ -1,6 +1,5 @@
 -- Laws that the code of a sheet is proved by. Proofs of single functions are in the folders beside them.
 -- ---- what is judged
-pub mod InRange
 pub mod RisingTicks
 -- ---- what is read
 pub mod ReadingOn

@@ -3,8 +3,11 @@
 use native.Mathlib.Omega.{arith}
 use borrow.Author.Tests.{eq-eqb, ne-eqb}
 use mathlib.Core.Path.{refl, sym, _∙_}
+use lib.ListN.{length}
+use Rattle.port.specs.Runs.{machine}
 use Rattle.sheet.specs.Sheet.{sheet-of, list-after}
-use Rattle.strikes.proofs.InRange.{in-range-with-room}
+use Rattle.sheet.proofs.Begun.{begins}
+use Rattle.sheet.proofs.Range.{time-accepted}
 use Rattle.strikes.proofs.sheets.strike_sheet.Statement.{statement}
 use Rattle.strikes.proofs.sheets.strike_sheet.Tie as tie
 
@@ -21,12 +24,17 @@ returns c =
     record { outcome = rw (no, c .refuse .ensures, c .before .before .number-before .ensures); memory = refl; list = rw no }
 
 count-strokes-requires : tie.Need-count-strokes-requires
-count-strokes-requires c κs = in-range-with-room _ _ _ _ _ (sym (c .before .before .number-before .ensures) ∙ c .before .if1 .left) .0
+count-strokes-requires c κs =
+    let a = c .before .before .before .before .before .args in
+    let none = sym (c .before .before .number-before .ensures) ∙ c .before .if1 .left in
+    time-accepted (a .t) (begins (machine (a .r) (a .memory .now)) (a .rule) (a .t) (length (a .list .now)) none .time)
 
 read-table-requires : tie.Need-read-table-requires
 read-table-requires c κs =
     let judged = c .before .before .before in
-    let room = in-range-with-room _ _ _ _ _ (sym (judged .before .number-before .ensures) ∙ judged .if1 .left) .1 in
+    let a = judged .before .before .before .before .args in
+    let none = sym (judged .before .number-before .ensures) ∙ judged .if1 .left in
+    let room = begins (machine (a .r) (a .memory .now)) (a .rule) (a .t) (length (a .list .now)) none .fits in
     let few = c .before .count-strokes .ensures in
     (few .1, few .2, rw (few .0) room)
 
