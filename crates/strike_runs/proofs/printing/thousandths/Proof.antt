@@ -1,10 +1,10 @@
--- `strike_runs::thousandths` meets its contract: each of its two tests is one of the definition's.
+-- `strike_runs::printing::thousandths` meets its contract: each of its two tests is one of the definition's.
 use mathlib.Core.Path.{sym, subst}
 use lib.Dec.{T}
 use lib.Ieee.{ofBits, neg, ofInt}
 use Rattle.strike_runs.specs.Parts.{whole-part}
-use Rattle.strike_runs.proofs.thousandths.Statement.{statement}
-use Rattle.strike_runs.proofs.thousandths.Tie as tie
+use Rattle.strike_runs.proofs.printing.thousandths.Statement.{statement}
+use Rattle.strike_runs.proofs.printing.thousandths.Tie as tie
 
 truncating-f64-to-u64-requires : tie.Need-truncating-f64-to-u64-requires
 unfolding ofBits neg

@@ -1,9 +1,9 @@
--- `strike_runs::print_times` is safe and ends: its places go up to the list's last.
+-- `strike_runs::printing::print_times` is safe and ends: its places go up to the list's last.
 use Prim.Native.Nat.{_≤_, _-_}
 use lib.ListN.{length}
 use borrow.Author.Needs.{needs}
-use Rattle.strike_runs.proofs.print_times.Statement.{statement}
-use Rattle.strike_runs.proofs.print_times.Tie as tie
+use Rattle.strike_runs.proofs.printing.print_times.Statement.{statement}
+use Rattle.strike_runs.proofs.printing.print_times.Tie as tie
 
 abbrev Inv-loop : tie.InvT-loop
 Inv-loop times k₀ t4 k = k ≤ length times
