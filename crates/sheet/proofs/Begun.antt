@@ -1,4 +1,5 @@
--- When a sheet is begun: exactly if no refusal applies before the port is touched. By the tests of `refusal-before`, in turn.
+-- When a sheet is begun: exactly if none of the refusals applies that are judged before the port is touched. And in which
+-- order those are judged. By the tests of `refusal-before`, in turn.
 use Prim.Native.Nat.{ℕ}
 use native.Mathlib.Omega.{arith}
 use mathlib.Core.Path.{_≡_, refl}
@@ -6,17 +7,46 @@ use mathlib.Core.Bool.{Bool, true, false, cond}
 use lib.Dec.{ltb}
 use lib.ListN.{length}
 use borrow.Author.Tests.{ltb-false, le-ltb}
+use Rattle.words.specs.Bytes.{bit}
 use Rattle.words.specs.Memory.{over-limit}
 use Rattle.control.specs.Control.{incr}
 use Rattle.port.specs.Runs.{Machine}
-use Rattle.sheet.specs.InPlainWords.{Begins}
+use Rattle.sheet.specs.InPlainWords.{time, Begins}
 use Rattle.sheet.specs.Sheet.{unknown-rule, out-of-range, strokes-of, refusal-before, number-before}
 use Rattle.sheet.specs.declared.TimeStruck.{TimeStruck}
 use Rattle.sheet.proofs.Range.{accepted-time, time-accepted}
 use Rattle.sheet.proofs.Rule.{accepted-rule, rule-accepted}
 
+-- ---- the order, in numbers: each of these calls would be refused for all that is tested after it too
+pub record InOrder : Type 0 where
+  pub memory : refusal-before 32769 3 (time 0 0 0) 0 0 ≡ 1
+  pub unknown : refusal-before 32768 3 (time 0 0 0) 0 0 ≡ 45
+  pub unfit : refusal-before 32768 2 (time 0 0 0) 0 0 ≡ 40
+  pub short-by-one : refusal-before 32768 1 (time 12 3 14) 28 0 ≡ 41
+  pub short-by-two : refusal-before 32768 2 (time 12 3 14) 31 0 ≡ 41
+  pub still : refusal-before 32768 2 (time 12 3 14) 32 0 ≡ 46
+  -- and none of these
+  pub begun-by-one : refusal-before 32768 1 (time 12 3 14) 29 0x1000 ≡ 0
+  pub begun-by-two : refusal-before 32768 2 (time 12 3 14) 32 0x1000 ≡ 0
+
+-- They come out so.
+pub in-order : InOrder
+unfolding refusal-before unknown-rule out-of-range strokes-of bit
+in-order =
+    record {
+      memory = refl;
+      unknown = refl;
+      unfit = refl;
+      short-by-one = refl;
+      short-by-two = refl;
+      still = refl;
+      begun-by-one = refl;
+      begun-by-two = refl;
+    }
+
+-- ---- exactly if
 module _ (s : Machine) (rule : ℕ) (t : TimeStruck) (room : ℕ) where
-  -- A sheet to which no refusal applies is begun.
+  -- A sheet to which none of these applies is begun.
   pub begun : Begins s rule t room → number-before s rule t room ≡ 0
   unfolding refusal-before
   begun b = rw (le-ltb _ _ (b .size), rule-accepted rule (b .known), time-accepted t (b .time), le-ltb _ _ (b .fits), b .steps)

@@ -3,25 +3,28 @@
 -- quarters the counts differ, and a table has one count.
 use Prim.Native.Nat.{ℕ, _≤_, _<_}
 use native.Mathlib.Omega.{arith}
-use mathlib.Core.Path.{_≡_, refl, sym, _∙_}
+use mathlib.Core.Path.{_≡_, refl, sym, ap, _∙_}
 use mathlib.Core.List.{List}
 use mathlib.Core.Logic.{inl, inr, ⊎-elim, _↔_, _≢_}
 use lib.Ieee.{Float}
 use lib.ListN.{length}
-use borrow.Author.Tests.{eq-eqb, ne-eqb}
+use borrow.Author.Tests.{eq-eqb, ne-eqb, lt-ltb, le-ltb}
 use Rattle.words.specs.declared.BitAddress.{BitAddress}
 use Rattle.words.proofs.Choices.{same-or-not}
+use Rattle.registers.specs.declared.Registers.{Registers}
 use Rattle.port.specs.Runs.{Machine}
-use Rattle.sheet.specs.InPlainWords.{Passed-in, list-short, count-wrong}
+use Rattle.sheet.specs.InPlainWords.{Begins}
 use Rattle.sheet.specs.Reading.{Way, whole}
 use Rattle.sheet.specs.Sheet.{unknown-rule, strokes-of, refusal-before, number-before, read-number, read-sheet, refused-sheet}
 use Rattle.sheet.specs.Sheet.{sheet-of, list-after}
 use Rattle.sheet.specs.declared.Sheet.{Sheet}
 use Rattle.sheet.specs.declared.TimeStruck.{TimeStruck}
-use Rattle.sheet.proofs.Numbers.{numbered}
+use Rattle.sheet.proofs.Begun.{begun}
+use Rattle.sheet.proofs.CountWord.{wrong-count}
+use Rattle.sheet.proofs.Range.{time-accepted}
+use Rattle.sheet.proofs.Rule.{rule-accepted}
 use Rattle.sheet.proofs.Strokes.{no-quarters, quarters-tell}
-use Rattle.sheet.proofs.Taken.{sheet-begun, sheet-barred}
-use Rattle.sheet.proofs.TheBet.{passes-exactly}
+use Rattle.sheet.proofs.Taken.{passed-begins, sheet-begun, sheet-barred}
 
 -- ---- a time with quarters 0
 
@@ -33,8 +36,8 @@ pub record RuleAlone (o p : Sheet) : Type 0 where
   pub passed : o .number ≡ 0 → (o .rule ≡ 1) × (p .rule ≡ 2)
   pub refused : o .number ≢ 0 → (o .rule ≡ 0) × (p .rule ≡ 0)
 
-refused-alike : (v : ℕ) → v ≢ 0 → (s : Machine) → RuleAlone (refused-sheet v (s .registers)) (refused-sheet v (s .registers))
-refused-alike v d s =
+refused-alike : (v : ℕ) → v ≢ 0 → (r : Registers) → RuleAlone (refused-sheet v r) (refused-sheet v r)
+refused-alike v d r =
     record { number = refl; strokes = refl; registers = refl; passed = λ z. absurd (d z); refused = λ x. (refl, refl) }
 
 module _ (w : Way) (s : Machine) (a : BitAddress) where
@@ -65,7 +68,7 @@ module _ (w : Way) (s : Machine) (a : BitAddress) where
         (λ d.
         let one = sheet-barred w s a 1 t room d in
         let two = sheet-barred w s a 2 t room (λ z. d (judged-alike room ∙ z)) in
-        rw (one, two, sym (judged-alike room)) (refused-alike (number-before s 1 t room) d s))
+        rw (one, two, sym (judged-alike room)) (refused-alike (number-before s 1 t room) d (s .registers)))
         (same-or-not (number-before s 1 t room) 0)
 
     -- So a table passes under both rules or under neither.
@@ -80,32 +83,41 @@ module _ (w : Way) (s : Machine) (a : BitAddress) where
     one-list l = rw (judged-alike (length l), no-quarters t e)
 
 -- ---- a time with quarters: a table that passes under one rule is refused under the other
-module _ (s : Machine) (a : BitAddress) (p : Passed-in s a) (t : TimeStruck) (some : 1 ≤ t .quarters) (room : ℕ) where
-  -- What passes under rule 1 is refused under rule 2: with 41 where the list has no room for that many strokes, or else with 43.
-  pub not-by-rule-two : sheet-of whole s a 1 t room .number ≡ 0 →
-      (room < strokes-of 2 t → sheet-of whole s a 2 t room .number ≡ 41) ×
-      (strokes-of 2 t ≤ room → sheet-of whole s a 2 t room .number ≡ 43)
-  not-by-rule-two z =
-      let passed = passes-exactly s a p 1 t room .0 z in
-      let b = passed .0 in
-      let c = passed .1 in
-      let more = quarters-tell t some in (
-        λ h. numbered s a p 2 t room 41 .1 (list-short (b .size) (inr refl) (b .time) h),
-        λ h. numbered s a p 2 t room 43 .1
-            (count-wrong (record { size = b .size; known = inr refl; time = b .time; fits = h; steps = b .steps })
-            (omega (arith, c .lies))
-            (λ e. omega (arith, sym (c .count) ∙ e, more))),
-      )
+module _ (s : Machine) (a : BitAddress) (t : TimeStruck) (some : 1 ≤ t .quarters) (room : ℕ) where
+  read-says : (rule : ℕ) → Begins s rule t room →
+      sheet-of whole s a rule t room .number ≡ read-number whole s a (strokes-of rule t)
+  unfolding read-sheet
+  read-says rule b = ap (λ (o : Sheet). o .number) (sheet-begun whole s a rule t room (begun s rule t room b))
+
+  -- passed by one rule, and begun by another that counts otherwise
+  miscounted : (rule other : ℕ) → sheet-of whole s a rule t room .number ≡ 0 → Begins s other t room →
+      strokes-of rule t ≢ strokes-of other t → sheet-of whole s a other t room .number ≡ 43
+  miscounted rule other z b d =
+      let passed = sym (read-says rule (passed-begins whole s a rule t room z)) ∙ z in
+      read-says other b ∙ wrong-count s a (strokes-of rule t) (strokes-of other t) passed d
 
   -- What passes under rule 2 is refused under rule 1, with 43.
   pub not-by-rule-one : sheet-of whole s a 2 t room .number ≡ 0 → sheet-of whole s a 1 t room .number ≡ 43
   not-by-rule-one z =
-      let passed = passes-exactly s a p 2 t room .0 z in
-      let b = passed .0 in
-      let c = passed .1 in
+      let b = passed-begins whole s a 2 t room z in
       let more = quarters-tell t some in
-      numbered s a p 1 t room 43 .1
-      (count-wrong
+      miscounted 2 1 z
       (record { size = b .size; known = inl refl; time = b .time; fits = omega (arith, b .fits, more); steps = b .steps })
-      (omega (arith, c .lies))
-      (λ e. omega (arith, sym (c .count) ∙ e, more)))
+      (λ e. omega (arith, e, more))
+
+  -- What passes under rule 1 is refused under rule 2: with 41 where the list has no room for that many strokes, or else with 43.
+  pub not-by-rule-two : sheet-of whole s a 1 t room .number ≡ 0 →
+      (room < strokes-of 2 t → sheet-of whole s a 2 t room .number ≡ 41) ×
+      (strokes-of 2 t ≤ room → sheet-of whole s a 2 t room .number ≡ 43)
+  unfolding refusal-before
+  not-by-rule-two z =
+      let b = passed-begins whole s a 1 t room z in
+      let more = quarters-tell t some in (
+        λ h.
+            let e : number-before s 2 t room ≡ 41 =
+            rw (le-ltb _ _ (b .size), rule-accepted 2 (inr refl), time-accepted t (b .time), lt-ltb _ _ h) in
+            ap (λ (o : Sheet). o .number) (sheet-barred whole s a 2 t room (λ x. omega (arith, sym e ∙ x))) ∙ e,
+        λ h.
+            miscounted 1 2 z (record { size = b .size; known = inr refl; time = b .time; fits = h; steps = b .steps })
+            (λ e. omega (arith, e, more)),
+      )

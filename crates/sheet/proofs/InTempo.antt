@@ -1,5 +1,6 @@
 -- The times that a sheet writes into the list: "It equals the first tick at the first stroke and the last tick at the last, exactly, and
--- never lies before the first or after the last"; "later places stay". Document 02, request (viii).
+-- never lies before the first or after the last"; "later places stay"; "The tempo formula and its end points are proved once over
+-- both" rules. Document 02, requests (viii) and (ix).
 -- The list is that of `TheBet`; of the times in it crate tempo knows the rest, whatever the number of strokes.
 use Prim.Native.Nat.{ℕ, _-_, _<_, _≤_}
 use native.Mathlib.Omega.{arith}
@@ -74,7 +75,8 @@ module _ (s : Machine) (a : BitAddress) (rule : ℕ) (t : TimeStruck) (l : List 
                 never-falls =
                     λ j k i h.
                     subst (λ (x : Float). T (le x (place k))) (sym (at j (omega arith)))
-                    (subst (λ (x : Float). T (le (even-time first last (strokes-of rule t) j) x)) (sym (at k h)) (e .never-falls j k i h));
+                    (subst (λ (x : Float). T (le (even-time first last (strokes-of rule t) j) x)) (sym (at k h))
+                    (e .never-falls j k i h));
               };
           later = λ k h. ap (λ (x : List Float). getD x k d) list ∙ rest-stays first last (strokes-of rule t) k l d h;
           places = ap length list ∙ struck-length first last (strokes-of rule t) l (b .fits);

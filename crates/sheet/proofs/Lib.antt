@@ -7,6 +7,7 @@ pub mod Rising
 -- ---- a sheet that is begun, and one that is refused; demand 1
 pub mod Begun
 pub mod Taken
+pub mod CountWord
 pub mod Heard
 pub mod Numbers
 pub mod Refused
@@ -16,6 +17,7 @@ pub mod One
 pub mod ByBytes
 -- ---- the tuner's bet and the keeper's worry; the times
 pub mod TheBet
+pub mod InNumbers
 pub mod InTempo
 -- ---- the two rules beside each other
 pub mod BothRules

@@ -27,7 +27,7 @@ use Rattle.sheet.specs.declared.Sheet.{Sheet}
 use Rattle.sheet.specs.declared.TimeStruck.{TimeStruck}
 use Rattle.sheet.proofs.Begun.{begun}
 use Rattle.sheet.proofs.Heard.{count-missed-says, count-wrong-says, count-right-says}
-use Rattle.sheet.proofs.Numbers.{known}
+use Rattle.sheet.proofs.Numbers.{good-memory}
 use Rattle.sheet.proofs.Strokes.{few-strokes}
 use Rattle.sheet.proofs.Taken.{sheet-begun, sheet-barred}
 
@@ -100,7 +100,7 @@ module _ (s : Machine) (a : BitAddress) (p : Passed-in s a) (rule : ℕ) (t : Ti
   unfolding made
   accesses-leave =
       ends-join s (loading (s .registers .control) a) (reading (words-read whole s a n)) ∙
-      reads-leave s (known s a p rule t room b) (b .steps) a (p .address) (words-read whole s a n)
+      reads-leave s (good-memory s a p rule t room b) (b .steps) a (p .address) (words-read whole s a n)
 
   begun-left : left ≡ standing (s .memory) (s .registers .control) (on-by (words-read whole s a n) a)
   unfolding read-sheet
@@ -111,9 +111,9 @@ module _ (s : Machine) (a : BitAddress) (p : Passed-in s a) (rule : ℕ) (t : Ti
   refused-count : (length (s .memory) ≤ word-at a .0) ⊎ ((word-at a .0 < length (s .memory)) × (count-word (s .memory) a ≢ n)) →
       count-number whole s a n ≢ 0
   refused-count (inl h) z =
-      let e = count-missed-says s (known s a p rule t room b) (b .steps) a (p .address) n h in omega (arith, sym e ∙ z)
+      let e = count-missed-says s (good-memory s a p rule t room b) (b .steps) a (p .address) n h in omega (arith, sym e ∙ z)
   refused-count (inr h) z =
-      let e = count-wrong-says s (known s a p rule t room b) (b .steps) a (p .address) n (h .0) (h .1) in omega (arith, sym e ∙ z)
+      let e = count-wrong-says s (good-memory s a p rule t room b) (b .steps) a (p .address) n (h .0) (h .1) in omega (arith, sym e ∙ z)
 
   -- Where the count word lies beyond memory, or says another number, that word alone has been read: the pointer stands one word on.
   pub count-read : (length (s .memory) ≤ word-at a .0) ⊎ ((word-at a .0 < length (s .memory)) × (count-word (s .memory) a ≢ n)) →
@@ -124,5 +124,5 @@ module _ (s : Machine) (a : BitAddress) (p : Passed-in s a) (rule : ℕ) (t : Ti
   pub ticks-read : word-at a .0 < length (s .memory) → count-word (s .memory) a ≡ n →
       (left ≡ standing (s .memory) (s .registers .control) (on-by (suc n) a)) × (on-by (suc n) a .0 ≡ a .0 + 16 * suc n)
   ticks-read h e =
-      let c = count-right-says s (known s a p rule t room b) (b .steps) a (p .address) n h e in
+      let c = count-right-says s (good-memory s a p rule t room b) (b .steps) a (p .address) n h e in
       (begun-left ∙ rw (eq-eqb _ _ c), on-by-gains (suc n) a (p .address) ∙ omega (arith, b .size, few-strokes t (b .time) rule .1))

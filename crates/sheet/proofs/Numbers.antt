@@ -74,39 +74,39 @@ module _ (s : Machine) (a : BitAddress) (p : Passed-in s a) (rule : ℕ) (t : Ti
   begun-number b = ap (λ (o : Sheet). o .number) (sheet-begun whole s a rule t room (begun s rule t room b))
 
   -- Its memory is one that is not refused.
-  pub known : Begins s rule t room → Memory (s .memory)
-  known b = record { size = b .size; words = p .words }
+  pub good-memory : Begins s rule t room → Memory (s .memory)
+  good-memory b = record { size = b .size; words = p .words }
 
   -- ---- a verdict says the number
   says-missed : Begins s rule t room → length (s .memory) ≤ word-at a .0 → number ≡ 42
   unfolding read-number
-  says-missed b h = begun-number b ∙ rw (count-missed-says s (known b) (b .steps) a (p .address) n h)
+  says-missed b h = begun-number b ∙ rw (count-missed-says s (good-memory b) (b .steps) a (p .address) n h)
 
   says-wrong : Begins s rule t room → word-at a .0 < length (s .memory) → count-word (s .memory) a ≢ n → number ≡ 43
   unfolding read-number
-  says-wrong b h d = begun-number b ∙ rw (count-wrong-says s (known b) (b .steps) a (p .address) n h d)
+  says-wrong b h d = begun-number b ∙ rw (count-wrong-says s (good-memory b) (b .steps) a (p .address) n h d)
 
   -- the count is right: the ticks decide
   counted : (b : Begins s rule t room) → word-at a .0 < length (s .memory) → count-word (s .memory) a ≡ n →
       number ≡ ticks-refusal (any-hollow (drop 1 (heard whole s a n))) (ticks-heard whole s a n)
   unfolding read-number
-  counted b h e = begun-number b ∙ rw (count-right-says s (known b) (b .steps) a (p .address) n h e)
+  counted b h e = begun-number b ∙ rw (count-right-says s (good-memory b) (b .steps) a (p .address) n h e)
 
   says-tick-missed : (b : Begins s rule t room) → word-at a .0 < length (s .memory) → count-word (s .memory) a ≡ n →
       length (s .memory) < word-at a .0 + suc n → number ≡ 42
   unfolding ticks-refusal
-  says-tick-missed b h e l = counted b h e ∙ rw (tick-missed-says s (known b) (b .steps) a (p .address) n h l)
+  says-tick-missed b h e l = counted b h e ∙ rw (tick-missed-says s (good-memory b) (b .steps) a (p .address) n h l)
 
   complete : (b : Begins s rule t room) → (c : Complete (s .memory) a n) → number ≡ cond (rising (ticks-heard whole s a n)) 0 44
   unfolding ticks-refusal
   complete b c =
-      counted b (omega (arith, c .lies)) (c .count) ∙ rw (ticks-held s (known b) (b .steps) a (p .address) n (c .lies))
+      counted b (omega (arith, c .lies)) (c .count) ∙ rw (ticks-held s (good-memory b) (b .steps) a (p .address) n (c .lies))
 
   says-falling : (b : Begins s rule t room) → (c : Complete (s .memory) a n) → Falls (s .memory) a n → number ≡ 44
-  says-falling b c f = complete b c ∙ rw (found-falling s (known b) (b .steps) a (p .address) n (c .lies) f)
+  says-falling b c f = complete b c ∙ rw (found-falling s (good-memory b) (b .steps) a (p .address) n (c .lies) f)
 
   says-passed : (b : Begins s rule t room) → (c : Complete (s .memory) a n) → Rises (s .memory) a n → number ≡ 0
-  says-passed b c r = complete b c ∙ rw (found-rising s (known b) (b .steps) a (p .address) n (c .lies) r)
+  says-passed b c r = complete b c ∙ rw (found-rising s (good-memory b) (b .steps) a (p .address) n (c .lies) r)
 
   says : (v : ℕ) → Verdict s a rule t room v → number ≡ v
   unfolding refusal-before
@@ -130,8 +130,8 @@ module _ (s : Machine) (a : BitAddress) (p : Passed-in s a) (rule : ℕ) (t : Ti
   with-table : (b : Begins s rule t room) → Complete (s .memory) a n → Some
   with-table b c =
       ⊎-elim
-      (λ e. (0, passes b c (they-rise s (known b) (b .steps) a (p .address) n (c .lies) e)))
-      (λ e. (44, not-rising b c (they-fall s (known b) (b .steps) a (p .address) n (c .lies) e)))
+      (λ e. (0, passes b c (they-rise s (good-memory b) (b .steps) a (p .address) n (c .lies) e)))
+      (λ e. (44, not-rising b c (they-fall s (good-memory b) (b .steps) a (p .address) n (c .lies) e)))
       (either-way (rising (ticks-heard whole s a n)))
 
   with-count : (b : Begins s rule t room) → word-at a .0 < length (s .memory) → count-word (s .memory) a ≡ n → Some

@@ -22,8 +22,8 @@ use Rattle.sheet.proofs.InTempo.{InTempo, in-tempo}
 use Rattle.sheet.proofs.ByBytes.{sheet-alike, list-alike}
 use Rattle.sheet.proofs.Moves.{untouched, count-read, ticks-read}
 use Rattle.sheet.proofs.Numbers.{numbered}
-use Rattle.sheet.proofs.Refused.{refused-leaves, passed-fills, passed-begins}
-use Rattle.sheet.proofs.Taken.{sheet-begun}
+use Rattle.sheet.proofs.Refused.{refused-leaves, passed-fills}
+use Rattle.sheet.proofs.Taken.{passed-begins, sheet-begun}
 use Rattle.sheet.proofs.TheBet.{passing}
 
 module _ {r : Registers} {m : List ℕ} {a : BitAddress} {rule : ℕ} {t : TimeStruck} {l : List Float}
@@ -50,7 +50,7 @@ module _ {r : Registers} {m : List ℕ} {a : BitAddress} {rule : ℕ} {t : TimeS
   passed-call z =
       let n = sym (ap (λ (x : Sheet). x .number) (k .outcome)) ∙ z in
       let f = passed-fills whole (machine r m) a rule t l n in (
-        passed-begins whole (machine r m) a rule t l n .known,
+        passed-begins whole (machine r m) a rule t (length l) n .known,
         ap (λ (x : Sheet). x .rule) (k .outcome) ∙ f .shown,
         ap (λ (x : Sheet). x .strokes) (k .outcome) ∙ f .strokes,
       )
@@ -67,15 +67,16 @@ module _ {r : Registers} {m : List ℕ} {a : BitAddress} {rule : ℕ} {t : TimeS
   call-by-bytes =
       (k .outcome ∙ sym (sheet-alike (machine r m) a rule t (length l)), k .list ∙ sym (list-alike (machine r m) a rule t l))
 
-  -- a call that is not refused before the port is touched
-  module _ (p : Passed-in (machine r m) a) (b : Begins (machine r m) rule t (length l)) where
-    -- It leaves the registers as its accesses do.
-    pub moves-the-port : o .registers ≡ ends (machine r m) (made whole (machine r m) a (strokes-of rule t)) .registers
-    unfolding read-sheet
-    moves-the-port =
-        ap (λ (x : Sheet). x .registers)
-        (k .outcome ∙ sheet-begun whole (machine r m) a rule t (length l) (begun (machine r m) rule t (length l) b))
+  -- A call that is not refused before the port is touched leaves the registers as its accesses do.
+  pub moves-the-port : Begins (machine r m) rule t (length l) →
+      o .registers ≡ ends (machine r m) (made whole (machine r m) a (strokes-of rule t)) .registers
+  unfolding read-sheet
+  moves-the-port b =
+      ap (λ (x : Sheet). x .registers)
+      (k .outcome ∙ sheet-begun whole (machine r m) a rule t (length l) (begun (machine r m) rule t (length l) b))
 
+  -- such a call on what can be passed in
+  module _ (p : Passed-in (machine r m) a) (b : Begins (machine r m) rule t (length l)) where
     -- With a count word that lies beyond memory or says another number, it leaves the port one word on.
     pub stops-at-the-count :
         (length m ≤ word-at a .0) ⊎ ((word-at a .0 < length m) × (count-word m a ≢ strokes-of rule t)) →

@@ -1,4 +1,5 @@
 -- Which times are refused. By the four tests of `out-of-range`.
+use Prim.Native.Nat.{ℕ, _<_, _≤_}
 use native.Mathlib.Omega.{arith}
 use mathlib.Core.Path.{_≡_, refl}
 use mathlib.Core.Bool.{Bool, true, false, _||_}
@@ -13,10 +14,6 @@ use Rattle.sheet.specs.declared.TimeStruck.{TimeStruck}
 one-true : (b c : Bool) → b || c ≡ true → (b ≡ true) ⊎ (c ≡ true)
 one-true true c e = inl refl
 one-true false c e = inr e
-
-right-true : (b : Bool) → b || true ≡ true
-right-true true = refl
-right-true false = refl
 
 module _ (t : TimeStruck) where
   -- A time that is not refused is in range.
@@ -68,18 +65,23 @@ module _ (t : TimeStruck) where
   pub time-refused : OffRange t → out-of-range t ≡ true
   time-refused o = ⊎-elim (λ e. e) (λ e. absurd (never-both (accepted-time e) o)) (either-way (out-of-range t))
 
--- ---- the edges
-pub record Edges : Type 0 where
-  -- 1:00 and 12:59 are struck
-  pub first : out-of-range (time 1 0 0) ≡ false
-  pub last : out-of-range (time 12 3 14) ≡ false
-  -- no hours, 13 hours, four quarters and 15 minutes are not
-  pub no-hours : out-of-range (time 0 3 14) ≡ true
-  pub hours : out-of-range (time 13 0 0) ≡ true
-  pub quarters : out-of-range (time 1 4 0) ≡ true
-  pub minutes : out-of-range (time 1 0 15) ≡ true
+-- ---- the same in the paper's numbers
+pub record Edges (h q m : ℕ) : Type 0 where
+  -- 1 to 12 hours, 0 to 3 quarters and 0 to 14 minutes are struck
+  pub struck : 1 ≤ h → h ≤ 12 → q ≤ 3 → m ≤ 14 → out-of-range (time h q m) ≡ false
+  -- no hours, 13 and more, four quarters and more, or 15 minutes and more are not
+  pub no-hours : out-of-range (time 0 q m) ≡ true
+  pub hours : 12 < h → out-of-range (time h q m) ≡ true
+  pub quarters : 3 < q → out-of-range (time h q m) ≡ true
+  pub minutes : 14 < m → out-of-range (time h q m) ≡ true
 
--- They come out so.
-pub edges : Edges
-unfolding out-of-range
-edges = record { first = refl; last = refl; no-hours = refl; hours = refl; quarters = refl; minutes = refl }
+-- Every time comes out so.
+pub edges : (h q m : ℕ) → Edges h q m
+edges h q m =
+    record {
+      struck = λ a b c d. time-accepted (time h q m) (record { an-hour = a; hours = b; quarters = c; minutes = d });
+      no-hours = time-refused (time 0 q m) (inl (inl refl));
+      hours = λ a. time-refused (time h q m) (inl (inr a));
+      quarters = λ a. time-refused (time h q m) (inr (inl a));
+      minutes = λ a. time-refused (time h q m) (inr (inr a));
+    }

@@ -10,13 +10,11 @@ use Rattle.words.specs.declared.BitAddress.{BitAddress}
 use Rattle.words.proofs.Choices.{same-or-not}
 use Rattle.port.specs.Runs.{Machine}
 use Rattle.tempo.specs.Tempo.{with-times}
-use Rattle.sheet.specs.InPlainWords.{Begins}
 use Rattle.sheet.specs.Reading.{Way}
 use Rattle.sheet.specs.Sheet.{strokes-of, number-before, ticks-heard, read-number, read-sheet, read-list, sheet-of, list-after}
 use Rattle.sheet.specs.declared.Sheet.{Sheet}
 use Rattle.sheet.specs.declared.TimeStruck.{TimeStruck}
-use Rattle.sheet.proofs.Begun.{begins}
-use Rattle.sheet.proofs.Taken.{sheet-begun, list-begun, sheet-barred, list-barred}
+use Rattle.sheet.proofs.Taken.{passed-begun, sheet-begun, list-begun, sheet-barred, list-barred}
 
 module _ (w : Way) (s : Machine) (a : BitAddress) (rule : ℕ) (t : TimeStruck) (l : List Float) where
   abbrev sheet : Sheet
@@ -74,17 +72,6 @@ module _ (w : Way) (s : Machine) (a : BitAddress) (rule : ℕ) (t : TimeStruck) 
         list = list-begun w s a rule t l e ∙ rw (eq-eqb _ _ n);
       }
 
-  passed-begun : sheet .number ≡ 0 → number-before s rule t (length l) ≡ 0
-  passed-begun z =
-      ⊎-elim
-      (λ e. e)
-      (λ n. absurd (n (sym (ap (λ (o : Sheet). o .number) (sheet-barred w s a rule t (length l) n)) ∙ z)))
-      (same-or-not (number-before s rule t (length l)) 0)
-
   -- Every sheet that passes does so.
   pub passed-fills : sheet .number ≡ 0 → Fills
-  passed-fills z = begun-passed (passed-begun z) z
-
-  -- To none that passes does a refusal apply before the port is touched: its rule is known, and its time in range.
-  pub passed-begins : sheet .number ≡ 0 → Begins s rule t (length l)
-  passed-begins z = begins s rule t (length l) (passed-begun z)
+  passed-fills z = begun-passed (passed-begun w s a rule t (length l) z) z

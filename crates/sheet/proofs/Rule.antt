@@ -1,5 +1,6 @@
 -- Which rules are refused. By the two tests of `unknown-rule`.
-use Prim.Native.Nat.{ℕ}
+use Prim.Native.Nat.{ℕ, _<_}
+use native.Mathlib.Omega.{arith}
 use mathlib.Core.Path.{_≡_, refl}
 use mathlib.Core.Bool.{Bool, true, false, not, _||_, true≢false, false≢true}
 use mathlib.Core.Logic.{_⊎_, inl, inr, ⊎-elim}
@@ -37,13 +38,19 @@ module _ (rule : ℕ) where
 
 -- ---- the edges
 pub record RuleEdges : Type 0 where
-  -- rules 1 and 2 are known, 0 and 3 are not
+  -- rules 1 and 2 are known, 0 and all above 2 are not
   pub none : unknown-rule 0 ≡ true
   pub old : unknown-rule 1 ≡ false
   pub new : unknown-rule 2 ≡ false
-  pub third : unknown-rule 3 ≡ true
+  pub above : (rule : ℕ) → 2 < rule → unknown-rule rule ≡ true
 
 -- They come out so.
 pub rule-edges : RuleEdges
 unfolding unknown-rule
-rule-edges = record { none = refl; old = refl; new = refl; third = refl }
+rule-edges =
+    record {
+      none = refl;
+      old = refl;
+      new = refl;
+      above = λ rule h. rw (ne-eqb rule 1 (λ e. omega arith), ne-eqb rule 2 (λ e. omega arith));
+    }

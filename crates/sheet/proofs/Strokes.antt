@@ -20,6 +20,12 @@ pub by-rule-two : (t : TimeStruck) → strokes-of 2 t ≡ t .hours + 2 * t .quar
 unfolding strokes-of
 by-rule-two t = refl
 
+-- What holds of both sums holds of the strokes by any rule.
+pub of-both : (P : ℕ → Type 0) (rule : ℕ) (t : TimeStruck) →
+    P (t .hours + t .quarters + t .minutes) → P (t .hours + 2 * t .quarters + t .minutes) → P (strokes-of rule t)
+unfolding strokes-of
+of-both P rule t one two = ⊎-elim (λ e. rw e two) (λ e. rw e one) (either-way (eqb rule 2))
+
 -- ---- An hour or a minute more is a stroke more; a quarter more is one by rule 1 and two by rule 2; and nothing else is a stroke.
 pub record OneEach (rule h q m : ℕ) : Type 0 where
   pub hour : strokes-of rule (time (suc h) q m) ≡ suc (strokes-of rule (time h q m))
@@ -35,7 +41,7 @@ one-each rule h q m =
     record {
       hour = ⊎-elim (λ e. rw e (omega arith)) (λ e. rw e (omega arith)) (either-way (eqb rule 2));
       minute = ⊎-elim (λ e. rw e (omega arith)) (λ e. rw e (omega arith)) (either-way (eqb rule 2));
-      nothing = ⊎-elim (λ e. rw e) (λ e. rw e) (either-way (eqb rule 2));
+      nothing = of-both (λ n. n ≡ 0) rule (time 0 0 0) refl refl;
       quarter-by-one = omega arith;
       quarter-by-two = omega arith;
     }
@@ -44,12 +50,10 @@ one-each rule h q m =
 module _ (t : TimeStruck) (r : InRange t) where
   -- A time in range has from one to 32 strokes,
   pub few-strokes : (rule : ℕ) → (1 ≤ strokes-of rule t) × (strokes-of rule t ≤ 32)
-  unfolding strokes-of
   few-strokes rule =
-      ⊎-elim
-      (λ e. rw e (omega (arith, r .an-hour), omega (arith, r .hours, r .quarters, r .minutes)))
-      (λ e. rw e (omega (arith, r .an-hour), omega (arith, r .hours, r .quarters, r .minutes)))
-      (either-way (eqb rule 2))
+      of-both (λ n. (1 ≤ n) × (n ≤ 32)) rule t
+      (omega (arith, r .an-hour), omega (arith, r .hours, r .quarters, r .minutes))
+      (omega (arith, r .an-hour), omega (arith, r .hours, r .quarters, r .minutes))
 
   -- and by rule 1 no more than 29.
   pub few-by-rule-one : strokes-of 1 t ≤ 29
@@ -69,7 +73,7 @@ unfolding strokes-of
 fewest-and-most =
     record {
       fewest-in-range = record { an-hour = omega arith; hours = omega arith; quarters = omega arith; minutes = omega arith };
-      fewest = λ rule. ⊎-elim (λ e. rw e) (λ e. rw e) (either-way (eqb rule 2));
+      fewest = λ rule. of-both (λ n. n ≡ 1) rule (time 1 0 0) refl refl;
       most-in-range = record { an-hour = omega arith; hours = omega arith; quarters = omega arith; minutes = omega arith };
       most-by-one = refl;
       most-by-two = refl;

@@ -1,6 +1,6 @@
 -- The tuner's bet and the keeper's worry, in one law: a sheet that is not refused before the port is touched passes exactly if its table
--- is whole and its ticks rise. The tuner's last word is a tick like
--- the others, whatever lies after it, memory's end included; and no word beyond memory ever makes a stroke.
+-- is whole and its ticks rise. The tuner's last word is a tick like the others, whatever lies after it, memory's end included; and no
+-- word beyond memory ever makes a stroke.
 -- By `Numbers`, which has the number of every sheet, and `Refused`, which has the list.
 use Prim.Native.Nat.{ℕ, suc, _+_, _-_, _<_, _≤_}
 use native.Mathlib.Omega.{arith}
@@ -17,13 +17,14 @@ use Rattle.port.specs.Cycle.{standing}
 use Rattle.port.specs.Runs.{Machine, machine}
 use Rattle.registers.specs.declared.Registers.{Registers}
 use Rattle.tempo.specs.Tempo.{with-times}
-use Rattle.sheet.specs.InPlainWords.{Passed-in, Begins, count-word, tick, Rises, Complete, Verdict, count-missed, tick-missed, passes}
+use Rattle.sheet.specs.InPlainWords.{Passed-in, Begins, count-word, tick, Rises, Complete}
+use Rattle.sheet.specs.InPlainWords.{Verdict, count-missed, tick-missed, passes}
 use Rattle.sheet.specs.Reading.{whole}
 use Rattle.sheet.specs.Sheet.{strokes-of, ticks-heard, sheet-of, list-after}
 use Rattle.sheet.specs.declared.TimeStruck.{TimeStruck}
 use Rattle.sheet.proofs.Heard.{tick-told}
 use Rattle.sheet.proofs.Moves.{ticks-read}
-use Rattle.sheet.proofs.Numbers.{known, numbered}
+use Rattle.sheet.proofs.Numbers.{good-memory, numbered}
 use Rattle.sheet.proofs.Refused.{passed-fills}
 use Rattle.sheet.proofs.Strokes.{few-strokes}
 
@@ -63,7 +64,8 @@ module _ (s : Machine) (a : BitAddress) (rule : ℕ) (t : TimeStruck) (l : List 
     pub tuner : Complete (s .memory) a n → Rises (s .memory) a n → Passes s a rule t l
     -- the keeper's: if the count word lies beyond memory, or the count is right and a tick lies beyond memory, it is refused with 42
     pub no-count : length (s .memory) ≤ word-at a .0 → number ≡ 42
-    pub no-tick : word-at a .0 < length (s .memory) → count-word (s .memory) a ≡ n → length (s .memory) < word-at a .0 + suc n → number ≡ 42
+    pub no-tick : word-at a .0 < length (s .memory) → count-word (s .memory) a ≡ n → length (s .memory) < word-at a .0 + suc n →
+        number ≡ 42
     -- and both: nothing else passes
     pub nothing-else : number ≡ 0 → Complete (s .memory) a n × Rises (s .memory) a n
 
@@ -73,7 +75,7 @@ module _ (s : Machine) (a : BitAddress) (rule : ℕ) (t : TimeStruck) (l : List 
     passing c r =
         let z = numbered s a p rule t (length l) 0 .1 (passes b c r) in
         let f = passed-fills whole s a rule t l z in
-        let told = tick-told s (known s a p rule t (length l) b) (b .steps) a (p .address) n (c .lies) in
+        let told = tick-told s (good-memory s a p rule t (length l) b) (b .steps) a (p .address) n (c .lies) in
         let some = few-strokes t (b .time) rule .0 in
         record {
           number = z;

@@ -1,5 +1,5 @@
 -- A sheet in plain words, by its table as it lies in memory: what the laws say of it. Document 02, requests (viii) and (ix).
---   Passed-in s a         the memory's numbers are words, and the address is one of 32 bits, as what is lent and passed always is
+--   Passed-in s a         the memory's numbers are words, and the address is one of 32 bits, as the types of a call have it
 --   KnownRule rule        the rule is 1 or 2
 --   UnknownRule rule      it is neither
 --   time h q m            the time struck with so many hours, quarters and minutes
@@ -10,7 +10,8 @@
 --   Rises m a n           each of n ticks lies after the one before it
 --   Falls m a n           some of them does not
 --   Complete m a n        the count word and all n ticks lie in memory, and the count is n
---   Verdict s a rule t room v   v is the number of this sheet, by the table
+--   Verdict s a rule t room v
+--                         v is the number of this sheet, by the table
 use Prim.Native.Nat.{ℕ, suc, _+_, _^_, _<_, _≤_}
 use mathlib.Core.Path.{_≡_}
 use mathlib.Core.Bool.{true, false}
@@ -32,6 +33,7 @@ pub record Passed-in (s : Machine) (a : BitAddress) : Type 0 where
 
 -- ---- the rule and the time struck
 
+-- "The caller names rule 1, the old, or rule 2"
 abbrev pub KnownRule : ℕ → Type 0
 KnownRule rule = (rule ≡ 1) ⊎ (rule ≡ 2)
 

@@ -52,8 +52,8 @@ strokes-of rule t =
 -- ---- the refusals, in order
 
 -- "45 unknown rule, after 1, before 40"; "40 time out of range, 41 list shorter than that many strokes, 46 INCR not set"
-unfoldable pub refusal-before : ℕ → ℕ → ℕ → ℕ → TimeStruck → ℕ
-refusal-before words room c rule t =
+unfoldable pub refusal-before : ℕ → ℕ → TimeStruck → ℕ → ℕ → ℕ
+refusal-before words rule t room c =
     cond (over-limit words) 1
     (cond (unknown-rule rule) 45
     (cond (out-of-range t) 40
@@ -94,7 +94,7 @@ module _ (w : Way) (s : Machine) (a : BitAddress) (n : ℕ) where
   unfoldable pub made : List Sixteen
   made = loading (s .registers .control) a ++ reading words-read
 
-  -- "each sheet shows which [rule] was used"; "under 42 to 44 the port has moved as its accesses say"
+  -- "each sheet shows which was used"; "under 42 to 44 the port has moved as its accesses say"
   unfoldable pub read-sheet : ℕ → Sheet
   read-sheet rule =
       record {
@@ -110,12 +110,12 @@ module _ (w : Way) (s : Machine) (a : BitAddress) (n : ℕ) where
 
 -- ---- any sheet, of the time t by the rule
 
--- a refused call "returns its number and zeros"
+-- "A refusal returns zeros": document 01
 abbrev pub refused-sheet : ℕ → Registers → Sheet
 refused-sheet n r = record { number = n; rule = 0; strokes = 0; registers = r }
 
 abbrev pub number-before : Machine → ℕ → TimeStruck → ℕ → ℕ
-number-before s rule t room = refusal-before (length (s .memory)) room (s .registers .control) rule t
+number-before s rule t room = refusal-before (length (s .memory)) rule t room (s .registers .control)
 
 module _ (w : Way) (s : Machine) (a : BitAddress) (rule : ℕ) (t : TimeStruck) where
   unfoldable pub sheet-of : ℕ → Sheet

@@ -18,7 +18,8 @@ use Rattle.sheet_trial.specs.Record.{number, registers-in, table-in, rul
 use Rattle.sheet_trial.specs.Carried.{laid, list-lent, sheet-from, list-from, Carried}
 
 -- What the code has in hand for the record b: the room with its words, how much of it and of the list it lends, and what it calls with.
-pub record Ready (b room room₁ : List ℕ) (list : List Float) (m n : ℕ) (r : Registers) (a : BitAddress) (rule : ℕ) (t : TimeStruck) : Type 0 where
+pub record Ready (b room room₁ : List ℕ) (list : List Float) (m n : ℕ)
+    (r : Registers) (a : BitAddress) (rule : ℕ) (t : TimeStruck) : Type 0 where
   pub filled : room₁ ≡ laid b room 36
   pub words-lent : m ≡ min (number b 16) (length room₁)
   pub places-lent : n ≡ min (number b 15) (length list)
@@ -41,10 +42,13 @@ module _ {b room room₁ : List ℕ} {list : List Float} {m n : ℕ} {r : Regist
       Carried b room list o (putMid 0 (m - 0) room₁ m′) (putMid 0 (n - 0) list l′)
   unfolding sheet-from list-from
   carried {o} {m′} {l′} s =
-      let lent-list = s .list ∙ (λ i. list-after whole (machine (y .registers i) (memory-is i)) (y .table i) (y .counting i) (y .time i) (list-is i)) in
+      let lent-list =
+      s .list ∙
+      (λ i. list-after whole (machine (y .registers i) (memory-is i)) (y .table i) (y .counting i) (y .time i) (list-is i)) in
       record {
         answer = s .outcome
-            ∙ (λ i. sheet-of whole (machine (y .registers i) (memory-is i)) (y .table i) (y .counting i) (y .time i) (length (list-is i)));
+            ∙ (λ i. sheet-of whole (machine (y .registers i) (memory-is i)) (y .table i) (y .counting i) (y .time i)
+            (length (list-is i)));
         room-left = unchanged m room₁ m′ (s .memory) ∙ y .filled;
         list-left = back-is (number b 15) n list (y .places-lent) l′ ∙ ap (given-back (number b 15) list) lent-list;
       }

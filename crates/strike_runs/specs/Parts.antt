@@ -2,7 +2,8 @@
 --   whole-part x       x without its fraction, or 0 where that is no number of 64 bits
 --   in-thousandths t   the whole thousandths of the time t
 --   five-tables        the memory with five tables
---   tables-of-both-rules   the memory with a table of nine strokes and one of six
+--   tables-of-both-rules
+--                      the memory with a table of nine strokes and one of six
 use Prim.Native.Nat.{ℕ}
 use mathlib.Core.Bool.{true, false, cond}
 use mathlib.Core.List.{List, [], _∷_}

@@ -1,6 +1,6 @@
 // Strike sheets at their edges: a table at the end of memory and one a word short of it, an equal pair, FFFFh as a true tick, a single
-// stroke, all 29 or 32, both rules with quarters and without, and each refusal. Each sheet prints its answer, the pointer and HSTDATA that
-// it leaves, and then the list of times.
+// stroke, all 29 or 32, both rules with quarters and without, and each refusal. Each sheet prints its answer, the pointer and HSTDATA
+// that it leaves, and then the list of times.
 // The stored output was worked out by hand from document 02, requests (viii) and (ix).
 mod longest;
 mod printing;
@@ -41,7 +41,6 @@ fn run_passing() {
 
 fn run_both_rules() {
     let quarter_to_four = at(3, 3, 0);
-    let one_past_five = at(5, 0, 1);
     strike_by(b"3:45 by rule 1, six strokes\n", 1, 0xa0, quarter_to_four);
     strike_by(b"3:45 by rule 2, nine strokes\n", 2, 0, quarter_to_four);
     strike_by(
@@ -56,8 +55,14 @@ fn run_both_rules() {
         0,
         quarter_to_four,
     );
-    strike_by(b"5:01 by rule 1, no quarters\n", 1, 0xa0, one_past_five);
-    strike_by(b"5:01 by rule 2, no quarters\n", 2, 0xa0, one_past_five);
+}
+
+fn run_no_quarters() {
+    let t = at(5, 0, 1);
+    strike_by(b"5:01 by rule 1, no quarters\n", 1, 0xa0, t);
+    strike_by(b"5:01 by rule 2, no quarters\n", 2, 0xa0, t);
+    strike_by(b"5:01 by rule 1, the table of nine\n", 1, 0, t);
+    strike_by(b"5:01 by rule 2, the table of nine\n", 2, 0, t);
 }
 
 fn run_unknown_rules() {
@@ -112,6 +117,7 @@ fn main() {
     run_passing();
     run_longest();
     run_both_rules();
+    run_no_quarters();
     strike_too_long(b"32,769 words\n", 1);
     strike_too_long(b"32,769 words, rule 3\n", 3);
     run_unknown_rules();

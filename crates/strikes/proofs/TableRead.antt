@@ -2,7 +2,7 @@
 -- The definitions take the reads as one run; here its first read is taken apart from the others.
 use Prim.Native.Nat.{ℕ, suc}
 use mathlib.Core.Path.{_≡_, refl, sym, ap, _∙_}
-use mathlib.Core.Bool.{Bool, true, false, or-false}
+use mathlib.Core.Bool.{true, false}
 use mathlib.Core.List.{List}
 use mathlib.Core.Logic.{_≢_}
 use lib.Dec.{eqb}
@@ -18,24 +18,18 @@ use Rattle.port.specs.declared.Answer.{Answer}
 use Rattle.port.specs.declared.Outcome.{Outcome}
 use Rattle.port.proofs.DataRegister.{read-keeps-memory}
 use Rattle.port.proofs.Joined.{ends-join}
-use Rattle.sheet.specs.Reading.{whole, told, any-hollow}
+use Rattle.sheet.specs.Reading.{whole, told}
 use Rattle.sheet.specs.Sheet.{count-refusal, or-else, count-number, read-number, made, read-sheet, read-list, refused-sheet}
 use Rattle.sheet.specs.declared.Sheet.{Sheet}
+use Rattle.sheet.proofs.CountWord.{count-is}
 use Rattle.strikes.specs.Parts.{ticks-number, ticks-sheet, ticks-list, TookTicks, ReadTable}
 use Rattle.port.proofs.OneAccess.{leaves, says}
 use Rattle.port.proofs.Loading.{loading-keeps-memory}
 
 module _ (s : Machine) (a : BitAddress) (n : ℕ) where
-  -- the read of the count word: what it answers, and the machine after it
-  abbrev counted : Answer
-  counted = answer-of (loaded s a) (Read 2 3)
-
+  -- the machine after the read of the count word
   abbrev next : Machine
   next = after (loaded s a) (Read 2 3)
-
-  count-is : count-number whole s a n ≡ count-refusal n (counted .hollow) (counted .word)
-  unfolding told answers reading any-hollow
-  count-is = ap (λ (b : Bool). count-refusal n b (counted .word)) (or-false (counted .hollow))
 
   number-is : read-number whole s a n ≡ or-else (count-number whole s a n) (ticks-number next n)
   unfolding told answers reading read-number ticks-number
@@ -64,7 +58,7 @@ module _ (s : Machine) (a : BitAddress) (n : ℕ) where
     judged =
         j ∙
         ap (λ (x : Answer). count-refusal n (x .hollow) (x .word)) (says e ∙ ap (λ (t : Machine). answer-of t (Read 2 3)) k) ∙
-        sym count-is
+        sym (count-is s a n)
 
     -- A count that is hollow or wrong: a refusal, after one read.
     pub count-refused : number ≢ 0 → (rule : ℕ) (l : List Float) → ReadTable s a rule n l (refused-sheet number (o .registers)) m′ l

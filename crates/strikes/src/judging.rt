@@ -38,8 +38,8 @@ pub(crate) fn count_strokes(rule: u32, t: TimeStruck) -> u16
 }
 
 // Number 1, 45, 40, 41 or 46, or 0 where none applies.
-pub(crate) fn number_before(words: usize, room: usize, control: u16, rule: u32, t: TimeStruck) -> u8
-    ensures { λ r. ⌜ r ≡ refusal-before words room control rule t ⌝ }
+pub(crate) fn number_before(words: usize, rule: u32, t: TimeStruck, room: usize, control: u16) -> u8
+    ensures { λ r. ⌜ r ≡ refusal-before words rule t room control ⌝ }
 {
     if is_over_limit(words) {
         return 1;

@@ -96,7 +96,7 @@ pub fn strike_sheet(
 ) -> Sheet
     ensures { λ o. ⌜ Struck r (now (memory .entry)) table rule t (now (list .entry)) o (now (memory .exit)) (now (list .exit)) ⌝ }
 {
-    let number = number_before(memory.len(), list.len(), r.control, rule, t);
+    let number = number_before(memory.len(), rule, t, list.len(), r.control);
     if number != 0 {
         return refuse(number, r);
     }

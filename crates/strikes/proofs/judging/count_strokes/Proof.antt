@@ -2,20 +2,20 @@
 -- that they fit.
 use Prim.Native.Nat.{ℕ, _+_, _*_, _≤_}
 use native.Mathlib.Omega.{arith}
-use mathlib.Core.Path.{_≡_}
+use mathlib.Core.Path.{_≡_, sym}
 use mathlib.Core.Bool.{false}
 use mathlib.Core.Logic.{_≢_}
 use borrow.Author.Tests.{eq-eqb, ne-eqb}
 use Rattle.sheet.specs.Sheet.{out-of-range, strokes-of}
 use Rattle.sheet.specs.declared.TimeStruck.{TimeStruck}
 use Rattle.sheet.proofs.Range.{accepted-time}
-use Rattle.sheet.proofs.Strokes.{few-strokes}
+use Rattle.sheet.proofs.Strokes.{by-rule-two, few-strokes}
 use Rattle.strikes.proofs.judging.count_strokes.Statement.{statement}
 use Rattle.strikes.proofs.judging.count_strokes.Tie as tie
 
 -- the larger of the two sums
 small : (t : TimeStruck) → out-of-range t ≡ false → t .hours + 2 * t .quarters + t .minutes ≤ 32
-small t e = let r = accepted-time t e in omega (arith, r .hours, r .quarters, r .minutes)
+small t e = rw (sym (by-rule-two t)) (few-strokes t (accepted-time t e) 2 .1)
 
 module _ (rule : ℕ) (t : TimeStruck) (e : out-of-range t ≡ false) where
   abbrev Counts : ℕ → Type 0
