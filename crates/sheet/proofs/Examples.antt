@@ -34,30 +34,46 @@ quarter-past-one = time 1 1 0
 abbrev four-places : List Float
 four-places = double 1 ∷ double 1 ∷ double 1 ∷ double 1 ∷ []
 
--- the registers four words on, past each of these memories
-abbrev past-the-end : Registers
-past-the-end = record { pointer = address 0x40; latch = 0xffff; control = 0x1000; hollow = true }
+-- the registers at a bit address beyond these memories
+abbrev beyond : ℕ → Registers
+beyond n = record { pointer = address n; latch = 0xffff; control = 0x1000; hollow = true }
 
 pub record Sheets : Type 0 where
   -- 3:00, a table that ends with the memory's last word: its three strokes are at 10, 15 and 20, and the list's fourth place stays
   pub to-the-end : list-after whole (on (3 ∷ 10 ∷ 14 ∷ 20 ∷ [])) (address 0) 1 three-o-clock four-places ≡
       double 10 ∷ double 15 ∷ double 20 ∷ double 1 ∷ []
   -- the same with the last word missing: 42
-  pub word-short : sheet-of whole (on (3 ∷ 10 ∷ 14 ∷ [])) (address 0) 1 three-o-clock 4 ≡ refused-sheet 42 past-the-end
+  pub word-short : sheet-of whole (on (3 ∷ 10 ∷ 14 ∷ [])) (address 0) 1 three-o-clock 4 ≡ refused-sheet 42 (beyond 0x40)
   -- the same with two strokes at one tick: 44
-  pub equal-pair : sheet-of whole (on (3 ∷ 10 ∷ 10 ∷ 20 ∷ [])) (address 0) 1 three-o-clock 4 ≡ refused-sheet 44 past-the-end
+  pub equal-pair : sheet-of whole (on (3 ∷ 10 ∷ 10 ∷ 20 ∷ [])) (address 0) 1 three-o-clock 4 ≡ refused-sheet 44 (beyond 0x40)
+  -- both: 42 comes first
+  pub equal-and-short : sheet-of whole (on (3 ∷ 10 ∷ 10 ∷ [])) (address 0) 1 three-o-clock 4 ≡ refused-sheet 42 (beyond 0x40)
+  -- a wrong count, and no tick at all: 43 comes first, one word on
+  pub wrong-and-short : sheet-of whole (on (9 ∷ [])) (address 0) 1 three-o-clock 4 ≡ refused-sheet 43 (beyond 0x10)
+  -- no count word: 42, one word on
+  pub no-count : sheet-of whole (on []) (address 0) 1 three-o-clock 4 ≡ refused-sheet 42 (beyond 0x10)
   -- 1:15 by rule 2, with three strokes, on the first of these tables: it passes
   pub quarter-twice : sheet-of whole (on (3 ∷ 10 ∷ 14 ∷ 20 ∷ [])) (address 0) 2 quarter-past-one 4 ≡
-      record { number = 0; rule = 2; strokes = 3; registers = past-the-end }
+      record { number = 0; rule = 2; strokes = 3; registers = beyond 0x40 }
   -- the same by rule 1, with two: 43, one word on
   pub quarter-once : sheet-of whole (on (3 ∷ 10 ∷ 14 ∷ 20 ∷ [])) (address 0) 1 quarter-past-one 4 ≡
       refused-sheet 43 (record { pointer = address 0x10; latch = 10; control = 0x1000; hollow = false })
 
--- These five come out so.
-pub five-sheets : Sheets
+-- These eight come out so.
+pub eight-sheets : Sheets
 unfolding
     bit takes-low takes-high are-lanes lay fetch-at bare closes fetches register-word half-written written stepped mark after-fetch
     carried memory-after read-due write-due begin-access refusal done access access-memory answer-of after answers ends loading reading
     even-time even-times ofInt add mul div told any-hollow rising unknown-rule out-of-range strokes-of refusal-before count-refusal
     ticks-refusal read-number made read-sheet read-list sheet-of list-after
-five-sheets = record { to-the-end = refl; word-short = refl; equal-pair = refl; quarter-twice = refl; quarter-once = refl }
+eight-sheets =
+    record {
+      to-the-end = refl;
+      word-short = refl;
+      equal-pair = refl;
+      equal-and-short = refl;
+      wrong-and-short = refl;
+      no-count = refl;
+      quarter-twice = refl;
+      quarter-once = refl;
+    }
