@@ -20,7 +20,7 @@ use Rattle.sheet.specs.Sheet.{sheet-of, list-after}
 use Rattle.sheet.specs.declared.Sheet.{Sheet}
 use Rattle.sheet.specs.declared.TimeStruck.{TimeStruck}
 use Rattle.sheet.proofs.Begun.{begun}
-use Rattle.sheet.proofs.CountWord.{wrong-count}
+use Rattle.sheet.proofs.CountWord.{wrong-count, right-count}
 use Rattle.sheet.proofs.Range.{time-accepted}
 use Rattle.sheet.proofs.Rule.{rule-accepted}
 use Rattle.sheet.proofs.Strokes.{no-quarters, quarters-tell}
@@ -94,7 +94,7 @@ module _ (s : Machine) (a : BitAddress) (t : TimeStruck) (some : 1 ≤ t .quarte
       strokes-of rule t ≢ strokes-of other t → sheet-of whole s a other t room .number ≡ 43
   miscounted rule other z b d =
       let passed = sym (read-says rule (passed-begins whole s a rule t room z)) ∙ z in
-      read-says other b ∙ wrong-count s a (strokes-of rule t) (strokes-of other t) passed d
+      read-says other b ∙ wrong-count s a (strokes-of rule t) (strokes-of other t) (right-count s a (strokes-of rule t) passed) d
 
   -- What passes under rule 2 is refused under rule 1, with 43.
   pub not-by-rule-one : sheet-of whole s a 2 t room .number ≡ 0 → sheet-of whole s a 1 t room .number ≡ 43

@@ -33,13 +33,13 @@ module _ (s : Machine) (a : BitAddress) where
   unfolding told answers reading any-hollow
   count-is n = ap (λ (b : Bool). count-refusal n b (counted .word)) (or-false (counted .hollow))
 
-  right-count : (n : ℕ) → read-number whole s a n ≡ 0 → count-number whole s a n ≡ 0
+  -- A count that is right for m strokes is wrong for any other number of them, whatever the ticks are.
+  pub wrong-count : (m n : ℕ) → count-number whole s a m ≡ 0 → m ≢ n → read-number whole s a n ≡ 43
+  unfolding read-number
+  wrong-count m n z d = rw (count-is n ∙ one-count (counted .hollow) (counted .word) m n (sym (count-is m) ∙ z) d)
+
+  -- Of a table that is not refused the count is right.
+  pub right-count : (n : ℕ) → read-number whole s a n ≡ 0 → count-number whole s a n ≡ 0
   unfolding read-number
   right-count n z =
       ⊎-elim (λ e. e) (λ d. rw (ne-eqb (count-number whole s a n) 0 d) at z) (same-or-not (count-number whole s a n) 0)
-
-  -- A table that is right for m strokes has the wrong count for any other number of them.
-  pub wrong-count : (m n : ℕ) → read-number whole s a m ≡ 0 → m ≢ n → read-number whole s a n ≡ 43
-  unfolding read-number
-  wrong-count m n z d =
-      rw (count-is n ∙ one-count (counted .hollow) (counted .word) m n (sym (count-is m) ∙ right-count m z) d)
