@@ -1,5 +1,5 @@
 //! The random script of sheets, under both rules: about half pass, the others meet every refusal of
-//! document 02, requests (viii) and (ix), by several causes, now and then by two at once.
+//! document 02, requests (viii) and (ix), by several causes, often by two at once.
 
 use crate::port::INCR;
 use crate::random::Random;
@@ -180,8 +180,8 @@ impl Draft<'_> {
         self.record.words = self.random.pick(&[32_769, 32_769, 32_770, 0xFFFF]);
     }
 
-    /// A rule next to the two, one that has their low byte or low half, one that has a half of 0
-    /// before it, or any.
+    /// A rule next to the two, one that has the low byte or the low half of one of them, one of them
+    /// moved up by sixteen bits, or any.
     fn unknown_rule(&mut self) {
         let rule = self.struck.rule;
         let same_byte = rule | 1 << (8 + self.random.below(8));

@@ -50,7 +50,7 @@ impl Struck {
         }
     }
 
-    /// Hours, quarters and minutes, or twice the quarters; in 64 bits, where no sum wraps.
+    /// Hours + quarters + minutes, by rule 2 with the quarters twice; in 64 bits, where no sum wraps.
     pub fn strokes(self) -> u64 {
         let parts = self.time.map(u64::from);
         let counted = parts.iter().zip(self.weights());

@@ -19,13 +19,13 @@ use Rattle.sheet.proofs.Rule.{accepted-rule, rule-accepted}
 
 -- ---- the order, in numbers: each of these calls would be refused for all that is tested after it too
 pub record InOrder : Type 0 where
-  pub memory : refusal-before 32769 3 (time 0 0 0) 0 0 ≡ 1
-  pub unknown : refusal-before 32768 3 (time 0 0 0) 0 0 ≡ 45
-  pub unfit : refusal-before 32768 2 (time 0 0 0) 0 0 ≡ 40
+  pub memory : refusal-before 32769 3 (time 13 0 0) 0 0 ≡ 1
+  pub unknown : refusal-before 32768 3 (time 13 0 0) 0 0 ≡ 45
+  pub unfit : refusal-before 32768 2 (time 13 0 0) 0 0 ≡ 40
   pub short-by-one : refusal-before 32768 1 (time 12 3 14) 28 0 ≡ 41
   pub short-by-two : refusal-before 32768 2 (time 12 3 14) 31 0 ≡ 41
   pub still : refusal-before 32768 2 (time 12 3 14) 32 0 ≡ 46
-  -- and none of these
+  -- these two are not refused
   pub begun-by-one : refusal-before 32768 1 (time 12 3 14) 29 0x1000 ≡ 0
   pub begun-by-two : refusal-before 32768 2 (time 12 3 14) 32 0x1000 ≡ 0
 

@@ -1,5 +1,5 @@
--- When a sheet passes, in the papers' numbers: none of the other laws' words for a time, a rule or a table is used, so that a reader can
--- hold this one law against document 02. By `passes-exactly`, part by part.
+-- When a sheet passes, in the papers' numbers: what must hold is said without the other laws' words `KnownRule`, `InRange`, `Begins`,
+-- `Complete` and `Rises`, so that a reader can hold this one law against document 02. By `passes-exactly`, part by part.
 use Prim.Native.Nat.{ℕ, suc, _+_, _*_, _/_, _^_, _<_, _≤_}
 use mathlib.Core.Path.{_≡_, refl, sym, subst}
 use mathlib.Core.Bool.{true}
@@ -14,7 +14,7 @@ use Rattle.sheet.specs.Sheet.{strokes-of, sheet-of}
 use Rattle.sheet.proofs.Strokes.{by-rule-one, by-rule-two}
 use Rattle.sheet.proofs.TheBet.{passes-exactly}
 
--- a machine, a time and a list of room places that are not refused, and at word j a table of n strokes, whole and rising
+-- a machine, a time and a list of `room` places that are not refused, and at word j a table of n strokes, whole and rising
 pub record Good (s : Machine) (j h q m n room : ℕ) : Type 0 where
   pub size : length (s .memory) ≤ 32768
   pub an-hour : 1 ≤ h

@@ -1,4 +1,5 @@
--- Demand 1 for sheets: the number of a sheet is v exactly if the table, the time and the list say so (`Verdict`), for each v.
+-- Demand 1 for sheets: the number of a sheet is v exactly if the memory, the rule, the time, the list, INCR and the table say so
+-- (`Verdict`), for each v.
 -- A verdict's conditions decide every test on the way to the number; and one verdict or another always holds.
 use Prim.Native.Nat.{ℕ, suc, _+_, _^_, _<_, _≤_}
 use native.Mathlib.Omega.{arith}

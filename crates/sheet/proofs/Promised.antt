@@ -39,7 +39,7 @@ module _ {r : Registers} {m : List ℕ} {a : BitAddress} {rule : ℕ} {t : TimeS
   pub memory-stays : m′ ≡ m
   memory-stays = k .memory
 
-  -- Refused, it shows no rule, counts no strokes and leaves every place of the list.
+  -- Refused, it has 0 for the rule and for the strokes, and leaves every place of the list.
   pub refused-call : o .number ≢ 0 → (o .rule ≡ 0) × (o .strokes ≡ 0) × (l′ ≡ l)
   refused-call d =
       let n = refused-leaves whole (machine r m) a rule t l (λ x. d (ap (λ (y : Sheet). y .number) (k .outcome) ∙ x)) in

@@ -23,7 +23,7 @@ module _ (w : Way) (s : Machine) (a : BitAddress) (rule : ℕ) (t : TimeStruck) 
   abbrev ticks : List ℕ
   ticks = ticks-heard w s a (strokes-of rule t)
 
-  -- A refusal shows no rule, counts no strokes, and writes nothing to the list.
+  -- A refusal has 0 for the rule and for the strokes, and writes nothing to the list.
   pub record Leaves : Type 0 where
     pub shown : sheet .rule ≡ 0
     pub strokes : sheet .strokes ≡ 0

@@ -14,7 +14,7 @@
 --   number-before                    the refusal before the port is touched, or 0
 --   sheet-of, list-after             any sheet: what it answers, with the registers that it leaves; the list
 --   Struck                           these, as the contract of the call
--- Each takes the way in which the accesses are done; the call does them whole.
+-- Those that speak of accesses take the way in which these are done; the call does them whole.
 use Prim.Native.Nat.{ℕ, suc, _+_, _-_, _*_}
 use mathlib.Core.Path.{_≡_}
 use mathlib.Core.Bool.{Bool, cond, not, _||_}

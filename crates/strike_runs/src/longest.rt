@@ -2,7 +2,7 @@
 use crate::striking::at;
 use crate::striking::strike;
 
-// 12:59 by rule 1's table, into a list of 30 places: the ticks go up one by one, and the last leaps to 1,035.
+// 12:59 on rule 1's table, into a list of 30 places: the ticks go up one by one, and the last leaps to 1,035.
 fn strike_longest(title: &[u8], rule: u32) {
     let mut memory = [
         29,
@@ -48,7 +48,7 @@ fn strike_longest(title: &[u8], rule: u32) {
     );
 }
 
-// 12:59 by rule 2's table: the ticks go up one by one, and the last leaps to 2,062.
+// 12:59 on rule 2's table: the ticks go up one by one, and the last leaps to 2,062.
 fn run_longest_by_rule_two() {
     let mut memory = [
         32,

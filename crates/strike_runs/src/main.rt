@@ -1,6 +1,6 @@
 // Strike sheets at their edges: a table at the end of memory and one a word short of it, an equal pair, FFFFh as a true tick, a single
-// stroke, all 29 or 32, both rules with quarters and without, and each refusal. Each sheet prints its answer, the pointer and HSTDATA
-// that it leaves, and then the list of times.
+// stroke, all 29 strokes of rule 1 and all 32 of rule 2, both rules with quarters and without, and each refusal. Each sheet prints its
+// answer, the pointer and HSTDATA that it leaves, and then the list of times.
 // The stored output was worked out by hand from document 02, requests (viii) and (ix).
 mod longest;
 mod printing;
