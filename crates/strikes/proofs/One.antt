@@ -14,7 +14,8 @@ use Rattle.strikes.specs.declared.TicksRead.{TicksRead}
 
 module _ {s : Machine} {n : ℕ} where
   -- The reads of some ticks have one outcome.
-  pub one-read-ticks : {o p : TicksRead} {m′ m″ x y : List ℕ} → ReadTicks s n o m′ x → ReadTicks s n p m″ y → (o ≡ p) × (m′ ≡ m″) × (x ≡ y)
+  pub one-read-ticks : {o p : TicksRead} {m′ m″ x y : List ℕ} →
+      ReadTicks s n o m′ x → ReadTicks s n p m″ y → (o ≡ p) × (m′ ≡ m″) × (x ≡ y)
   one-read-ticks {o} {p} a b =
       let e = one-value (a .ends-at) (b .ends-at) in (
         ap (λ (q : Registers). record { registers = q; hollow = o .hollow }) (ap (λ (t : Machine). t .registers) e) ∙

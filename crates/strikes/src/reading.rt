@@ -45,7 +45,8 @@ pub(crate) fn load_pointer(r: Registers, memory: &mut [u16], a: BitAddress) -> R
 
 // A read on two lanes for each place of `ticks`, and whether any of them handed out a hollow word.
 pub(crate) fn read_ticks(r: Registers, memory: &mut [u16], ticks: &mut [u16]) -> TicksRead
-    ensures { λ o. ⌜ ReadTicks (machine r (now (memory .entry))) (length (now (ticks .entry))) o (now (memory .exit)) (now (ticks .exit)) ⌝ }
+    ensures { λ o. ⌜ ReadTicks (machine r (now (memory .entry))) (length (now (ticks .entry)))
+        o (now (memory .exit)) (now (ticks .exit)) ⌝ }
 {
     let mut q = r;
     let mut hollow = false;

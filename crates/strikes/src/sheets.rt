@@ -34,7 +34,8 @@ fn refuse(number: u8, r: Registers) -> Sheet
 // The ticks: all are read before any is judged, and the list is written only if all are good.
 fn take_ticks(r: Registers, memory: &mut [u16], rule: u32, strokes: u16, list: &mut [f64]) -> Sheet
     requires { ⌜ (1 ≤ strokes) × (strokes ≤ 32) × (strokes ≤ length (now list)) ⌝ }
-    ensures { λ o. ⌜ TookTicks (machine r (now (memory .entry))) rule strokes (now (list .entry)) o (now (memory .exit)) (now (list .exit)) ⌝ }
+    ensures { λ o. ⌜ TookTicks (machine r (now (memory .entry))) rule strokes (now (list .entry))
+        o (now (memory .exit)) (now (list .exit)) ⌝ }
 {
     let mut ticks = [0u16; 32];
     let start = 0;
@@ -64,7 +65,8 @@ fn read_table(
     list: &mut [f64],
 ) -> Sheet
     requires { ⌜ (1 ≤ strokes) × (strokes ≤ 32) × (strokes ≤ length (now list)) ⌝ }
-    ensures { λ o. ⌜ ReadTable (machine r (now (memory .entry))) table rule strokes (now (list .entry)) o (now (memory .exit)) (now (list .exit)) ⌝ }
+    ensures { λ o. ⌜ ReadTable (machine r (now (memory .entry))) table rule strokes (now (list .entry))
+        o (now (memory .exit)) (now (list .exit)) ⌝ }
 {
     let loaded = load_pointer(r, memory, table);
     let o = host_access(
@@ -94,7 +96,8 @@ pub fn strike_sheet(
     t: TimeStruck,
     list: &mut [f64],
 ) -> Sheet
-    ensures { λ o. ⌜ Struck r (now (memory .entry)) table rule t (now (list .entry)) o (now (memory .exit)) (now (list .exit)) ⌝ }
+    ensures { λ o. ⌜ Struck r (now (memory .entry)) table rule t (now (list .entry))
+        o (now (memory .exit)) (now (list .exit)) ⌝ }
 {
     let number = number_before(memory.len(), rule, t, list.len(), r.control);
     if number != 0 {
