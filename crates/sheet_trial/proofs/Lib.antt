@@ -1,3 +1,5 @@
+-- ---- what a record says
+pub mod Examples
 -- ---- a record carried out
 pub mod OneRecord
 -- ---- what is printed
