@@ -1,0 +1,5 @@
+-- ---- what the contracts of the two calls cite
+pub mod Format
+pub mod Lists
+pub mod Writing
+pub mod Reading

@@ -1,0 +1,53 @@
+-- A list of accesses as a call is lent it: one list of numbers for each part (house).
+--   Lists               the four of them
+--   lists k r l w       those with these kinds, registers, lanes and words
+--   size l              how many entries they hold: the list's length is the shortest (house)
+--   entry-at l i        entry i
+--   entries-from l i n  n entries from place i on
+--   entries-in l        all of them
+--   over new old        what a list is when others take its first places: its later places stay
+--   with-entries es l   the four lists when entries take their first places
+use Prim.Native.Nat.{ℕ, zero, suc, min}
+use mathlib.Core.List.{List, [], _∷_, _++_, map}
+use lib.ListN.{length, drop, getD}
+use Rattle.transcript_bytes.specs.declared.Entry.{Entry}
+
+pub record Lists : Type 0 where
+  pub kinds : List ℕ
+  pub registers : List ℕ
+  pub lanes : List ℕ
+  pub words : List ℕ
+
+abbrev pub lists : List ℕ → List ℕ → List ℕ → List ℕ → Lists
+lists k r l w = record { kinds = k; registers = r; lanes = l; words = w }
+
+abbrev pub size : Lists → ℕ
+size l = min (min (length (l .kinds)) (length (l .registers))) (min (length (l .lanes)) (length (l .words)))
+
+abbrev pub entry-at : Lists → ℕ → Entry
+entry-at l i =
+    record {
+      kind = getD (l .kinds) i 0;
+      register = getD (l .registers) i 0;
+      lanes = getD (l .lanes) i 0;
+      word = getD (l .words) i 0;
+    }
+
+unfoldable pub entries-from : Lists → ℕ → ℕ → List Entry
+entries-from l i zero = []
+entries-from l i (suc n) = entry-at l i ∷ entries-from l (suc i) n
+
+abbrev pub entries-in : Lists → List Entry
+entries-in l = entries-from l 0 (size l)
+
+abbrev pub over : List ℕ → List ℕ → List ℕ
+over new old = new ++ drop (length new) old
+
+abbrev pub with-entries : List Entry → Lists → Lists
+with-entries es l =
+    record {
+      kinds = over (map (λ (e : Entry). e .kind) es) (l .kinds);
+      registers = over (map (λ (e : Entry). e .register) es) (l .registers);
+      lanes = over (map (λ (e : Entry). e .lanes) es) (l .lanes);
+      words = over (map (λ (e : Entry). e .word) es) (l .words);
+    }
