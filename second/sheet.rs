@@ -2,6 +2,7 @@
 
 use crate::fault::{instead, planted, Fault};
 use crate::port::{too_long, Answer, Port, INCR, LBL};
+use crate::refusal::none_of;
 use crate::struck::Struck;
 
 /// What a sheet shows: the rule used and its strokes if it passes, zeros if it is refused.
@@ -32,14 +33,6 @@ pub fn sheet(
     judged(&ticks, struck).and(late)?;
     write(list, &ticks, struck);
     Ok(shown(ticks.len(), struck))
-}
-
-/// The first refusal that applies, if any does.
-fn none_of(refusals: &[(bool, u8)]) -> Result<(), u8> {
-    match refusals.iter().find(|(applies, _)| *applies) {
-        Some(&(_, number)) => Err(number),
-        None => Ok(()),
-    }
 }
 
 /// Whether the sheet is refused before the port is reached.

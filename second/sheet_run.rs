@@ -16,6 +16,7 @@
 
 use crate::fault::{instead, Fault};
 use crate::port::Port;
+use crate::records;
 use crate::run::ROOM;
 use crate::sheet::{sheet, Shown};
 use crate::struck::Struck;
@@ -133,17 +134,11 @@ pub fn line(number: u8, shown: Shown, port: Port, list: &[f64; LIST]) -> String 
     line
 }
 
-/// Carries out a script; bytes after its last whole record end it with the line `bad script`.
+/// Carries out a script.
 pub fn answers(script: &[u8], out: &mut impl Write) -> io::Result<()> {
     let mut run = Run::new();
-    let records = script.chunks_exact(RECORD);
-    let rest = records.remainder();
-    for record in records {
-        writeln!(out, "{}", run.call(&Record::read(record)))?;
-    }
-    if rest.is_empty() {
-        Ok(())
-    } else {
-        writeln!(out, "bad script")
-    }
+    records::answers(script, RECORD, out, |record| {
+        let line = run.call(&Record::read(record));
+        format!("{line}\n").into_bytes()
+    })
 }

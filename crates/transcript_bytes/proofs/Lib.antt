@@ -1,1 +1,4 @@
 pub mod One
+pub mod Groups
+pub mod NumberRead
+pub mod ThroughNumbers

@@ -3,3 +3,5 @@ pub mod Format
 pub mod Lists
 pub mod Writing
 pub mod Reading
+-- ---- the words of the laws
+pub mod InPlainWords

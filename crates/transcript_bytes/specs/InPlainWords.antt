@@ -1,0 +1,130 @@
+-- The format of a transcript in plain words, record by record: what the laws say of writer and reader. Document 02, request (ii).
+--   AreBytes s            every number of the string is a byte, as what is lent always is
+--   Continued s           every byte of s has the top bit set
+--   Spelled s             s is the bytes of one number: some with the top bit set, then one without
+--   value-of s            the number that they spell, of any length
+--   Padded s              its first group is 0, and another follows
+--   Says s v              s spells v, with no leading zero group
+--   Good e, AllGood es    an entry that has a record; a list of them
+--   BadEntry e n          an entry that has none, and the number with which it is refused
+--   GoodRecord s e        s is a record, that of the entry e
+--   Sound s es            s is good records one after another, those of the list es
+--   WriteHead s           s is a good head, and a word must follow
+--   BadHead, BadWord s n  a number that is a bad head, a bad word, and its refusal
+--   BadRecord s n         the string s begins with a bad record, whose refusal is n
+--   Written, ReadAs       what the writer answers of a list, the reader of a string: each answer, when and only then
+use Prim.Native.Nat.{ℕ, _+_, _*_, _%_, _^_, _<_, _≤_}
+use mathlib.Core.Path.{_≡_}
+use mathlib.Core.List.{List, [], _∷_, _++_}
+use mathlib.Core.Logic.{_⊎_, _≢_}
+use lib.ListN.{length, getD}
+use Rattle.transcript_bytes.specs.Format.{head-of, transcript-of}
+use Rattle.transcript_bytes.specs.Writing.{refused, accepted}
+use Rattle.transcript_bytes.specs.declared.Entry.{Entry}
+use Rattle.transcript_bytes.specs.declared.Transcribed.{Transcribed}
+
+abbrev pub AreBytes : List ℕ → Type 0
+AreBytes [] = Unit
+AreBytes (b ∷ rest) = (b < 256) × AreBytes rest
+
+-- ---- numbers: "in groups of seven bits, most significant group first, the top bit set on all bytes but the last, no leading zero group"
+
+abbrev pub Continued : List ℕ → Type 0
+Continued [] = Unit
+Continued (b ∷ rest) = (128 ≤ b) × Continued rest
+
+pub record Spelled (s : List ℕ) : Type 0 where
+  pub first : List ℕ
+  pub last : ℕ
+  pub all : s ≡ first ++ (last ∷ [])
+  pub continued : Continued first
+  pub ends : last < 128
+
+-- the groups are digits to the base 128; a byte's group is its low seven bits
+unfoldable pub value-of : List ℕ → ℕ
+value-of [] = 0
+value-of (b ∷ rest) = b % 128 * 128 ^ length rest + value-of rest
+
+-- 80h has the top bit set and a group of 0
+abbrev pub Padded : List ℕ → Type 0
+Padded s = getD s 0 0 ≡ 128
+
+pub record Says (s : List ℕ) (v : ℕ) : Type 0 where
+  pub spelled : Spelled s
+  pub unpadded : getD s 0 0 ≢ 128
+  pub value : value-of s ≡ v
+
+-- ---- entries
+
+pub record Good (e : Entry) : Type 0 where
+  pub kind : e .kind ≤ 1
+  pub register : e .register ≤ 3
+  pub a-lane : 1 ≤ e .lanes
+  pub lanes : e .lanes ≤ 3
+  pub word : e .word ≤ 65535
+  pub read : e .kind ≡ 0 → e .word ≡ 0
+
+abbrev pub AllGood : List Entry → Type 0
+AllGood [] = Unit
+AllGood (e ∷ rest) = Good e × AllGood rest
+
+abbrev pub OffLanes : Entry → Type 0
+OffLanes e = (e .lanes ≡ 0) ⊎ (3 < e .lanes)
+
+-- "The writer tests 2, 3, then 22 (also for a kind over 1 or a read's word not 0)"
+pub data BadEntry (e : Entry) : ℕ → Type 0 where
+  no-register : 3 < e .register → BadEntry e 2
+  no-lanes : e .register ≤ 3 → OffLanes e → BadEntry e 3
+  long-word : e .register ≤ 3 → 1 ≤ e .lanes → e .lanes ≤ 3 → 65535 < e .word → BadEntry e 22
+  no-kind : e .register ≤ 3 → 1 ≤ e .lanes → e .lanes ≤ 3 → 1 < e .kind → BadEntry e 22
+  read-with-word : e .register ≤ 3 → 1 ≤ e .lanes → e .lanes ≤ 3 → e .kind ≡ 0 → e .word ≢ 0 → BadEntry e 22
+
+-- ---- good records: "A record is a head, then for a write the word"
+
+pub data GoodRecord : List ℕ → Entry → Type 0 where
+  a-read : {s : List ℕ} {e : Entry} → Good e → e .kind ≡ 0 → Says s (head-of e) → GoodRecord s e
+  a-write : {h w : List ℕ} {e : Entry} → Good e → e .kind ≡ 1 → Says h (head-of e) → Says w (e .word) → GoodRecord (h ++ w) e
+
+pub data Sound : List ℕ → List Entry → Type 0 where
+  nothing : Sound [] []
+  and-more : {r s : List ℕ} {e : Entry} {es : List Entry} → GoodRecord r e → Sound s es → Sound (r ++ s) (e ∷ es)
+
+-- ---- bad records: "20 number cut off or missing, 21 leading zero group, 22 head over 31 or word over 65,535, 23 lanes 0, the head
+-- being judged in this order before the word is read"
+
+pub data BadHead (s : List ℕ) : ℕ → Type 0 where
+  padded : Padded s → BadHead s 21
+  over : getD s 0 0 ≢ 128 → 31 < value-of s → BadHead s 22
+  off-lanes : getD s 0 0 ≢ 128 → value-of s < 8 → BadHead s 23
+
+pub data BadWord (s : List ℕ) : ℕ → Type 0 where
+  padded : Padded s → BadWord s 21
+  over : getD s 0 0 ≢ 128 → 65535 < value-of s → BadWord s 22
+
+-- an odd head is a write's
+pub record WriteHead (s : List ℕ) : Type 0 where
+  pub head : ℕ
+  pub says : Says s head
+  pub lanes : 8 ≤ head
+  pub small : head ≤ 31
+  pub write : head % 2 ≡ 1
+
+pub data BadRecord : List ℕ → ℕ → Type 0 where
+  head-cut : {b : ℕ} {s : List ℕ} → Continued (b ∷ s) → BadRecord (b ∷ s) 20
+  head-bad : {h : List ℕ} (s : List ℕ) {n : ℕ} → Spelled h → BadHead h n → BadRecord (h ++ s) n
+  word-cut : {h : List ℕ} (s : List ℕ) → WriteHead h → Continued s → BadRecord (h ++ s) 20
+  word-bad : {h w : List ℕ} (s : List ℕ) {n : ℕ} → WriteHead h → Spelled w → BadWord w n → BadRecord (h ++ (w ++ s)) n
+
+-- ---- the answers
+
+-- "24 list too small, exactly when all records are good and the whole result doesn't fit"
+pub data Written (es : List Entry) (room : ℕ) : Transcribed → Type 0 where
+  done : AllGood es → length (transcript-of es) ≤ room → Written es room (accepted (length (transcript-of es)))
+  too-small : AllGood es → room < length (transcript-of es) → Written es room (refused 24 0)
+  bad-entry : (xs ys : List Entry) {e : Entry} {n : ℕ} → es ≡ xs ++ (e ∷ ys) → AllGood xs → BadEntry e n →
+      Written es room (refused n (length xs))
+
+pub data ReadAs (s : List ℕ) (room : ℕ) : Transcribed → Type 0 where
+  done : {es : List Entry} → Sound s es → length es ≤ room → ReadAs s room (accepted (length es))
+  too-small : {es : List Entry} → Sound s es → room < length es → ReadAs s room (refused 24 0)
+  bad-record : {es : List Entry} {t u : List ℕ} {n : ℕ} → s ≡ t ++ u → Sound t es → BadRecord u n → ReadAs s room (refused n (length t))
