@@ -1,6 +1,6 @@
-//! `second`: a model of the TMS34010 host port, its memory, fields, bus, blocks and strike sheets,
-//! written from documents 01 and 02 without sight of the proved code, to compare the results of
-//! both by running.
+//! `second`: a model of the TMS34010 host port, its memory, fields, bus, blocks, strike sheets and
+//! transcripts, written from documents 01 and 02 without sight of the proved code, to compare the
+//! results of both by running.
 
 mod block;
 mod bus;
@@ -8,9 +8,12 @@ mod examples;
 mod fault;
 mod field;
 mod fields;
+mod groups;
 mod maker;
 mod port;
 mod random;
+mod records;
+mod refusal;
 mod run;
 mod script;
 mod sheet;
@@ -18,12 +21,22 @@ mod sheet_examples;
 mod sheet_run;
 mod sheet_script;
 mod struck;
+mod transcript;
+mod transcript_examples;
+mod transcript_list;
+mod transcript_lists;
+mod transcript_reader;
+mod transcript_run;
+mod transcript_script;
+mod transcript_strings;
+mod transcript_writer;
 
 use std::io::{self, BufWriter, Read, Write};
 use std::process::ExitCode;
 
 const USAGE: &str = "second: script SEED CALLS | fields | answers [--fault NAME]
-    | sheet-script SEED COUNT | sheet-answers [--fault NAME] | faults | examples";
+    | sheet-script SEED COUNT | sheet-answers [--fault NAME]
+    | transcript-script SEED COUNT | transcript-answers [--fault NAME] | faults | examples";
 
 type Out = BufWriter<io::StdoutLock<'static>>;
 
@@ -54,7 +67,9 @@ fn plant(name: &str) -> bool {
 
 /// Whether the examples hold; says so, or which doesn't.
 fn examples() -> bool {
-    let outcome = examples::run().and_then(|calls| Ok(calls + sheet_examples::run()?));
+    let outcome = examples::run()
+        .and_then(|count| Ok(count + sheet_examples::run()?))
+        .and_then(|count| Ok(count + transcript_examples::run()?));
     match outcome {
         Ok(count) => println!("second: {count} examples hold"),
         Err(name) => println!("second: example {name} fails"),
@@ -73,6 +88,9 @@ fn main() -> ExitCode {
         ["sheet-script", seed, count] => made(sheet_script::script, seed, count),
         ["sheet-answers"] => answers(sheet_run::answers),
         ["sheet-answers", "--fault", name] => plant(name) && answers(sheet_run::answers),
+        ["transcript-script", seed, count] => made(transcript_script::script, seed, count),
+        ["transcript-answers"] => answers(transcript_run::answers),
+        ["transcript-answers", "--fault", name] => plant(name) && answers(transcript_run::answers),
         ["faults"] => {
             fault::NAMED.iter().for_each(|(name, _)| println!("{name}"));
             true

@@ -30,7 +30,11 @@ impl List {
         let counted = counted.map(|(lent, faults)| side.instead(faults, PLACES, lent));
         let longest = self.lent.into_iter().max();
         let shortest = instead(Fault::TranscriptLongest, longest, counted.min());
-        instead(Fault::TranscriptLengthByKinds, self.lent[0], shortest.unwrap_or(0))
+        instead(
+            Fault::TranscriptLengthByKinds,
+            self.lent[0],
+            shortest.unwrap_or(0),
+        )
     }
 
     pub fn get(&self, k: usize) -> Access {

@@ -1,0 +1,159 @@
+//! The random script of transcripts: about two in five are accepted, the others meet every refusal
+//! of document 02, request (ii), by several causes, often by two at once.
+
+use crate::random::Random;
+use crate::transcript_list::{Access, PLACES};
+use crate::transcript_lists::{good, spoil};
+use crate::transcript_run::{Record, BYTES, RECORD};
+use crate::transcript_strings::Text;
+use crate::transcript_writer::encoded;
+
+pub fn script(seed: u64, count: u64) -> Vec<u8> {
+    let random = Random::new(seed);
+    let mut script = Vec::new();
+    let length = count as usize * RECORD;
+    while script.len() < length {
+        let records = scene(&random);
+        script.extend(records.iter().flat_map(Record::to_bytes));
+    }
+    script.truncate(length);
+    script
+}
+
+fn scene(random: &Random) -> Vec<Record> {
+    match random.below(400) {
+        0..=2 => cut_everywhere(random),
+        3 => every_head(random),
+        4..=210 => vec![list(random)],
+        _ => vec![reading(random, &text(random))],
+    }
+}
+
+/// A record with random contents, so that what a call must leave can be told from what it writes.
+fn filled(random: &Random) -> Record {
+    let bytes: Vec<u8> = (0..RECORD).map(|_| random.bits() as u8).collect();
+    Record::from(&bytes)
+}
+
+/// The room lent for a result that needs that much of it: just enough, more, one too few, or none.
+fn room(random: &Random, needed: usize, most: usize) -> usize {
+    let fewer = random.below(needed as u32 + 1) as usize;
+    let more = needed + random.below(8) as usize;
+    let one_less = needed.saturating_sub(1);
+    let rooms = [
+        needed, needed, needed, more, more, most, most, one_less, fewer, 0,
+    ];
+    random.pick(&rooms).min(most)
+}
+
+/// A room as it is lent: if it is all there is, perhaps by a number above that.
+fn lent(random: &Random, room: usize, most: usize) -> u8 {
+    let above = most as u32 + random.below(256 - most as u32);
+    let above = random.pick(&[most as u32, most as u32 + 1, above, 255]);
+    if room == most {
+        above as u8
+    } else {
+        room as u8
+    }
+}
+
+/// How much of each slice is lent to a list of that length: no less, and of one slice no more.
+fn lent_slices(random: &Random, length: usize) -> [u8; 4] {
+    let shortest = random.below(4) as usize;
+    let alike = random.one_in(3);
+    std::array::from_fn(|slice| {
+        let more = random.below((PLACES - length) as u32 + 1) as usize;
+        let more = random.pick(&[more, PLACES - length]);
+        let more = if alike || slice == shortest { 0 } else { more };
+        lent(random, length + more, PLACES)
+    })
+}
+
+/// A list for the writer: good, or bad in one or two points.
+fn list(random: &Random) -> Record {
+    let mut record = filled(random);
+    record.side &= !1;
+    let length = random.pick(&[0, 1, 1, 2, 2, 3, 3, 4, 4, 5, 5, 6, 6]);
+    let mut accesses: [Access; PLACES] = std::array::from_fn(|_| good(random));
+    let needed = accesses.into_iter().take(length).flat_map(encoded).count();
+    let room = room(random, needed, BYTES);
+    record.bytes_lent = lent(random, room, BYTES);
+    record.places_lent = lent_slices(random, length);
+    if random.below(5) < 2 {
+        spoil_some(random, &mut accesses, length);
+    }
+    // What lies beyond the list is as good as the list, or anything.
+    let set = random.pick(&[length, PLACES]);
+    for (k, access) in accesses.into_iter().take(set).enumerate() {
+        for (part, value) in record.parts.iter_mut().zip(access) {
+            part[k] = value;
+        }
+    }
+    record
+}
+
+/// Makes one or two parts bad, of one access or of two, mostly within the list.
+fn spoil_some(random: &Random, accesses: &mut [Access; PLACES], length: usize) {
+    let any = || {
+        let within = random.below(length.max(1) as u32);
+        random.pick(&[within, within, within, random.below(PLACES as u32)]) as usize
+    };
+    let first = any();
+    let second = random.pick(&[first, any()]);
+    let part = random.below(4) as usize;
+    let other = (part + 1 + random.below(3) as usize) % 4;
+    spoil(random, &mut accesses[first], part);
+    if random.one_in(2) {
+        spoil(random, &mut accesses[second], other);
+    }
+}
+
+fn text(random: &Random) -> Text {
+    match random.below(20) {
+        0..=11 => Text::whole(random),
+        12 | 13 => Text::damaged(random),
+        14..=17 => Text::with_bad(random),
+        18 => Text::with_cut(random),
+        _ => Text::noise(random),
+    }
+}
+
+/// A byte string for the reader, with lists that have room for its records or not.
+fn reading(random: &Random, text: &Text) -> Record {
+    let mut record = filled(random);
+    record.side |= 1;
+    let length = text.bytes.len().min(BYTES);
+    record.bytes[..length].copy_from_slice(&text.bytes[..length]);
+    record.bytes_lent = lent(random, length, BYTES);
+    record.places_lent = lent_slices(random, room(random, text.records, PLACES));
+    record
+}
+
+/// Every beginning of a byte string, from none of it to all; what is cut off lies beyond the lent
+/// bytes.
+fn cut_everywhere(random: &Random) -> Vec<Record> {
+    let text = match random.below(3) {
+        0 => Text::with_bad(random),
+        _ => Text::of(random, 2 + random.below(5) as usize),
+    };
+    let whole = reading(random, &text);
+    let length = text.bytes.len().min(BYTES) as u8;
+    (0..=length)
+        .map(|bytes_lent| Record {
+            bytes_lent,
+            places_lent: lent_slices(random, room(random, PLACES, PLACES)),
+            ..whole.clone()
+        })
+        .collect()
+}
+
+/// Every head from 0 to 40 as the first byte, with something good or bad after it.
+fn every_head(random: &Random) -> Vec<Record> {
+    let started_by = |head: u8| {
+        let mut rest = text(random);
+        rest.bytes.insert(0, head);
+        rest.records += 1;
+        reading(random, &rest)
+    };
+    (0..=40).map(started_by).collect()
+}

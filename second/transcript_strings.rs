@@ -1,0 +1,175 @@
+//! Byte strings for the script of transcripts: whole transcripts, damaged ones, and such as hold a
+//! record that is bad in one way or another.
+
+use crate::groups::{encoded, MORE};
+use crate::random::Random;
+use crate::transcript_lists::{good, word};
+use crate::transcript_run::BYTES;
+use crate::transcript_writer;
+
+/// A byte string, and how many good records it has, or had before it was damaged.
+pub struct Text {
+    pub bytes: Vec<u8>,
+    pub records: usize,
+}
+
+impl Text {
+    /// A transcript of that many records.
+    pub fn of(random: &Random, records: usize) -> Text {
+        let accesses = (0..records).map(|_| good(random));
+        let bytes = accesses.flat_map(transcript_writer::encoded).collect();
+        Text { bytes, records }
+    }
+
+    pub fn whole(random: &Random) -> Text {
+        match random.below(30) {
+            0 => Text::of_reads(random),
+            _ => Text::of(
+                random,
+                random.pick(&[0, 1, 1, 2, 2, 3, 3, 4, 4, 5, 6, 6, 7, 9]),
+            ),
+        }
+    }
+
+    /// A transcript of reads only, perhaps of as many as the bytes can hold.
+    fn of_reads(random: &Random) -> Text {
+        let records = random.pick(&[6, 7, BYTES - 1, BYTES]);
+        let bytes = (0..records).map(|_| read_head(random)).collect();
+        Text { bytes, records }
+    }
+
+    /// A transcript that a line fault or two has spoiled.
+    pub fn damaged(random: &Random) -> Text {
+        let mut text = Text::whole(random);
+        for _ in 0..1 + random.below(2) {
+            damage(random, &mut text.bytes);
+        }
+        text
+    }
+
+    /// Good records, then a bad one, and perhaps more of either; the first bad one counts.
+    pub fn with_bad(random: &Random) -> Text {
+        let mut text = Text::of(random, random.pick(&[0, 0, 1, 1, 2, 3, 5, 7]));
+        text.bytes.extend(bad(random));
+        match random.below(4) {
+            0 => text.bytes.extend(bad(random)),
+            1 => text.bytes.extend(Text::of(random, 2).bytes),
+            _ => {}
+        }
+        text
+    }
+
+    /// Good records, then one that ends too early.
+    pub fn with_cut(random: &Random) -> Text {
+        let mut text = Text::of(random, random.pick(&[0, 0, 1, 1, 2, 3, 5, 7]));
+        if random.one_in(2) {
+            text.bytes.push(write_head(random));
+        }
+        let most = random.pick(&[2, 4, 60]);
+        let continuing = random.below(most) as usize;
+        let first = random.pick(&[MORE, 0x81, 0x83, 0x84, 0xFF]);
+        text.bytes.push(first);
+        text.bytes.extend(continued(random, continuing));
+        text
+    }
+
+    /// Bytes without any order.
+    pub fn noise(random: &Random) -> Text {
+        let top = random.pick(&[0x1F, 0x9F, 0xFF]);
+        let length = random.pick(&[1, 2, 3, 4, 8, BYTES]);
+        let bytes = (0..length).map(|_| random.bits() as u8 & top).collect();
+        Text { bytes, records: 3 }
+    }
+}
+
+fn read_head(random: &Random) -> u8 {
+    (8 + 2 * random.below(12)) as u8
+}
+
+fn write_head(random: &Random) -> u8 {
+    read_head(random) + 1
+}
+
+/// Bytes of a number that none of them ends.
+fn continued(random: &Random, length: usize) -> Vec<u8> {
+    let byte = |_| MORE | random.bits() as u8;
+    (0..length).map(byte).collect()
+}
+
+/// One byte changed, one bit flipped, a byte put in, one taken out, or two swapped.
+fn damage(random: &Random, bytes: &mut Vec<u8>) {
+    let length = bytes.len() as u32;
+    let any = random.bits() as u8;
+    let new = random.pick(&[any, MORE, any % 32]);
+    let place = random.below(length + 1) as usize;
+    if place == bytes.len() {
+        return bytes.push(new);
+    }
+    let other = random.below(length) as usize;
+    match random.below(5) {
+        0 => bytes[place] = new,
+        1 => bytes[place] ^= 1 << random.below(8),
+        2 => bytes.insert(place, new),
+        3 => drop(bytes.remove(place)),
+        _ => bytes.swap(place, other),
+    }
+}
+
+/// A bad record. What follows its bad number must not matter.
+fn bad(random: &Random) -> Vec<u8> {
+    if random.one_in(2) {
+        let mut bytes = vec![write_head(random)];
+        bytes.extend(bad_number(random, word(random), 65_536));
+        return bytes;
+    }
+    let head = 8 + random.below(24);
+    let mut bytes = match random.below(2) {
+        0 => vec![random.below(8) as u8],
+        _ => bad_number(random, head, 32),
+    };
+    match random.below(6) {
+        0 => bytes.extend(continued(random, 2)),
+        1 => bytes.extend(bad_number(random, word(random), 65_536)),
+        2 => {}
+        _ => bytes.extend(encoded(word(random).into())),
+    }
+    bytes
+}
+
+/// A number made from a good one that is bad if it is as large as that limit: too large, or with a
+/// leading zero group, or both.
+fn bad_number(random: &Random, good: u32, limit: u32) -> Vec<u8> {
+    let zeros = 1 + random.below(3) as usize;
+    let led = |bytes: Vec<u8>| [vec![MORE; zeros], bytes].concat();
+    match random.below(8) {
+        0 | 1 => led(encoded(good.into())),
+        2 => led(encoded(random.below(8).into())),
+        3 => led(too_large(random, good, limit)),
+        4 | 5 => too_large(random, good, limit),
+        _ => long(random, good),
+    }
+}
+
+/// A number that is the limit or a little more, or good modulo 2^16, 2^32 or 2^64 or so.
+fn too_large(random: &Random, good: u32, limit: u32) -> Vec<u8> {
+    let near = limit + random.pick(&[0, 0, random.below(9), random.below(40), limit]);
+    let bits = random.pick(&[16, 16, 32, 32, 64, 64, 7, 14, 21, 35, 63, 70]);
+    let high = u128::from(random.pick(&[1, 1, 1 + random.below(300)]));
+    let far = u128::from(good) + (high << bits);
+    let any = u128::from(random.bits()) + u128::from(limit);
+    encoded(random.pick(&[near.into(), near.into(), far, far, far, any]))
+}
+
+/// A number of many bytes, the last groups of which are those of a good one.
+fn long(random: &Random, good: u32) -> Vec<u8> {
+    let end = encoded(good.into());
+    let zeros = random.pick(&[3, 5, 10]) - end.len();
+    let most = random.pick(&[4, 12, 58 - zeros as u32]);
+    let first = random.pick(&[MORE, 0x81, 0xFF, 0x81 + random.below(127) as u8]);
+    let length = random.below(most) as usize;
+    let middle = match random.below(2) {
+        0 => vec![MORE; length],
+        _ => continued(random, length),
+    };
+    [vec![first], middle, vec![MORE; zeros], end].concat()
+}
