@@ -63,6 +63,9 @@ lanes 0, then head 32 | R | 3 6 6 6 6 | 08 06 20 | 17 0 1 |
 a bad record after one that doesn't fit | R | 5 0 6 6 6 | 1D A4 34 07 00 | 17 0 3 |
 ";
 
+/// Lays what a text says into a record's first places, if it is well formed.
+type Lay = fn(&mut Record, &str) -> Option<()>;
+
 /// A record of that much lent, its lists and bytes full of filler.
 fn blank(side: &str, lent: &str) -> Option<Record> {
     let [bytes, kinds, registers, lanes, words] = numbers(lent)?.map(|number| number as u8);
@@ -76,7 +79,6 @@ fn blank(side: &str, lent: &str) -> Option<Record> {
     })
 }
 
-/// Lays a list into a record's first places.
 fn lay_list(record: &mut Record, text: &str) -> Option<()> {
     let accesses = text.split(',').filter(|access| !access.is_empty());
     for (k, access) in accesses.enumerate() {
@@ -88,7 +90,6 @@ fn lay_list(record: &mut Record, text: &str) -> Option<()> {
     Some(())
 }
 
-/// Lays bytes into a record's first places.
 fn lay_bytes(record: &mut Record, text: &str) -> Option<()> {
     for (k, digits) in text.split_whitespace().enumerate() {
         *record.bytes.get_mut(k)? = u8::from_str_radix(digits, 16).ok()?;
@@ -98,9 +99,9 @@ fn lay_bytes(record: &mut Record, text: &str) -> Option<()> {
 
 /// Whether a call, carried out as a record, prints what its line asks for.
 fn holds(side: &str, lent: &str, given: &str, answer: &str, written: &str) -> Option<bool> {
-    let (lay_given, lay_written): (fn(&mut Record, &str) -> Option<()>, _) = match side {
-        "W" => (lay_list, lay_bytes as fn(&mut Record, &str) -> Option<()>),
-        _ => (lay_bytes, lay_list as fn(&mut Record, &str) -> Option<()>),
+    let (lay_given, lay_written): (Lay, Lay) = match side {
+        "W" => (lay_list, lay_bytes),
+        _ => (lay_bytes, lay_list),
     };
     let mut record = blank(side, lent)?;
     lay_given(&mut record, given)?;

@@ -1,9 +1,10 @@
 //! The random script of transcripts: about two in five are accepted, the others meet every refusal
 //! of document 02, request (ii), by several causes, often by two at once.
 
+use crate::groups;
 use crate::random::Random;
 use crate::transcript_list::{Access, PLACES};
-use crate::transcript_lists::{good, spoil};
+use crate::transcript_lists::{good, spoil, word};
 use crate::transcript_run::{Record, BYTES, RECORD};
 use crate::transcript_strings::Text;
 use crate::transcript_writer::encoded;
@@ -147,13 +148,17 @@ fn cut_everywhere(random: &Random) -> Vec<Record> {
         .collect()
 }
 
-/// Every head from 0 to 40 as the first byte, with something good or bad after it.
+/// Every head from 0 to 40 as the first byte, with a word, something else or both after it.
 fn every_head(random: &Random) -> Vec<Record> {
     let started_by = |head: u8| {
-        let mut rest = text(random);
-        rest.bytes.insert(0, head);
-        rest.records += 1;
-        reading(random, &rest)
+        let mut bytes = vec![head];
+        if random.one_in(2) {
+            bytes.extend(groups::encoded(word(random).into()));
+        }
+        let rest = text(random);
+        bytes.extend(rest.bytes);
+        let records = rest.records + 1;
+        reading(random, &Text { bytes, records })
     };
     (0..=40).map(started_by).collect()
 }

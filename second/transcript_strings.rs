@@ -65,11 +65,11 @@ impl Text {
         if random.one_in(2) {
             text.bytes.push(write_head(random));
         }
-        let most = random.pick(&[2, 4, 60]);
-        let continuing = random.below(most) as usize;
-        let first = random.pick(&[MORE, 0x81, 0x83, 0x84, 0xFF]);
-        text.bytes.push(first);
-        text.bytes.extend(continued(random, continuing));
+        let most = random.pick(&[1, 2, 4, 60]);
+        text.bytes
+            .push(random.pick(&[MORE, MORE, 0x81, 0x84, 0xFF]));
+        let others = random.below(most) as usize;
+        text.bytes.extend(continued(random, others));
         text
     }
 
@@ -141,18 +141,18 @@ fn bad(random: &Random) -> Vec<u8> {
 fn bad_number(random: &Random, good: u32, limit: u32) -> Vec<u8> {
     let zeros = 1 + random.below(3) as usize;
     let led = |bytes: Vec<u8>| [vec![MORE; zeros], bytes].concat();
-    match random.below(8) {
+    match random.below(10) {
         0 | 1 => led(encoded(good.into())),
         2 => led(encoded(random.below(8).into())),
         3 => led(too_large(random, good, limit)),
-        4 | 5 => too_large(random, good, limit),
-        _ => long(random, good),
+        4 | 5 => long(random, good),
+        _ => too_large(random, good, limit),
     }
 }
 
 /// A number that is the limit or a little more, or good modulo 2^16, 2^32 or 2^64 or so.
 fn too_large(random: &Random, good: u32, limit: u32) -> Vec<u8> {
-    let near = limit + random.pick(&[0, 0, random.below(9), random.below(40), limit]);
+    let near = limit + random.pick(&[0, 0, 0, random.below(9), limit]);
     let bits = random.pick(&[16, 16, 32, 32, 64, 64, 7, 14, 21, 35, 63, 70]);
     let high = u128::from(random.pick(&[1, 1, 1 + random.below(300)]));
     let far = u128::from(good) + (high << bits);

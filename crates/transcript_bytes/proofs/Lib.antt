@@ -5,3 +5,7 @@ pub mod ThroughNumbers
 pub mod Judged
 pub mod ThroughRecords
 pub mod Divided
+pub mod ReadExactly
+pub mod OneEncoding
+pub mod WrittenExactly
+pub mod Columns

@@ -7,6 +7,7 @@
 --   Says s v              s spells v, with no leading zero group
 --   Good e, AllGood es    an entry that has a record; a list of them
 --   BadEntry e n          an entry that has none, and the number with which it is refused
+--   first-places n l      the four lists, cut to n places
 --   GoodRecord s e        s is a record, that of the entry e
 --   Sound s es            s is good records one after another, those of the list es
 --   WriteHead s           s is a good head, and a word must follow
@@ -17,8 +18,9 @@ use Prim.Native.Nat.{ℕ, _+_, _*_, _%_, _^_, _<_, _≤_}
 use mathlib.Core.Path.{_≡_}
 use mathlib.Core.List.{List, [], _∷_, _++_}
 use mathlib.Core.Logic.{_⊎_, _≢_}
-use lib.ListN.{length, getD}
+use lib.ListN.{length, take, getD}
 use Rattle.transcript_bytes.specs.Format.{head-of, transcript-of}
+use Rattle.transcript_bytes.specs.Lists.{Lists, lists}
 use Rattle.transcript_bytes.specs.Writing.{refused, accepted}
 use Rattle.transcript_bytes.specs.declared.Entry.{Entry}
 use Rattle.transcript_bytes.specs.declared.Transcribed.{Transcribed}
@@ -78,6 +80,10 @@ pub data BadEntry (e : Entry) : ℕ → Type 0 where
   long-word : e .register ≤ 3 → 1 ≤ e .lanes → e .lanes ≤ 3 → 65535 < e .word → BadEntry e 22
   no-kind : e .register ≤ 3 → 1 ≤ e .lanes → e .lanes ≤ 3 → 1 < e .kind → BadEntry e 22
   read-with-word : e .register ≤ 3 → 1 ≤ e .lanes → e .lanes ≤ 3 → e .kind ≡ 0 → e .word ≢ 0 → BadEntry e 22
+
+-- the first places of each list
+abbrev pub first-places : ℕ → Lists → Lists
+first-places n l = lists (take n (l .kinds)) (take n (l .registers)) (take n (l .lanes)) (take n (l .words))
 
 -- ---- good records: "A record is a head, then for a write the word"
 
