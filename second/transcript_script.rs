@@ -3,10 +3,10 @@
 
 use crate::groups;
 use crate::random::Random;
+use crate::transcript_accesses::{good, spoil, word};
 use crate::transcript_list::{Access, PLACES};
-use crate::transcript_lists::{good, spoil, word};
 use crate::transcript_run::{Record, BYTES, RECORD};
-use crate::transcript_strings::Text;
+use crate::transcript_strings::ByteString;
 use crate::transcript_writer::encoded;
 
 pub fn script(seed: u64, count: u64) -> Vec<u8> {
@@ -26,7 +26,7 @@ fn scene(random: &Random) -> Vec<Record> {
         0..=2 => cut_everywhere(random),
         3 => every_head(random),
         4..=210 => vec![list(random)],
-        _ => vec![reading(random, &text(random))],
+        _ => vec![reading(random, &byte_string(random))],
     }
 }
 
@@ -47,15 +47,12 @@ fn room(random: &Random, needed: usize, most: usize) -> usize {
     random.pick(&rooms).min(most)
 }
 
-/// A room as it is lent: if it is all there is, perhaps by a number above that.
+/// A room as it is lent: all that there is may be lent by a number above that.
 fn lent(random: &Random, room: usize, most: usize) -> u8 {
-    let above = most as u32 + random.below(256 - most as u32);
-    let above = random.pick(&[most as u32, most as u32 + 1, above, 255]);
-    if room == most {
-        above as u8
-    } else {
-        room as u8
-    }
+    let above = most + random.below(256 - most as u32) as usize;
+    let all = random.pick(&[most, most + 1, above, 255]);
+    let lent = if room == most { all } else { room };
+    lent as u8
 }
 
 /// How much of each slice is lent to a list of that length: no less, and of one slice no more.
@@ -109,36 +106,36 @@ fn spoil_some(random: &Random, accesses: &mut [Access; PLACES], length: usize) {
     }
 }
 
-fn text(random: &Random) -> Text {
+fn byte_string(random: &Random) -> ByteString {
     match random.below(20) {
-        0..=11 => Text::whole(random),
-        12 | 13 => Text::damaged(random),
-        14..=17 => Text::with_bad(random),
-        18 => Text::with_cut(random),
-        _ => Text::noise(random),
+        0..=11 => ByteString::whole(random),
+        12 | 13 => ByteString::damaged(random),
+        14..=17 => ByteString::with_bad(random),
+        18 => ByteString::with_cut(random),
+        _ => ByteString::noise(random),
     }
 }
 
 /// A byte string for the reader, with lists that have room for its records or not.
-fn reading(random: &Random, text: &Text) -> Record {
+fn reading(random: &Random, string: &ByteString) -> Record {
     let mut record = filled(random);
     record.side |= 1;
-    let length = text.bytes.len().min(BYTES);
-    record.bytes[..length].copy_from_slice(&text.bytes[..length]);
+    let length = string.bytes.len().min(BYTES);
+    record.bytes[..length].copy_from_slice(&string.bytes[..length]);
     record.bytes_lent = lent(random, length, BYTES);
-    record.places_lent = lent_slices(random, room(random, text.records, PLACES));
+    record.places_lent = lent_slices(random, room(random, string.records, PLACES));
     record
 }
 
 /// Every beginning of a byte string, from none of it to all; what is cut off lies beyond the lent
 /// bytes.
 fn cut_everywhere(random: &Random) -> Vec<Record> {
-    let text = match random.below(3) {
-        0 => Text::with_bad(random),
-        _ => Text::of(random, 2 + random.below(5) as usize),
+    let string = match random.below(3) {
+        0 => ByteString::with_bad(random),
+        _ => ByteString::of(random, 2 + random.below(5) as usize),
     };
-    let whole = reading(random, &text);
-    let length = text.bytes.len().min(BYTES) as u8;
+    let whole = reading(random, &string);
+    let length = string.bytes.len().min(BYTES) as u8;
     (0..=length)
         .map(|bytes_lent| Record {
             bytes_lent,
@@ -155,10 +152,10 @@ fn every_head(random: &Random) -> Vec<Record> {
         if random.one_in(2) {
             bytes.extend(groups::encoded(word(random).into()));
         }
-        let rest = text(random);
+        let rest = byte_string(random);
         bytes.extend(rest.bytes);
         let records = rest.records + 1;
-        reading(random, &Text { bytes, records })
+        reading(random, &ByteString { bytes, records })
     };
     (0..=40).map(started_by).collect()
 }

@@ -3,82 +3,85 @@
 
 use crate::groups::{encoded, MORE};
 use crate::random::Random;
-use crate::transcript_lists::{good, word};
+use crate::transcript_accesses::{good, word};
 use crate::transcript_run::BYTES;
 use crate::transcript_writer;
 
-/// A byte string, and how many good records it has, or had before it was damaged.
-pub struct Text {
+/// A byte string, and about how many good records it has, by which room is lent for them.
+pub struct ByteString {
     pub bytes: Vec<u8>,
     pub records: usize,
 }
 
-impl Text {
+impl ByteString {
     /// A transcript of that many records.
-    pub fn of(random: &Random, records: usize) -> Text {
+    pub fn of(random: &Random, records: usize) -> ByteString {
         let accesses = (0..records).map(|_| good(random));
         let bytes = accesses.flat_map(transcript_writer::encoded).collect();
-        Text { bytes, records }
+        ByteString { bytes, records }
     }
 
-    pub fn whole(random: &Random) -> Text {
+    pub fn whole(random: &Random) -> ByteString {
+        let records = random.pick(&[0, 1, 1, 2, 2, 3, 3, 4, 4, 5, 6, 6, 7, 9]);
         match random.below(30) {
-            0 => Text::of_reads(random),
-            _ => Text::of(
-                random,
-                random.pick(&[0, 1, 1, 2, 2, 3, 3, 4, 4, 5, 6, 6, 7, 9]),
-            ),
+            0 => ByteString::of_reads(random),
+            _ => ByteString::of(random, records),
         }
     }
 
     /// A transcript of reads only, perhaps of as many as the bytes can hold.
-    fn of_reads(random: &Random) -> Text {
+    fn of_reads(random: &Random) -> ByteString {
         let records = random.pick(&[6, 7, BYTES - 1, BYTES]);
         let bytes = (0..records).map(|_| read_head(random)).collect();
-        Text { bytes, records }
+        ByteString { bytes, records }
     }
 
     /// A transcript that a line fault or two has spoiled.
-    pub fn damaged(random: &Random) -> Text {
-        let mut text = Text::whole(random);
+    pub fn damaged(random: &Random) -> ByteString {
+        let mut string = ByteString::whole(random);
         for _ in 0..1 + random.below(2) {
-            damage(random, &mut text.bytes);
+            damage(random, &mut string.bytes);
         }
-        text
+        string
+    }
+
+    /// What comes before a bad record: good ones, perhaps none.
+    fn begun(random: &Random) -> ByteString {
+        ByteString::of(random, random.pick(&[0, 0, 1, 1, 2, 3, 5, 7]))
     }
 
     /// Good records, then a bad one, and perhaps more of either; the first bad one counts.
-    pub fn with_bad(random: &Random) -> Text {
-        let mut text = Text::of(random, random.pick(&[0, 0, 1, 1, 2, 3, 5, 7]));
-        text.bytes.extend(bad(random));
+    pub fn with_bad(random: &Random) -> ByteString {
+        let mut string = ByteString::begun(random);
+        string.bytes.extend(bad(random));
         match random.below(4) {
-            0 => text.bytes.extend(bad(random)),
-            1 => text.bytes.extend(Text::of(random, 2).bytes),
+            0 => string.bytes.extend(bad(random)),
+            1 => string.bytes.extend(ByteString::of(random, 2).bytes),
             _ => {}
         }
-        text
+        string
     }
 
     /// Good records, then one that ends too early.
-    pub fn with_cut(random: &Random) -> Text {
-        let mut text = Text::of(random, random.pick(&[0, 0, 1, 1, 2, 3, 5, 7]));
+    pub fn with_cut(random: &Random) -> ByteString {
+        let mut string = ByteString::begun(random);
         if random.one_in(2) {
-            text.bytes.push(write_head(random));
+            string.bytes.push(write_head(random));
         }
+        let first = random.pick(&[MORE, MORE, 0x81, 0x84, 0xFF]);
         let most = random.pick(&[1, 2, 4, 60]);
-        text.bytes
-            .push(random.pick(&[MORE, MORE, 0x81, 0x84, 0xFF]));
         let others = random.below(most) as usize;
-        text.bytes.extend(continued(random, others));
-        text
+        string.bytes.push(first);
+        string.bytes.extend(continued(random, others));
+        string
     }
 
     /// Bytes without any order.
-    pub fn noise(random: &Random) -> Text {
+    pub fn noise(random: &Random) -> ByteString {
         let top = random.pick(&[0x1F, 0x9F, 0xFF]);
         let length = random.pick(&[1, 2, 3, 4, 8, BYTES]);
         let bytes = (0..length).map(|_| random.bits() as u8 & top).collect();
-        Text { bytes, records: 3 }
+        ByteString { bytes, records: 3 }
     }
 }
 
@@ -136,8 +139,8 @@ fn bad(random: &Random) -> Vec<u8> {
     bytes
 }
 
-/// A number made from a good one that is bad if it is as large as that limit: too large, or with a
-/// leading zero group, or both.
+/// A bad number made from a good one: as large as that limit or larger, or with a leading zero
+/// group, or both.
 fn bad_number(random: &Random, good: u32, limit: u32) -> Vec<u8> {
     let zeros = 1 + random.below(3) as usize;
     let led = |bytes: Vec<u8>| [vec![MORE; zeros], bytes].concat();
@@ -150,10 +153,11 @@ fn bad_number(random: &Random, good: u32, limit: u32) -> Vec<u8> {
     }
 }
 
-/// A number that is the limit or a little more, or good modulo 2^16, 2^32 or 2^64 or so.
+/// A number that is the limit or a little more, one that is good modulo 2^16, 2^32 or 2^64 or so,
+/// or any.
 fn too_large(random: &Random, good: u32, limit: u32) -> Vec<u8> {
     let near = limit + random.pick(&[0, 0, 0, random.below(9), limit]);
-    let bits = random.pick(&[16, 16, 32, 32, 64, 64, 7, 14, 21, 35, 63, 70]);
+    let bits = random.pick(&[16, 16, 32, 32, 64, 64, 17, 31, 63, 70]);
     let high = u128::from(random.pick(&[1, 1, 1 + random.below(300)]));
     let far = u128::from(good) + (high << bits);
     let any = u128::from(random.bits()) + u128::from(limit);

@@ -6,9 +6,9 @@ use native.Mathlib.Omega.{arith}
 use mathlib.Core.Path.{_≡_, refl, sym, ap, _∙_, subst}
 use mathlib.Core.List.{List, [], _∷_, _++_, map}
 use lib.ListN.{length, take, drop, getD}
-use lib.Seq.{drop-cons, take-at}
+use lib.Seq.{drop-cons, take-at, drop-at}
 use Rattle.transcript_bytes.specs.Lists.{Lists, lists, size, entry-at, entries-from, entries-in, over, with-entries}
-use Rattle.transcript_bytes.specs.InPlainWords.{first-places}
+use Rattle.transcript_bytes.specs.InPlainWords.{first-places, later-places}
 use Rattle.transcript_bytes.specs.declared.Entry.{Entry}
 
 -- There are as many entries as asked for.
@@ -87,6 +87,17 @@ pub first-are-columns : (es : List Entry) (l : Lists) → first-places (length e
 first-are-columns es l =
     same-lists (front (λ (e : Entry). e .kind) es (l .kinds)) (front (λ (e : Entry). e .register) es (l .registers))
     (front (λ (e : Entry). e .lanes) es (l .lanes)) (front (λ (e : Entry). e .word) es (l .words))
+
+back : (f : Entry → ℕ) (es : List Entry) (old : List ℕ) → drop (length es) (over (map f es) old) ≡ drop (length es) old
+back f es old =
+    drop-at (map f es) (drop (length (map f es)) old) (length es) (length-map f es)
+    ∙ ap (λ (n : ℕ). drop n old) (length-map f es)
+
+-- The places after them stay.
+pub later-stay : (es : List Entry) (l : Lists) → later-places (length es) (with-entries es l) ≡ later-places (length es) l
+later-stay es l =
+    same-lists (back (λ (e : Entry). e .kind) es (l .kinds)) (back (λ (e : Entry). e .register) es (l .registers))
+    (back (λ (e : Entry). e .lanes) es (l .lanes)) (back (λ (e : Entry). e .word) es (l .words))
 
 -- The first places of a list hold its entries' parts.
 pub columns-first : (l : Lists) → columns (entries-in l) ≡ first-places (size l) l

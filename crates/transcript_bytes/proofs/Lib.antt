@@ -9,3 +9,5 @@ pub mod ReadExactly
 pub mod OneEncoding
 pub mod WrittenExactly
 pub mod Columns
+pub mod RoundTrips
+pub mod Promised

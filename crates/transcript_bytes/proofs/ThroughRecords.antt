@@ -155,3 +155,7 @@ module _ (got : List Entry) (i : ℕ) where
       ∙ reads-number (Word v) (word-read v) (word-rule v) got i (i + length h) w s r
       ∙ ap (λ (t : Step). feeds (fed got i (i + length h + length w) t) s) (word-refused w r v n q)))
       (stops (i + length h + length w) n s (word-number w n q))
+
+-- No bad record is refused with 0.
+pub bad-record-number : (s : List ℕ) (n : ℕ) → BadRecord s n → n ≢ 0
+bad-record-number s n b = stops-at [] 0 s n b .refuses

@@ -7,7 +7,7 @@
 --   Says s v              s spells v, with no leading zero group
 --   Good e, AllGood es    an entry that has a record; a list of them
 --   BadEntry e n          an entry that has none, and the number with which it is refused
---   first-places n l      the four lists, cut to n places
+--   first-places n l, later-places n l   the four lists: their first n places, and those after them
 --   GoodRecord s e        s is a record, that of the entry e
 --   Sound s es            s is good records one after another, those of the list es
 --   WriteHead s           s is a good head, and a word must follow
@@ -18,7 +18,7 @@ use Prim.Native.Nat.{ℕ, _+_, _*_, _%_, _^_, _<_, _≤_}
 use mathlib.Core.Path.{_≡_}
 use mathlib.Core.List.{List, [], _∷_, _++_}
 use mathlib.Core.Logic.{_⊎_, _≢_}
-use lib.ListN.{length, take, getD}
+use lib.ListN.{length, take, drop, getD}
 use Rattle.transcript_bytes.specs.Format.{head-of, transcript-of}
 use Rattle.transcript_bytes.specs.Lists.{Lists, lists}
 use Rattle.transcript_bytes.specs.Writing.{refused, accepted}
@@ -81,9 +81,12 @@ pub data BadEntry (e : Entry) : ℕ → Type 0 where
   no-kind : e .register ≤ 3 → 1 ≤ e .lanes → e .lanes ≤ 3 → 1 < e .kind → BadEntry e 22
   read-with-word : e .register ≤ 3 → 1 ≤ e .lanes → e .lanes ≤ 3 → e .kind ≡ 0 → e .word ≢ 0 → BadEntry e 22
 
--- the first places of each list
+-- the first places of each list, and those after them
 abbrev pub first-places : ℕ → Lists → Lists
 first-places n l = lists (take n (l .kinds)) (take n (l .registers)) (take n (l .lanes)) (take n (l .words))
+
+abbrev pub later-places : ℕ → Lists → Lists
+later-places n l = lists (drop n (l .kinds)) (drop n (l .registers)) (drop n (l .lanes)) (drop n (l .words))
 
 -- ---- good records: "A record is a head, then for a write the word"
 

@@ -1,4 +1,4 @@
-//! Lists for the script of transcripts: accesses that are good, and ways to make one bad.
+//! Accesses for the script of transcripts: good ones, and ways to make one bad.
 
 use crate::random::Random;
 use crate::transcript_list::Access;
