@@ -5,6 +5,7 @@ use mathlib.Core.List.{List}
 use mathlib.Core.Logic.{_≢_}
 use lib.ListN.{length}
 use borrow.Author.Tests.{eq-eqb, ne-eqb}
+use Rattle.words.specs.Bytes.{AreBytes}
 use Rattle.port.specs.Host.{begin-access}
 use Rattle.port.specs.declared.Access.{Access}
 use Rattle.port.proofs.Taken.{taken, taken-memory}
@@ -12,7 +13,7 @@ use Rattle.door_bytes.specs.Bytes.{words-of}
 use Rattle.door_bytes.specs.Image.{registers-of}
 use Rattle.door_bytes.specs.Answer.{packed, refusing}
 use Rattle.door_bytes.specs.Door.{call-number, call-tells, call-image, call-memory, Called}
-use Rattle.door_bytes.specs.InPlainWords.{AreBytes, Fitting}
+use Rattle.door_bytes.specs.InPlainWords.{Fitting}
 use Rattle.door_bytes.proofs.Numbers.{numbered, fit-number}
 use Rattle.door.specs.Parts.{Closed}
 use Rattle.door.proofs.CycleOverBytes.{cycled-bytes}

@@ -5,6 +5,7 @@ use mathlib.Core.Path.{_≡_, refl, sym, ap, _∙_}
 use mathlib.Core.Bool.{Bool, true, false, cond}
 use mathlib.Core.List.{List, [], _∷_}
 use lib.ListN.{length, set}
+use Rattle.words.specs.Bytes.{AreBytes}
 use Rattle.words.specs.Memory.{in-memory, store-at}
 use Rattle.words.specs.declared.WordNumber.{WordNumber}
 use Rattle.registers.specs.declared.Registers.{Registers}
@@ -12,7 +13,6 @@ use Rattle.port.specs.Cycle.{memory-after}
 use Rattle.port.specs.declared.Due.{Due}
 use Rattle.port.specs.declared.Due.the-variants.{Nothing, Fetch, Store}
 use Rattle.door_bytes.specs.Bytes.{words-of, bytes-of}
-use Rattle.door_bytes.specs.InPlainWords.{AreBytes}
 use Rattle.door_bytes.proofs.WordsAndBytes.{twice, twice-one, bytes-of-words}
 use Rattle.door.specs.Parts.{put-word, store-bytes, bytes-after}
 

@@ -11,6 +11,7 @@ use mathlib.Core.Logic.{_≢_}
 use lib.Dec.{eqb}
 use lib.ListN.{length}
 use borrow.Author.Tests.{eqb-false}
+use Rattle.words.specs.Bytes.{AreBytes}
 use Rattle.registers.specs.declared.Registers.{Registers}
 use Rattle.port.specs.Host.{number-for, access, access-memory}
 use Rattle.port.specs.declared.Access.{Access}
@@ -21,7 +22,7 @@ use Rattle.door_bytes.specs.Bytes.{words-of, bytes-of}
 use Rattle.door_bytes.specs.Image.{registers-of, image-of}
 use Rattle.door_bytes.specs.Answer.{refusing}
 use Rattle.door_bytes.specs.Door.{call-number, call-tells, call-image, call-memory}
-use Rattle.door_bytes.specs.InPlainWords.{AreBytes, GoodImage, Fitting, FitsImage}
+use Rattle.door_bytes.specs.InPlainWords.{GoodImage, Fitting, FitsImage}
 use Rattle.door_bytes.proofs.WordsAndBytes.{bytes-length, bytes-of-words, words-of-bytes, words-fit, bytes-fit}
 use Rattle.door_bytes.proofs.ImageAndRecord.{registers-of-image, image-of-registers, image-fits, image-bytes, good-image}
 use Rattle.door_bytes.proofs.Numbers.{fit-number}

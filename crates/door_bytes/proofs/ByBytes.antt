@@ -5,6 +5,7 @@ use mathlib.Core.Path.{_≡_, refl, sym, ap, subst, _∙_}
 use mathlib.Core.Bool.{true}
 use mathlib.Core.List.{List, [], _∷_}
 use mathlib.Core.Logic.{⊎-elim}
+use Rattle.words.specs.Bytes.{AreBytes}
 use Rattle.words.proofs.Choices.{either-way}
 use Rattle.port.specs.Runs.{Machine, Sixteen, on, joined, answer-of, after}
 use Rattle.port.specs.declared.Access.{Access}
@@ -15,7 +16,7 @@ use Rattle.door_bytes.specs.Bytes.{words-of, bytes-of}
 use Rattle.door_bytes.specs.Image.{registers-of, image-of}
 use Rattle.door_bytes.specs.Answer.{refusing}
 use Rattle.door_bytes.specs.Door.{misfit, call-tells}
-use Rattle.door_bytes.specs.InPlainWords.{AreBytes, Fitting}
+use Rattle.door_bytes.specs.InPlainWords.{Fitting}
 use Rattle.door_bytes.specs.Runs.{Lent, told, left, opening, closing, answers, ends, byte-answers, byte-ends}
 use Rattle.door_bytes.proofs.Numbers.{fitting, unfit-number, unfit-refused}
 use Rattle.door_bytes.proofs.Refusals.{refuses}

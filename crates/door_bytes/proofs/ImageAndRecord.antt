@@ -6,7 +6,7 @@ use mathlib.Core.Bool.{Bool, true, false, cond}
 use mathlib.Core.List.{List, [], _∷_}
 use lib.Dec.{eqb}
 use Rattle.words.specs.Addresses.{address}
-use Rattle.words.specs.Bytes.{bit}
+use Rattle.words.specs.Bytes.{bit, AreBytes}
 use Rattle.words.proofs.Bits.{bit-of-high}
 use Rattle.words.proofs.Lanes.{low-of, high-of, whole-word}
 use Rattle.registers.specs.Registers.{low-half, high-half}
@@ -14,7 +14,7 @@ use Rattle.registers.specs.InPlainWords.{FitWidths}
 use Rattle.registers.specs.declared.Registers.{Registers}
 use Rattle.door_bytes.specs.Bytes.{byte}
 use Rattle.door_bytes.specs.Image.{registers-of, image-of}
-use Rattle.door_bytes.specs.InPlainWords.{AreBytes, GoodImage, FitsImage}
+use Rattle.door_bytes.specs.InPlainWords.{GoodImage, FitsImage}
 
 -- ---- where each part lies
 

@@ -10,7 +10,7 @@ use lib.Dec.{eqb}
 use lib.ListN.{getD}
 use borrow.Author.Tests.{eqb-true}
 use Rattle.words.specs.Addresses.{word-at}
-use Rattle.words.specs.Bytes.{lo, hi}
+use Rattle.words.specs.Bytes.{lo, hi, AreBytes}
 use Rattle.words.proofs.Choices.{either-way, same-or-not}
 use Rattle.words.proofs.MemoryWords.{stored-elsewhere}
 use Rattle.control.specs.Control.{closes, fetches}
@@ -25,7 +25,6 @@ use Rattle.port.proofs.DataRegister.{read-keeps-memory}
 use Rattle.door_bytes.specs.Bytes.{words-of, bytes-of, byte}
 use Rattle.door_bytes.specs.Image.{registers-of}
 use Rattle.door_bytes.specs.Door.{misfit, call-memory}
-use Rattle.door_bytes.specs.InPlainWords.{AreBytes}
 use Rattle.door_bytes.proofs.WordsAndBytes.{low-byte-first, high-byte-second, bytes-of-words}
 use Rattle.door_bytes.proofs.Numbers.{fitting, unfit-refused}
 use Rattle.door_bytes.proofs.Refusals.{refuses}

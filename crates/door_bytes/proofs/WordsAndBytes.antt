@@ -5,11 +5,10 @@ use native.Mathlib.Omega.{arith}
 use mathlib.Core.Path.{_≡_, refl, sym, ap, _∙_}
 use mathlib.Core.List.{List, [], _∷_}
 use lib.ListN.{length, getD}
-use Rattle.words.specs.Bytes.{lo, hi}
+use Rattle.words.specs.Bytes.{lo, hi, AreBytes}
 use Rattle.words.specs.Memory.{AreWords}
 use Rattle.words.proofs.Lanes.{low-of, high-of, whole-word}
 use Rattle.door_bytes.specs.Bytes.{words-of, bytes-of, byte}
-use Rattle.door_bytes.specs.InPlainWords.{AreBytes}
 
 half : (k : ℕ) → suc (suc k) / 2 ≡ suc (k / 2)
 half k = omega arith

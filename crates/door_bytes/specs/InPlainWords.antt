@@ -1,5 +1,4 @@
 -- What the laws of the door say in plain words.
---   AreBytes b                    every number of the list is one of 8 bits, as what a C program lends always is
 --   GoodImage i                   nine bytes, hollow byte 0 or 1, bit 10 clear
 --   Fitting image memory          a call that number 11 does not refuse
 --   Misfit image memory           one of the four faults that number 11 tells
@@ -16,9 +15,6 @@ use Rattle.registers.specs.InPlainWords.{FitWidths, TenClear}
 use Rattle.registers.specs.declared.Registers.{Registers}
 use Rattle.door_bytes.specs.Bytes.{byte}
 use Rattle.door_bytes.specs.Image.{registers-of}
-
-abbrev pub AreBytes : List ℕ → Type 0
-AreBytes b = (k : ℕ) → byte b k < 256
 
 pub record GoodImage (image : List ℕ) : Type 0 where
   pub nine-bytes : length image ≡ 9

@@ -7,7 +7,7 @@ use mathlib.Core.Path.{_≡_, refl, sym, ap, _∙_, subst}
 use mathlib.Core.List.{List, [], _∷_, _++_, map}
 use lib.ListN.{length, take, drop, getD}
 use lib.Seq.{drop-cons, take-at, drop-at}
-use Rattle.transcript_bytes.specs.Lists.{Lists, lists, size, entry-at, entries-from, entries-in, over, with-entries}
+use Rattle.transcript_bytes.specs.Lists.{Lists, lists, size, entry-at, entries-from, entries-in, over, columns, with-entries}
 use Rattle.transcript_bytes.specs.InPlainWords.{first-places, later-places}
 use Rattle.transcript_bytes.specs.declared.Entry.{Entry}
 
@@ -43,11 +43,6 @@ module _ (l : Lists) where
   words-in = column-is l (λ (e : Entry). e .word) (l .words) (λ i. refl) 0 (size l) (omega arith)
 
 -- ---- lists of entries' parts
-abbrev pub columns : List Entry → Lists
-columns es =
-    lists (map (λ (e : Entry). e .kind) es) (map (λ (e : Entry). e .register) es) (map (λ (e : Entry). e .lanes) es)
-    (map (λ (e : Entry). e .word) es)
-
 shifted : (e : Entry) (es : List Entry) (i n : ℕ) → entries-from (columns (e ∷ es)) (suc i) n ≡ entries-from (columns es) i n
 unfolding entries-from
 shifted e es i zero = refl

@@ -10,9 +10,11 @@ use mathlib.Core.Logic.{_⊎_, inl, inr, ⊎-elim, _≢_}
 use lib.Dec.{ltb}
 use lib.ListN.{length, getD, length-append}
 use borrow.Author.Tests.{lt-ltb, le-ltb}
+use Rattle.words.specs.Bytes.{AreBytes}
 use Rattle.words.proofs.Choices.{less-or-not}
 use Rattle.transcript_bytes.specs.Format.{groups}
-use Rattle.transcript_bytes.specs.InPlainWords.{AreBytes, Continued, Spelled, value-of, Says}
+use Rattle.transcript_bytes.specs.InPlainWords.{Continued, Spelled, value-of, Says}
+use Rattle.transcript_bytes.proofs.Bytes.{bytes-none, bytes-cons, bytes-first}
 
 -- ---- groups, by how many there are
 pub one-group : (v : ℕ) → v < 128 → groups v ≡ v ∷ []
@@ -74,12 +76,23 @@ groups-say v h =
     (λ l. ⊎-elim (says-two v l) (λ k. says-three v k h) (less-or-not v 16384))
     (less-or-not v 128)
 
+three-bytes : (a b c : ℕ) → a < 256 → b < 256 → c < 256 → AreBytes (a ∷ b ∷ c ∷ [])
+three-bytes a b c p q r = bytes-cons a (b ∷ c ∷ []) p (bytes-cons b (c ∷ []) q (bytes-cons c [] r bytes-none))
+
 -- They are bytes.
 pub groups-bytes : (v : ℕ) → v < 2097152 → AreBytes (groups v)
 groups-bytes v h =
-    ⊎-elim (λ k. subst AreBytes (sym (one-group v k)) (omega arith, tt))
-    (λ l. ⊎-elim (λ k. subst AreBytes (sym (two-groups v l k)) (omega arith, (omega arith, tt)))
-    (λ k. subst AreBytes (sym (three-groups v k)) (omega arith, (omega arith, (omega arith, tt)))) (less-or-not v 16384))
+    ⊎-elim
+    (λ k. subst AreBytes (sym (one-group v k)) (bytes-cons v [] (omega arith) bytes-none))
+    (λ l.
+    ⊎-elim
+    (λ k.
+    subst AreBytes (sym (two-groups v l k))
+    (bytes-cons (128 + v / 128) (v % 128 ∷ []) (omega arith) (bytes-cons (v % 128) [] (omega arith) bytes-none)))
+    (λ k.
+    subst AreBytes (sym (three-groups v k))
+    (three-bytes (128 + v / 16384) (128 + v / 128 % 128) (v % 128) (omega arith) (omega arith) (omega arith)))
+    (less-or-not v 16384))
     (less-or-not v 128)
 
 -- ---- whatever says a number is its groups
@@ -102,26 +115,22 @@ only [] g b c h d v =
     sym (ap groups e ∙ one-group g h)
 only (a ∷ []) g b c h d v =
     let e : value-of (a ∷ g ∷ []) ≡ a % 128 * 128 + g = value-two a g ∙ (omega arith) in
-    let f = first-group a (b .0) (c .0) d in
+    let f = first-group a (b 0) (c .0) d in
     let x : 128 + (a % 128 * 128 + g) / 128 ≡ a = omega arith in
     let y : (a % 128 * 128 + g) % 128 ≡ g = omega arith in
     sym (ap groups e ∙ two-groups (a % 128 * 128 + g) (omega arith) (omega arith) ∙ rw (x, y))
 only (a ∷ k ∷ []) g b c h d v =
     let e : value-of (a ∷ k ∷ g ∷ []) ≡ a % 128 * 16384 + k % 128 * 128 + g = value-three a k g ∙ (omega arith) in
-    let f = first-group a (b .0) (c .0) d in
+    let f = first-group a (b 0) (c .0) d in
     let x : 128 + (a % 128 * 16384 + k % 128 * 128 + g) / 16384 ≡ a = omega arith in
-    let y : 128 + (a % 128 * 16384 + k % 128 * 128 + g) / 128 % 128 ≡ k = omega (arith, b .1 .0, c .1 .0) in
+    let y : 128 + (a % 128 * 16384 + k % 128 * 128 + g) / 128 % 128 ≡ k = omega (arith, b 1, c .1 .0) in
     let z : (a % 128 * 16384 + k % 128 * 128 + g) % 128 ≡ g = omega arith in
     sym (ap groups e ∙ three-groups (a % 128 * 16384 + k % 128 * 128 + g) (omega arith) ∙ rw (x, y, z))
 only (a ∷ k ∷ j ∷ rest) g b c h d v =
-    let f = first-group a (b .0) (c .0) d in
+    let f = first-group a (b 0) (c .0) d in
     let n : 3 ≤ length (k ∷ j ∷ rest ++ (g ∷ [])) = simp length-append (omega arith) in
     let l = long a (k ∷ j ∷ rest ++ (g ∷ [])) (f .0) n in
     absurd (omega arith)
-
-bytes-before : (first s : List ℕ) → AreBytes (first ++ s) → AreBytes first
-bytes-before [] s b = tt
-bytes-before (x ∷ first) s b = (b .0, bytes-before first s (b .1))
 
 -- Bytes that say a number below 65,536 are its groups.
 pub said-by-groups : (s : List ℕ) (v : ℕ) → AreBytes s → Says s v → v < 65536 → s ≡ groups v
@@ -131,6 +140,6 @@ said-by-groups s v b q h =
     let small : value-of (p .first ++ (p .last ∷ [])) < 65536 =
     subst (λ (n : ℕ). n < 65536) (sym (ap value-of (sym (p .all)) ∙ q .value)) h in
     p .all
-    ∙ only (p .first) (p .last) (bytes-before (p .first) (p .last ∷ []) w) (p .continued) (p .ends)
+    ∙ only (p .first) (p .last) (bytes-first (p .first) (p .last ∷ []) w) (p .continued) (p .ends)
     (λ e. q .unpadded (ap (λ (t : List ℕ). getD t 0 0) (p .all) ∙ e)) small
     ∙ ap groups (ap value-of (sym (p .all)) ∙ q .value)

@@ -1,13 +1,20 @@
-pub mod One
+-- ---- numbers
+pub mod Bytes
 pub mod Groups
 pub mod NumberRead
+-- ---- the reader, on a number, a record and a whole string
 pub mod ThroughNumbers
 pub mod Judged
 pub mod ThroughRecords
 pub mod Divided
 pub mod ReadExactly
-pub mod OneEncoding
+-- ---- the writer
 pub mod WrittenExactly
-pub mod Columns
+-- ---- between the two
+pub mod OneEncoding
 pub mod RoundTrips
+-- ---- the lists, the contracts, worked examples
+pub mod Columns
 pub mod Promised
+pub mod One
+pub mod Holds

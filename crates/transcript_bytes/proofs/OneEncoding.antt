@@ -7,10 +7,12 @@ use mathlib.Core.List.{List, [], _∷_, _++_, append-nil}
 use mathlib.Core.Logic.{_⊎_, ⊎-elim, _↔_}
 use lib.Dec.{eqb}
 use borrow.Author.Tests.{eq-eqb, ne-eqb}
+use Rattle.words.specs.Bytes.{AreBytes}
 use Rattle.words.proofs.Choices.{same-or-not}
 use Rattle.transcript_bytes.specs.Format.{head-of, groups, record-of, transcript-of}
-use Rattle.transcript_bytes.specs.InPlainWords.{AreBytes, Says, Good, AllGood, GoodRecord, a-read, a-write, Sound, nothing, and-more}
+use Rattle.transcript_bytes.specs.InPlainWords.{Says, Good, AllGood, GoodRecord, a-read, a-write, Sound, nothing, and-more}
 use Rattle.transcript_bytes.specs.declared.Entry.{Entry}
+use Rattle.transcript_bytes.proofs.Bytes.{bytes-none, bytes-first, bytes-second, bytes-joined}
 use Rattle.transcript_bytes.proofs.Groups.{groups-say, groups-bytes, said-by-groups}
 use Rattle.transcript_bytes.proofs.Judged.{head-range}
 
@@ -44,14 +46,6 @@ transcript-sound [] g = nothing
 transcript-sound (e ∷ es) g = and-more (record-good e (g .0)) (transcript-sound es (g .1))
 
 -- ---- and the other way round
-pub bytes-first : (s t : List ℕ) → AreBytes (s ++ t) → AreBytes s
-bytes-first [] t b = tt
-bytes-first (x ∷ s) t b = (b .0, bytes-first s t (b .1))
-
-pub bytes-second : (s t : List ℕ) → AreBytes (s ++ t) → AreBytes t
-bytes-second [] t b = b
-bytes-second (x ∷ s) t b = bytes-second s t (b .1)
-
 -- A good record is that of its entry, and the entry is good.
 pub good-record-is : (s : List ℕ) (e : Entry) → AreBytes s → GoodRecord s e → Good e × (s ≡ record-of e)
 good-record-is s e b (a-read g z h) =
@@ -72,26 +66,23 @@ sound-is _ _ b (and-more {r} {s} {e} {es} g q) =
     let y = sound-is s es (bytes-second r s b) q in
     ((x .0, y .0), ap (λ (l : List ℕ). l ++ s) (x .1) ∙ ap (λ (l : List ℕ). record-of e ++ l) (y .1))
 
--- What is written is bytes.
-append-bytes : (s t : List ℕ) → AreBytes s → AreBytes t → AreBytes (s ++ t)
-append-bytes [] t a b = b
-append-bytes (x ∷ s) t a b = (a .0, append-bytes s t (a .1) b)
-
+-- ---- bytes
 record-bytes : (e : Entry) → Good e → AreBytes (record-of e)
 unfolding record-of
 record-bytes e g =
     let r = head-range e g in
-    append-bytes (groups (head-of e)) (cond (eqb (e .kind) 1) (groups (e .word)) []) (groups-bytes (head-of e) (omega arith))
+    bytes-joined (groups (head-of e)) (cond (eqb (e .kind) 1) (groups (e .word)) []) (groups-bytes (head-of e) (omega arith))
     (word (eqb (e .kind) 1))
   where
     word : (t : Bool) → AreBytes (cond t (groups (e .word)) [])
     word true = groups-bytes (e .word) (omega (arith, g .word))
-    word false = tt
+    word false = bytes-none
 
+-- What is written of good entries is bytes.
 pub transcript-bytes : (es : List Entry) → AllGood es → AreBytes (transcript-of es)
 unfolding transcript-of
-transcript-bytes [] g = tt
-transcript-bytes (e ∷ es) g = append-bytes (record-of e) (transcript-of es) (record-bytes e (g .0)) (transcript-bytes es (g .1))
+transcript-bytes [] g = bytes-none
+transcript-bytes (e ∷ es) g = bytes-joined (record-of e) (transcript-of es) (record-bytes e (g .0)) (transcript-bytes es (g .1))
 
 -- Two sound strings of bytes with the same entries are one.
 pub one-encoding : (s t : List ℕ) (es : List Entry) → AreBytes s → AreBytes t → Sound s es → Sound t es → s ≡ t

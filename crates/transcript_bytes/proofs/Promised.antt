@@ -10,15 +10,16 @@ use lib.Dec.{eqb}
 use lib.ListN.{length, take, drop}
 use lib.Seq.{take-append-seam, drop-append-seam}
 use borrow.Author.Tests.{eq-eqb, ne-eqb}
+use Rattle.words.specs.Bytes.{AreBytes}
 use Rattle.transcript_bytes.specs.Format.{transcript-of}
-use Rattle.transcript_bytes.specs.InPlainWords.{AreBytes, AllGood, Sound, Written, ReadAs, first-places, later-places}
+use Rattle.transcript_bytes.specs.InPlainWords.{AllGood, Sound, Written, ReadAs, first-places, later-places}
 use Rattle.transcript_bytes.specs.InPlainWords as plain
-use Rattle.transcript_bytes.specs.Lists.{Lists, size, entries-in, over, with-entries}
+use Rattle.transcript_bytes.specs.Lists.{Lists, size, entries-in, over, columns, with-entries}
 use Rattle.transcript_bytes.specs.Reading.{entries-read, refusal-read, read-answer, lists-after, ReadTranscript}
 use Rattle.transcript_bytes.specs.Writing.{refused, accepted, write-answer, bytes-after, WroteTranscript}
 use Rattle.transcript_bytes.specs.declared.Entry.{Entry}
 use Rattle.transcript_bytes.specs.declared.Transcribed.{Transcribed}
-use Rattle.transcript_bytes.proofs.Columns.{length-entries, columns, size-columns, entries-columns, first-are-columns, columns-first, later-stay}
+use Rattle.transcript_bytes.proofs.Columns.{length-entries, size-columns, entries-columns, first-are-columns, columns-first, later-stay}
 use Rattle.transcript_bytes.proofs.OneEncoding.{transcript-sound, sound-is, one-encoding}
 use Rattle.transcript_bytes.proofs.ReadExactly.{reads-exactly, sound-exactly}
 use Rattle.transcript_bytes.proofs.WrittenExactly.{bad-number, writes-exactly}

@@ -72,6 +72,7 @@ sound-if s (then-bad es t u n e q b) z = let x = reads-bad s t u es n e q b in a
 
 -- A string is sound, and the entries are those that are read, exactly if the reader finds no bad record.
 pub sound-exactly : (s : List ℕ) (es : List Entry) → Sound s es ↔ (refusal-read s ≡ 0) × (entries-read s ≡ es)
-sound-exactly s es =
-    (λ q. (ap ended (reads-sound s es q), ap (λ (a : Reading). a .got) (reads-sound s es q)),
-    λ h. subst (Sound s) (h .1) (sound-if s (divided s) (h .0)))
+sound-exactly s es = (
+  λ q. (ap ended (reads-sound s es q), ap (λ (a : Reading). a .got) (reads-sound s es q)),
+  λ h. subst (Sound s) (h .1) (sound-if s (divided s) (h .0)),
+)

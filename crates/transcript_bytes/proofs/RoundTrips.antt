@@ -3,8 +3,9 @@
 use Prim.Native.Nat.{ℕ}
 use mathlib.Core.Path.{_≡_, refl, sym, ap, _∙_}
 use mathlib.Core.List.{List}
+use Rattle.words.specs.Bytes.{AreBytes}
 use Rattle.transcript_bytes.specs.Format.{transcript-of}
-use Rattle.transcript_bytes.specs.InPlainWords.{AreBytes, AllGood}
+use Rattle.transcript_bytes.specs.InPlainWords.{AllGood}
 use Rattle.transcript_bytes.specs.Reading.{entries-read, refusal-read}
 use Rattle.transcript_bytes.specs.declared.Entry.{Entry}
 use Rattle.transcript_bytes.proofs.OneEncoding.{transcript-sound, sound-is}

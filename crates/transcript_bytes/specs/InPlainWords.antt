@@ -1,5 +1,4 @@
 -- The format of a transcript in plain words, record by record: what the laws say of writer and reader. Document 02, request (ii).
---   AreBytes s            every number of the string is a byte, as what is lent always is
 --   Continued s           every byte of s has the top bit set
 --   Spelled s             s is the bytes of one number: some with the top bit set, then one without
 --   value-of s            the number that they spell, of any length
@@ -24,10 +23,6 @@ use Rattle.transcript_bytes.specs.Lists.{Lists, lists}
 use Rattle.transcript_bytes.specs.Writing.{refused, accepted}
 use Rattle.transcript_bytes.specs.declared.Entry.{Entry}
 use Rattle.transcript_bytes.specs.declared.Transcribed.{Transcribed}
-
-abbrev pub AreBytes : List ℕ → Type 0
-AreBytes [] = Unit
-AreBytes (b ∷ rest) = (b < 256) × AreBytes rest
 
 -- ---- numbers: "in groups of seven bits, most significant group first, the top bit set on all bytes but the last, no leading zero group"
 

@@ -5,3 +5,4 @@ pub mod Writing
 pub mod Reading
 -- ---- the words of the laws
 pub mod InPlainWords
+pub mod Table

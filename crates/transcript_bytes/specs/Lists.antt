@@ -6,6 +6,7 @@
 --   entries-from l i n  n entries from place i on
 --   entries-in l        all of them
 --   over new old        what a list is when others take its first places: its later places stay
+--   columns es          the four lists of some entries' parts
 --   with-entries es l   the four lists when entries take their first places
 use Prim.Native.Nat.{ℕ, zero, suc, min}
 use mathlib.Core.List.{List, [], _∷_, _++_, map}
@@ -43,11 +44,12 @@ entries-in l = entries-from l 0 (size l)
 abbrev pub over : List ℕ → List ℕ → List ℕ
 over new old = new ++ drop (length new) old
 
+abbrev pub columns : List Entry → Lists
+columns es =
+    lists (map (λ (e : Entry). e .kind) es) (map (λ (e : Entry). e .register) es) (map (λ (e : Entry). e .lanes) es)
+    (map (λ (e : Entry). e .word) es)
+
 abbrev pub with-entries : List Entry → Lists → Lists
 with-entries es l =
-    record {
-      kinds = over (map (λ (e : Entry). e .kind) es) (l .kinds);
-      registers = over (map (λ (e : Entry). e .register) es) (l .registers);
-      lanes = over (map (λ (e : Entry). e .lanes) es) (l .lanes);
-      words = over (map (λ (e : Entry). e .word) es) (l .words);
-    }
+    lists (over (columns es .kinds) (l .kinds)) (over (columns es .registers) (l .registers)) (over (columns es .lanes) (l .lanes))
+    (over (columns es .words) (l .words))

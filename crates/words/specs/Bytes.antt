@@ -1,14 +1,17 @@
 -- Bytes, lanes and bits of a 16-bit word: document 01, 'Memory and addresses' and, for lanes, 'The four host registers'.
 --   lo w, hi w               the low and the high byte of a word
 --   bit w i                  bit i of a word
+--   AreBytes b               every number of the list is one of 8 bits, as what is lent as bytes always is
 --   takes-low, takes-high    these lanes select the low byte, the high byte
 --   are-lanes n              n is 1, 2 or 3
 --   lay lanes old l h        the word old with its selected bytes made l (the low one) and h (the high one)
 --   shown lanes w            a word as an answer shows it
 --   replaced lanes old new   the word old after a write of new
-use Prim.Native.Nat.{ℕ, _+_, _*_, _/_, _%_, _^_}
+use Prim.Native.Nat.{ℕ, _+_, _*_, _/_, _%_, _^_, _<_}
 use mathlib.Core.Bool.{Bool, cond, _||_}
+use mathlib.Core.List.{List}
 use lib.Dec.{eqb}
+use lib.ListN.{getD}
 
 abbrev pub lo : ℕ → ℕ
 lo w = w % 256
@@ -19,6 +22,9 @@ hi w = w / 256 % 256
 -- "bit 0 the least significant"
 unfoldable pub bit : ℕ → ℕ → Bool
 bit w i = eqb (w / 2 ^ i % 2) 1
+
+abbrev pub AreBytes : List ℕ → Type 0
+AreBytes b = (k : ℕ) → getD b k 0 < 256
 
 -- "Lanes: 1 is the low byte, 2 the high, 3 both"
 unfoldable pub takes-low : ℕ → Bool

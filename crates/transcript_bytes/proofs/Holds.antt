@@ -1,0 +1,15 @@
+-- The worked examples hold, in one statement: worked out by the definitions, the table is what it was. By computation.
+use mathlib.Core.Path.{_≡_, refl}
+use mathlib.Core.List.{map}
+use Rattle.words.specs.Bytes.{are-lanes}
+use Rattle.transcript_bytes.specs.Format.{groups, record-of, transcript-of}
+use Rattle.transcript_bytes.specs.Lists.{entries-from}
+use Rattle.transcript_bytes.specs.Reading.{with-group, head-read, word-read, step, feed, feeds, read-answer, lists-after}
+use Rattle.transcript_bytes.specs.Writing.{no-record, entry-refusal, first-bad, write-answer, bytes-after}
+use Rattle.transcript_bytes.specs.Table.{worked, reads, writes, table}
+
+pub table-holds : map worked table ≡ table
+unfolding
+    table reads writes are-lanes groups record-of transcript-of entries-from with-group head-read word-read step feed feeds read-answer
+    lists-after no-record entry-refusal first-bad write-answer bytes-after
+table-holds = refl
