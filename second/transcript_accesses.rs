@@ -27,10 +27,13 @@ pub fn spoil(random: &Random, access: &mut Access, part: usize) {
     let pick = |near: &[u32], far: u32| random.pick(&[random.pick(near), far]);
     access[part] = match part {
         0 => pick(&[2, 3], far(random, kind, 1)),
-        1 => pick(&[4, 5, 8], far(random, register, 2)),
-        2 => pick(&[0, 0, 4, 5], far(random, lanes, 2)),
+        1 => pick(&[4, 4, 7], far(random, register, 2)),
+        2 => pick(&[0, 0, 4, 4, 7], far(random, lanes, 2)),
         _ if kind == 0 => pick(&[1, 128, 65_535, 65_536], far(random, 0, 0)),
-        _ => pick(&[65_536, 65_536 + random.below(300)], far(random, word, 16)),
+        _ => pick(
+            &[65_536, 65_536, 65_536 + random.below(300)],
+            far(random, word, 16),
+        ),
     };
 }
 

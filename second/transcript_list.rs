@@ -28,13 +28,10 @@ impl List {
         ];
         let counted = self.lent.into_iter().zip(uncounted);
         let counted = counted.map(|(lent, faults)| side.instead(faults, PLACES, lent));
-        let longest = self.lent.into_iter().max();
-        let shortest = instead(Fault::TranscriptLongest, longest, counted.min());
-        instead(
-            Fault::TranscriptLengthByKinds,
-            self.lent[0],
-            shortest.unwrap_or(0),
-        )
+        let shortest = counted.min().unwrap_or(0);
+        let longest = self.lent.into_iter().max().unwrap_or(0);
+        let length = instead(Fault::TranscriptLongest, longest, shortest);
+        instead(Fault::TranscriptLengthByKinds, self.lent[0], length)
     }
 
     pub fn get(&self, k: usize) -> Access {

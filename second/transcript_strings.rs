@@ -126,7 +126,7 @@ fn bad(random: &Random) -> Vec<u8> {
         return bytes;
     }
     let head = 8 + random.below(24);
-    let mut bytes = match random.below(2) {
+    let mut bytes = match random.below(3) {
         0 => vec![random.below(8) as u8],
         _ => bad_number(random, head, 32),
     };
@@ -144,11 +144,11 @@ fn bad(random: &Random) -> Vec<u8> {
 fn bad_number(random: &Random, good: u32, limit: u32) -> Vec<u8> {
     let zeros = 1 + random.below(3) as usize;
     let led = |bytes: Vec<u8>| [vec![MORE; zeros], bytes].concat();
-    match random.below(10) {
-        0 | 1 => led(encoded(good.into())),
-        2 => led(encoded(random.below(8).into())),
-        3 => led(too_large(random, good, limit)),
-        4 | 5 => long(random, good),
+    match random.below(12) {
+        0..=2 => led(encoded(good.into())),
+        3 => led(encoded(random.below(8).into())),
+        4 => led(too_large(random, good, limit)),
+        5 | 6 => long(random, good),
         _ => too_large(random, good, limit),
     }
 }
@@ -161,14 +161,16 @@ fn too_large(random: &Random, good: u32, limit: u32) -> Vec<u8> {
     let high = u128::from(random.pick(&[1, 1, 1 + random.below(300)]));
     let far = u128::from(good) + (high << bits);
     let any = u128::from(random.bits()) + u128::from(limit);
-    encoded(random.pick(&[near.into(), near.into(), far, far, far, any]))
+    let near = u128::from(near);
+    encoded(random.pick(&[near, near, near, far, far, far, any]))
 }
 
 /// A number of many bytes, the last groups of which are those of a good one.
 fn long(random: &Random, good: u32) -> Vec<u8> {
     let end = encoded(good.into());
     let zeros = random.pick(&[3, 5, 10]) - end.len();
-    let most = random.pick(&[4, 12, 58 - zeros as u32]);
+    let all = 58 - zeros as u32;
+    let most = random.pick(&[4, all, all]);
     let first = random.pick(&[MORE, 0x81, 0xFF, 0x81 + random.below(127) as u8]);
     let length = random.below(most) as usize;
     let middle = match random.below(2) {

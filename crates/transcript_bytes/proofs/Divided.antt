@@ -83,9 +83,9 @@ module _ (s h rest : List ℕ) (e : s ≡ h ++ rest) (p : Spelled h) (d : getD h
       let bad-word : (n : ℕ) → plain.BadWord w n → FrontRecord s =
       λ n x. refuse n (subst (λ (t : List ℕ). BadRecord (h ++ t) n) (sym f) (word-bad more (write-head o) q x)) in
       ⊎-elim
-      (λ z. bad-word 21 (plain.BadWord.padded z))
+      (λ z. bad-word _ (plain.BadWord.padded z))
       (λ z. ⊎-elim
-      (λ x. bad-word 22 (plain.BadWord.over z x))
+      (λ x. bad-word _ (plain.BadWord.over z x))
       (λ x.
       good (h ++ w) more (entry-of v (value-of w)) (e ∙ ap (λ (t : List ℕ). h ++ t) f ∙ sym (append-assoc h w more))
       (let a = has-a-byte h p in let c = length-append h w in omega arith)
@@ -107,10 +107,10 @@ front-head s h rest e p =
     let bad-head : (n : ℕ) → plain.BadHead h n → FrontRecord s =
     λ n x. bad n (subst (λ (t : List ℕ). BadRecord t n) (sym e) (head-bad rest p x)) in
     ⊎-elim
-    (λ z. bad-head 21 (plain.BadHead.padded z))
+    (λ z. bad-head _ (plain.BadHead.padded z))
     (λ z. ⊎-elim
-    (λ x. bad-head 22 (plain.BadHead.over z x))
-    (λ x. ⊎-elim (λ y. bad-head 23 (plain.BadHead.off-lanes z y)) (λ y. front-good s h rest e p z y x) (less-or-not (value-of h) 8))
+    (λ x. bad-head _ (plain.BadHead.over z x))
+    (λ x. ⊎-elim (λ y. bad-head _ (plain.BadHead.off-lanes z y)) (λ y. front-good s h rest e p z y x) (less-or-not (value-of h) 8))
     (less-or-not 31 (value-of h)))
     (same-or-not (getD h 0 0) 128)
 

@@ -76,13 +76,13 @@ module _ (e : Entry) where
   with-lanes : e .register ≤ 3 → 1 ≤ e .lanes → e .lanes ≤ 3 → Judged
   with-lanes r a l =
       ⊎-elim
-      (λ h. inr (22, long-word r a l h))
+      (λ h. inr (_, long-word r a l h))
       (λ w. ⊎-elim
-      (λ h. inr (22, no-kind r a l h))
+      (λ h. inr (_, no-kind r a l h))
       (λ k. ⊎-elim
       (λ z. ⊎-elim
       (λ q. inl (record { kind = k; register = r; a-lane = a; lanes = l; word = w; read = λ _. q }))
-      (λ d. inr (22, read-with-word r a l z d))
+      (λ d. inr (_, read-with-word r a l z d))
       (same-or-not (e .word) 0))
       (λ d. inl (record { kind = k; register = r; a-lane = a; lanes = l; word = w; read = λ z. absurd (d z) }))
       (same-or-not (e .kind) 0))
@@ -92,13 +92,13 @@ module _ (e : Entry) where
   with-register : e .register ≤ 3 → Judged
   with-register r =
       ⊎-elim
-      (λ z. inr (3, no-lanes r (inl z)))
-      (λ d. ⊎-elim (λ h. inr (3, no-lanes r (inr h))) (λ l. with-lanes r (omega (arith, d)) l) (less-or-not 3 (e .lanes)))
+      (λ z. inr (_, no-lanes r (inl z)))
+      (λ d. ⊎-elim (λ h. inr (_, no-lanes r (inr h))) (λ l. with-lanes r (omega (arith, d)) l) (less-or-not 3 (e .lanes)))
       (same-or-not (e .lanes) 0)
 
   -- Every entry is good or bad.
   pub good-or-bad : Judged
-  good-or-bad = ⊎-elim (λ h. inr (2, no-register h)) with-register (less-or-not 3 (e .register))
+  good-or-bad = ⊎-elim (λ h. inr (_, no-register h)) with-register (less-or-not 3 (e .register))
 
 -- ---- a list of entries
 -- Where all are good, none is bad.
