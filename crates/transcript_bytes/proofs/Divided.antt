@@ -7,7 +7,7 @@ use mathlib.Core.Logic.{_⊎_, ⊎-elim, _≢_}
 use lib.ListN.{length, getD, length-append}
 use Rattle.words.proofs.Choices.{less-or-not, same-or-not}
 use Rattle.transcript_bytes.specs.Format.{head-of}
-use Rattle.transcript_bytes.specs.InPlainWords.{Continued, Spelled, value-of, Says, Good, GoodRecord, a-read, a-write}
+use Rattle.transcript_bytes.specs.InPlainWords.{Continued, Spelled, value-of, Unpadded, Says, Good, GoodRecord, a-read, a-write}
 use Rattle.transcript_bytes.specs.InPlainWords.{Sound, nothing, and-more, WriteHead}
 use Rattle.transcript_bytes.specs.InPlainWords.{BadRecord, head-cut, head-bad, word-cut, word-bad}
 use Rattle.transcript_bytes.specs.InPlainWords as plain
@@ -59,10 +59,10 @@ entry-head v w h =
     let c : v ≡ v % 2 + 2 * (v / 2) = omega arith in
     omega arith
 
-says-head : (h : List ℕ) (w : ℕ) → Spelled h → getD h 0 0 ≢ 128 → value-of h ≤ 31 → Says h (head-of (entry-of (value-of h) w))
+says-head : (h : List ℕ) (w : ℕ) → Spelled h → Unpadded h → value-of h ≤ 31 → Says h (head-of (entry-of (value-of h) w))
 says-head h w p d l = record { spelled = p; unpadded = d; value = sym (entry-head (value-of h) w l) }
 
-module _ (s h rest : List ℕ) (e : s ≡ h ++ rest) (p : Spelled h) (d : getD h 0 0 ≢ 128) (l : 8 ≤ value-of h) (k : value-of h ≤ 31) where
+module _ (s h rest : List ℕ) (e : s ≡ h ++ rest) (p : Spelled h) (d : Unpadded h) (l : 8 ≤ value-of h) (k : value-of h ≤ 31) where
   abbrev v : ℕ
   v = value-of h
 

@@ -10,7 +10,7 @@ use lib.ListN.{getD}
 use borrow.Author.Tests.{lt-ltb, le-ltb, eq-eqb, ne-eqb}
 use Rattle.words.proofs.Choices.{less-or-not}
 use Rattle.transcript_bytes.specs.Format.{head-of}
-use Rattle.transcript_bytes.specs.InPlainWords.{Spelled, value-of, Padded, Says, Good, BadHead, BadWord}
+use Rattle.transcript_bytes.specs.InPlainWords.{Spelled, value-of, Padded, Unpadded, Says, Good, BadHead, BadWord}
 use Rattle.transcript_bytes.specs.InPlainWords as plain
 use Rattle.transcript_bytes.specs.Reading.{none, entry-of, head-read, word-read}
 use Rattle.transcript_bytes.specs.declared.Entry.{Entry}
@@ -32,7 +32,7 @@ module _ (s : List ℕ) (p : Spelled s) where
   marked : Padded s → grown-by none s .padded ≡ true
   marked h = mark ∙ eq-eqb (getD s 0 0) 128 h
 
-  unmarked : getD s 0 0 ≢ 128 → grown-by none s .padded ≡ false
+  unmarked : Unpadded s → grown-by none s .padded ≡ false
   unmarked h = mark ∙ ne-eqb (getD s 0 0) 128 h
 
   value-over : (limit : ℕ) → limit < 65536 → limit < value-of s → ltb limit (grown-by none s .value) ≡ true

@@ -2,7 +2,7 @@
 --   Continued s           every byte of s has the top bit set
 --   Spelled s             s is the bytes of one number: some with the top bit set, then one without
 --   value-of s            the number that they spell, of any length
---   Padded s              its first group is 0, and another follows
+--   Padded s, Unpadded s  its first group is 0, and another follows; it is not so
 --   Says s v              s spells v, with no leading zero group
 --   Good e, AllGood es    an entry that has a record; a list of them
 --   BadEntry e n          an entry that has none, and the number with which it is refused
@@ -46,9 +46,12 @@ value-of (b ∷ rest) = b % 128 * 128 ^ length rest + value-of rest
 abbrev pub Padded : List ℕ → Type 0
 Padded s = getD s 0 0 ≡ 128
 
+abbrev pub Unpadded : List ℕ → Type 0
+Unpadded s = getD s 0 0 ≢ 128
+
 pub record Says (s : List ℕ) (v : ℕ) : Type 0 where
   pub spelled : Spelled s
-  pub unpadded : getD s 0 0 ≢ 128
+  pub unpadded : Unpadded s
   pub value : value-of s ≡ v
 
 -- ---- entries
@@ -98,12 +101,12 @@ pub data Sound : List ℕ → List Entry → Type 0 where
 
 pub data BadHead (s : List ℕ) : ℕ → Type 0 where
   padded : Padded s → BadHead s 21
-  over : getD s 0 0 ≢ 128 → 31 < value-of s → BadHead s 22
-  off-lanes : getD s 0 0 ≢ 128 → value-of s < 8 → BadHead s 23
+  over : Unpadded s → 31 < value-of s → BadHead s 22
+  off-lanes : Unpadded s → value-of s < 8 → BadHead s 23
 
 pub data BadWord (s : List ℕ) : ℕ → Type 0 where
   padded : Padded s → BadWord s 21
-  over : getD s 0 0 ≢ 128 → 65535 < value-of s → BadWord s 22
+  over : Unpadded s → 65535 < value-of s → BadWord s 22
 
 -- an odd head is a write's
 pub record WriteHead (s : List ℕ) : Type 0 where
