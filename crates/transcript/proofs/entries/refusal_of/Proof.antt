@@ -1,34 +1,47 @@
-use borrow.Author.Needs.{needs}
+-- `transcript::entries::refusal_of` meets its contract: the tests are the definition's, in its order.
+use mathlib.Core.Path.{_≡_, sym, _∙_}
+use borrow.Author.Tests.{not-true, not-false}
+use Rattle.transcript_bytes.specs.Writing.{entry-refusal}
 use Rattle.transcript.proofs.entries.refusal_of.Statement.{statement}
 use Rattle.transcript.proofs.entries.refusal_of.Tie as tie
-use Rattle.transcript.proofs.entries.refusal_of.Reads as reads
-use Rattle.transcript.proofs.entries.refusal_of.Lts as lts
-use Rattle.transcript.proofs.entries.has_no_record.Reads as has-no-record-reads
-use Rattle.words.proofs.names_lanes.Reads as names-lanes-reads
 
--- src/entries.rt:50:20
 names-lanes-requires : tie.Need-names-lanes-requires
-names-lanes-requires c κs = search needs
+names-lanes-requires c κs = tt
 
--- src/entries.rt:52:9
 returns : tie.Need-returns
-returns c = ?
+unfolding entry-refusal
+returns c = rw (c .if1 .taken)
 
--- src/entries.rt:55:9
 returns-2 : tie.Need-returns-2
-returns-2 c = ?
+unfolding entry-refusal
+returns-2 c =
+    let known = c .before in
+    rw (known .if1 .left, sym (known .before .names-lanes .ensures) ∙ not-true _ (c .if2 .taken))
 
--- src/entries.rt:57:8
 has-no-record-requires : tie.Need-has-no-record-requires
-has-no-record-requires c κs = search needs
+has-no-record-requires c κs = tt
 
--- src/entries.rt:58:9
 returns-3 : tie.Need-returns-3
-returns-3 c = ?
+unfolding entry-refusal
+returns-3 c =
+    let named = c .before .before in
+    let known = named .before in
+    rw (
+      known .if1 .left,
+      sym (known .before .names-lanes .ensures) ∙ not-false _ (named .if2 .left),
+      sym (c .before .has-no-record .ensures) ∙ c .if3 .taken,
+    )
 
--- src/entries.rt:46:1
 returns-4 : tie.Need-returns-4
-returns-4 c = ?
+unfolding entry-refusal
+returns-4 c =
+    let named = c .before .before in
+    let known = named .before in
+    rw (
+      known .if1 .left,
+      sym (known .before .names-lanes .ensures) ∙ not-false _ (named .if2 .left),
+      sym (c .before .has-no-record .ensures) ∙ c .if3 .left,
+    )
 
 pub refusal-of-spec : {M : Type 1} → statement M
 refusal-of-spec =

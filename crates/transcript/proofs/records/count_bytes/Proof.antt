@@ -1,34 +1,38 @@
-use borrow.Author.Needs.{needs}
+-- `transcript::records::count_bytes` meets its contract: the groups of the head and, for a write, those of the word.
+use native.Mathlib.Omega.{arith}
+use mathlib.Core.Path.{_≡_, sym}
+use Rattle.transcript.proofs.Groups.{few-groups}
+use Rattle.transcript.proofs.RecordBytes.{length-of-write, of-other}
 use Rattle.transcript.proofs.records.count_bytes.Statement.{statement}
 use Rattle.transcript.proofs.records.count_bytes.Tie as tie
-use Rattle.transcript.proofs.records.count_bytes.Reads as reads
-use Rattle.transcript.proofs.records.count_bytes.Lts as lts
-use Rattle.transcript.proofs.records.count_groups.Reads as count-groups-reads
-use Rattle.transcript.proofs.records.head_of.Reads as head-of-reads
 
--- src/records.rt:36:29
 head-of-requires : tie.Need-head-of-requires
-head-of-requires c κs = search needs
+head-of-requires c κs = c .pre
 
--- src/records.rt:36:9
 count-groups-requires : tie.Need-count-groups-requires
-count-groups-requires c κs = search needs
+count-groups-requires c κs = tt
 
--- src/records.rt:38:23
 count-groups-requires-2 : tie.Need-count-groups-requires-2
-count-groups-requires-2 c κs = search needs
+count-groups-requires-2 c κs = tt
 
--- src/records.rt:38:16
 add-result : tie.Need-add-result
-add-result c = ?
+add-result c =
+    let head = c .before .before .before in
+    omega (arith, head .count-groups .ensures, few-groups (head .before .head-of .result), c .count-groups2 .ensures, few-groups (head .before .before .args .e .word))
 
--- src/records.rt:38:9
 returns : tie.Need-returns
-returns c = ?
+returns c =
+    let counted = c .before .before .before in
+    let e = counted .before .before .args .e in
+    let head = rw (counted .before .head-of .ensures) at (counted .count-groups .ensures) in
+    rw (length-of-write e (c .before .if1 .taken), head, c .count-groups2 .ensures)
 
--- src/records.rt:32:1
 returns-2 : tie.Need-returns-2
-returns-2 c = ?
+returns-2 c =
+    let counted = c .before .before in
+    let e = counted .before .before .args .e in
+    let head = rw (counted .before .head-of .ensures) at (counted .count-groups .ensures) in
+    rw (of-other e (c .if1 .left)) head
 
 pub count-bytes-spec : {M : Type 1} → statement M
 count-bytes-spec =

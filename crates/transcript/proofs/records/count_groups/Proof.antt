@@ -1,19 +1,18 @@
+-- `transcript::records::count_groups` meets its contract: the tests are those by which a number is put in groups.
+use mathlib.Core.Path.{sym, ap}
+use lib.ListN.{length}
+use Rattle.transcript.proofs.Groups.{one-group, two-groups, three-groups}
 use Rattle.transcript.proofs.records.count_groups.Statement.{statement}
 use Rattle.transcript.proofs.records.count_groups.Tie as tie
-use Rattle.transcript.proofs.records.count_groups.Reads as reads
-use Rattle.transcript.proofs.records.count_groups.Lts as lts
 
--- src/records.rt:23:9
 returns : tie.Need-returns
-returns c = ?
+returns c = sym (ap length (one-group _ (c .if1 .taken)))
 
--- src/records.rt:26:9
 returns-2 : tie.Need-returns-2
-returns-2 c = ?
+returns-2 c = sym (ap length (two-groups _ (c .before .if1 .left) (c .if2 .taken)))
 
--- src/records.rt:19:1
 returns-3 : tie.Need-returns-3
-returns-3 c = ?
+returns-3 c = sym (ap length (three-groups _ (c .if2 .left)))
 
 pub count-groups-spec : {M : Type 1} → statement M
 count-groups-spec = tie.close (tie.spec returns returns-2 returns-3)
