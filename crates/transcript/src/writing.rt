@@ -1,11 +1,10 @@
 // The writer: a list of accesses to the bytes of its transcript. Document 02, request (ii).
 ghost use mathlib.Core.Path.{_≡_};
 ghost use Prim.Native.Nat.{_≤_};
-ghost use lib.ListN.{length};
 ghost use Rattle.transcript_bytes.specs.Format.{transcript-of};
 ghost use Rattle.transcript_bytes.specs.Lists.{lists, size, entries-from, over};
 ghost use Rattle.transcript_bytes.specs.Writing.{refused, WroteTranscript};
-ghost use Rattle.transcript.specs.Parts.{AllGood, judged};
+ghost use Rattle.transcript.specs.Parts.{judged, Writable};
 use crate::entries::count_entries;
 use crate::entries::refusal_of;
 use crate::entries::take_entry;
@@ -35,7 +34,8 @@ fn refuse(number: u8, place: usize) -> Transcribed
 // The first n entries, judged one after the other up to the first bad one.
 fn judge(kinds: &[u32], registers: &[u32], lanes: &[u32], words: &[u32], n: usize) -> Judged
     requires { ⌜ n ≤ size (lists (now kinds) (now registers) (now lanes) (now words)) ⌝ }
-    ensures { λ o. ⌜ o ≡ judged 0 0 (entries-from (lists (now (kinds .entry)) (now (registers .entry)) (now (lanes .entry)) (now (words .entry))) 0 n) ⌝ }
+    ensures { λ o. ⌜ o ≡ judged 0 0 (entries-from
+        (lists (now (kinds .entry)) (now (registers .entry)) (now (lanes .entry)) (now (words .entry))) 0 n) ⌝ }
 {
     let mut wanted = 0;
     let mut i = 0;
@@ -61,11 +61,17 @@ fn judge(kinds: &[u32], registers: &[u32], lanes: &[u32], words: &[u32], n: usiz
 }
 
 // Puts the records of the first n entries at the front of the bytes; the bytes behind them stay.
-fn put_records(kinds: &[u32], registers: &[u32], lanes: &[u32], words: &[u32], n: usize, bytes: &mut [u8])
-    requires { ⌜ n ≤ size (lists (now kinds) (now registers) (now lanes) (now words)) ⌝ }
-    requires { ⌜ AllGood (entries-from (lists (now kinds) (now registers) (now lanes) (now words)) 0 n) ⌝ }
-    requires { ⌜ length (transcript-of (entries-from (lists (now kinds) (now registers) (now lanes) (now words)) 0 n)) ≤ length (now bytes) ⌝ }
-    ensures { λ _. ⌜ now (bytes .exit) ≡ over (transcript-of (entries-from (lists (now (kinds .entry)) (now (registers .entry)) (now (lanes .entry)) (now (words .entry))) 0 n)) (now (bytes .entry)) ⌝ }
+fn put_records(
+    kinds: &[u32],
+    registers: &[u32],
+    lanes: &[u32],
+    words: &[u32],
+    n: usize,
+    bytes: &mut [u8],
+)
+    requires { ⌜ Writable (lists (now kinds) (now registers) (now lanes) (now words)) n (now bytes) ⌝ }
+    ensures { λ _. ⌜ now (bytes .exit) ≡ over (transcript-of (entries-from
+        (lists (now (kinds .entry)) (now (registers .entry)) (now (lanes .entry)) (now (words .entry))) 0 n)) (now (bytes .entry)) ⌝ }
 {
     let mut at = 0;
     for i in 0..n {
@@ -76,8 +82,16 @@ fn put_records(kinds: &[u32], registers: &[u32], lanes: &[u32], words: &[u32], n
 
 // Writes a list of accesses as the bytes of its transcript: the list's length is the shortest of the four. It is judged whole before
 // a byte is written.
-pub fn write_transcript(kinds: &[u32], registers: &[u32], lanes: &[u32], words: &[u32], bytes: &mut [u8]) -> Transcribed
-    ensures { λ o. ⌜ WroteTranscript (lists (now (kinds .entry)) (now (registers .entry)) (now (lanes .entry)) (now (words .entry))) (now (bytes .entry)) o (now (bytes .exit)) ⌝ }
+pub fn write_transcript(
+    kinds: &[u32],
+    registers: &[u32],
+    lanes: &[u32],
+    words: &[u32],
+    bytes: &mut [u8],
+) -> Transcribed
+    ensures { λ o. ⌜ WroteTranscript
+        (lists (now (kinds .entry)) (now (registers .entry)) (now (lanes .entry)) (now (words .entry))) (now (bytes .entry))
+        o (now (bytes .exit)) ⌝ }
 {
     let n = count_entries(kinds, registers, lanes, words);
     let judged = judge(kinds, registers, lanes, words, n);

@@ -1,56 +1,105 @@
+-- `transcript::writing::judge` meets its contract: before place i all the entries are found to be what those from there on are, with
+-- the bytes wanted so far. A record has at most four bytes, as an entry's place in a list has, so that their sum can't wrap.
+use Prim.Native.Nat.{ℕ, suc, _+_, _-_, _*_, _≤_, _<_}
+use native.Mathlib.Numerals.{add-one}
+use native.Mathlib.Omega.{arith}
+use mathlib.Core.Path.{_≡_, refl, sym, ap, _∙_}
+use mathlib.Core.List.{_∷_}
+use mathlib.Core.Logic.{_≢_}
+use lib.ListN.{length}
+use Rattle.transcript_bytes.specs.Format.{record-of}
+use Rattle.transcript_bytes.specs.Lists.{Lists, lists, entry-at, entries-from}
+use Rattle.transcript_bytes.specs.Writing.{entry-refusal}
+use Rattle.transcript_bytes.specs.declared.Entry.{Entry}
+use Rattle.transcript.specs.Parts.{judged}
+use Rattle.transcript.proofs.EntriesLeft.{left, all-left, next-left, none-left}
+use Rattle.transcript.proofs.Judging.{found, good-one, bad-one}
+use Rattle.transcript.proofs.RecordBytes.{short}
 use Rattle.transcript.proofs.writing.judge.Statement.{statement}
 use Rattle.transcript.proofs.writing.judge.Tie as tie
-use Rattle.transcript.proofs.writing.judge.Reads as reads
-use Rattle.transcript.proofs.writing.judge.Lts as lts
-use Rattle.transcript.proofs.entries.refusal_of.Reads as refusal-of-reads
-use Rattle.transcript.proofs.entries.take_entry.Reads as take-entry-reads
-use Rattle.transcript.proofs.records.count_bytes.Reads as count-bytes-reads
+
+record Judging (l : Lists) (n wanted i : ℕ) : Type 0 where
+  most : i ≤ n
+  few : wanted ≤ 4 * i
+  same : judged 0 0 (entries-from l 0 n) ≡ judged i wanted (left l n i)
+
+begun : (l : Lists) (n : ℕ) → Judging l n 0 0
+begun l n = record { most = omega arith; few = omega arith; same = ap (judged 0 0) (sym (all-left l n)) }
+
+module _ {l : Lists} {n wanted i : ℕ} (j : Judging l n wanted i) where
+  module _ (more : i < n) (e : Entry) (here : e ≡ entry-at l i) where
+    first : judged 0 0 (entries-from l 0 n) ≡ judged i wanted (e ∷ left l n (i + 1))
+    first = rw here (j .same ∙ ap (judged i wanted) (next-left l n i more))
+
+    -- entry i is good
+    went-on : entry-refusal e ≡ 0 → (m : ℕ) → m ≡ length (record-of e) → Judging l n (wanted + m) (i + 1)
+    went-on z m h =
+        let rest = left l n (i + 1) in
+        record {
+          most = omega arith;
+          few = omega (arith, j .few, short e z);
+          same = rw h (first ∙ good-one i wanted e rest z ∙ ap (λ (k : ℕ). judged k (wanted + length (record-of e)) rest) (sym (add-one i)));
+        }
+
+    -- it is bad
+    fell : entry-refusal e ≢ 0 → found (entry-refusal e) i wanted ≡ judged 0 0 (entries-from l 0 n)
+    fell d = sym (first ∙ bad-one i wanted e _ d)
+
+  -- all are judged
+  ended : n ≤ i → found 0 0 wanted ≡ judged 0 0 (entries-from l 0 n)
+  unfolding judged
+  ended h = sym (j .same ∙ ap (judged i wanted) (none-left l n i h))
 
 abbrev Inv-loop : tie.InvT-loop
-Inv-loop kinds registers lanes words n wanted₀ i₀ wanted i = ?
+Inv-loop kinds registers lanes words n wanted₀ i₀ wanted i = Judging (lists kinds registers lanes words) n wanted i
 
 abbrev μ-loop : tie.MeasureT-loop
-μ-loop kinds registers lanes words n wanted₀ i₀ wanted i = ?
+μ-loop kinds registers lanes words n wanted₀ i₀ wanted i = n - i
 
--- src/writing.rt:42:5
 loop-holds : tie.Need-loop-holds Inv-loop μ-loop
-loop-holds c = ?
+loop-holds c = begun _ _
 
--- src/writing.rt:44:9
 add-i : tie.Need-add-i Inv-loop μ-loop
-add-i c = ?
+add-i c = omega arith
 
--- src/writing.rt:45:13
 take-entry-requires : tie.Need-take-entry-requires Inv-loop μ-loop
-take-entry-requires c κs = ?
+take-entry-requires c κs =
+    omega (arith, c .loop-test .taken, c .before .before .before .before .before .before .pre)
 
--- src/writing.rt:46:13
 refusal-of-requires : tie.Need-refusal-of-requires Inv-loop μ-loop
-refusal-of-requires c κs = ?
+refusal-of-requires c κs = tt
 
--- src/writing.rt:48:13
 returns : tie.Need-returns Inv-loop μ-loop
-returns c = ?
+returns c =
+    let judged = c .before in
+    let taken = judged .before in
+    let e = judged .refusal-of .ensures in
+    rw e (fell (taken .before .before .loop .inv) (taken .before .loop-test .taken) _ (taken .take-entry .ensures) (λ z. c .if1 .taken (e ∙ z)))
 
--- src/writing.rt:54:19
 count-bytes-requires : tie.Need-count-bytes-requires Inv-loop μ-loop
-count-bytes-requires c κs = ?
+count-bytes-requires c κs = sym (c .before .refusal-of .ensures) ∙ c .if1 .left
 
--- src/writing.rt:54:9
 add-wanted : tie.Need-add-wanted Inv-loop μ-loop
-add-wanted c = ?
+add-wanted c =
+    let judged = c .before .before in
+    let taken = judged .before in
+    let j = taken .before .before .loop .inv in
+    let start = taken .before .before .before .before .before .before .before in
+    let four = short (taken .take-entry .result) (sym (judged .refusal-of .ensures) ∙ c .before .if1 .left) in
+    omega (arith, j .few, taken .before .loop-test .taken, start .pre, c .count-bytes .ensures, four)
 
--- src/writing.rt:42:5
 loop-less : tie.Need-loop-less Inv-loop μ-loop
-loop-less c = ?
+loop-less c = omega arith
 
--- src/writing.rt:42:5
 loop-again : tie.Need-loop-again Inv-loop μ-loop
-loop-again c = ?
+loop-again c =
+    let judged = c .before .before in
+    let taken = judged .before in
+    went-on (taken .before .before .loop .inv) (taken .before .loop-test .taken) _ (taken .take-entry .ensures)
+    (sym (judged .refusal-of .ensures) ∙ c .before .if1 .left) _ (c .count-bytes .ensures)
 
--- src/writing.rt:36:1
 returns-2 : tie.Need-returns-2 Inv-loop μ-loop
-returns-2 c = ?
+returns-2 c = ended (c .before .loop .inv) (c .loop-test .left)
 
 pub judge-spec : {M : Type 1} → statement M
 judge-spec =

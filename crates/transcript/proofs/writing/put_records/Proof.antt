@@ -11,27 +11,27 @@ Inv-loop kinds registers lanes words n bytes₀ at₀ i₀ bytes at i = ?
 abbrev μ-loop : tie.MeasureT-loop
 μ-loop kinds registers lanes words n bytes₀ at₀ i₀ bytes at i = ?
 
--- src/writing.rt:71:5
+-- src/writing.rt:77:5
 loop-holds : tie.Need-loop-holds Inv-loop μ-loop
 loop-holds c = ?
 
--- src/writing.rt:72:13
+-- src/writing.rt:78:13
 take-entry-requires : tie.Need-take-entry-requires Inv-loop μ-loop
 take-entry-requires c κs = ?
 
--- src/writing.rt:73:9
+-- src/writing.rt:79:9
 put-record-requires : tie.Need-put-record-requires Inv-loop μ-loop
 put-record-requires c κs = ?
 
--- src/writing.rt:71:9
+-- src/writing.rt:77:9
 add-i : tie.Need-add-i Inv-loop μ-loop
 add-i c = ?
 
--- src/writing.rt:71:5
+-- src/writing.rt:77:5
 loop-less : tie.Need-loop-less Inv-loop μ-loop
 loop-less c = ?
 
--- src/writing.rt:71:5
+-- src/writing.rt:77:5
 loop-again : tie.Need-loop-again Inv-loop μ-loop
 loop-again c = ?
 
