@@ -7,3 +7,4 @@ pub mod RecordBytes
 pub mod EntriesLeft
 pub mod Judging
 pub mod Putting
+pub mod Written

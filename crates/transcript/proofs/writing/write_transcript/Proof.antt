@@ -1,48 +1,52 @@
-use borrow.Author.Needs.{needs}
+-- `transcript::writing::write_transcript` meets its contract: the whole list is judged, and by what is found it is refused or written.
+use native.Mathlib.Omega.{arith}
+use Rattle.transcript.proofs.Written.{bad-entry, too-small, can-write, written}
 use Rattle.transcript.proofs.writing.write_transcript.Statement.{statement}
 use Rattle.transcript.proofs.writing.write_transcript.Tie as tie
-use Rattle.transcript.proofs.writing.write_transcript.Reads as reads
-use Rattle.transcript.proofs.writing.write_transcript.Lts as lts
-use Rattle.transcript.proofs.entries.count_entries.Reads as count-entries-reads
-use Rattle.transcript.proofs.writing.judge.Reads as judge-reads
-use Rattle.transcript.proofs.writing.put_records.Reads as put-records-reads
-use Rattle.transcript.proofs.writing.refuse.Reads as refuse-reads
 
--- src/writing.rt:96:9
 count-entries-requires : tie.Need-count-entries-requires
-count-entries-requires c κs = search needs
+count-entries-requires c κs = tt
 
--- src/writing.rt:97:9
 judge-requires : tie.Need-judge-requires
-judge-requires c κs = search needs
+judge-requires c κs = omega (arith, c .count-entries .ensures)
 
--- src/writing.rt:99:9
 refuse-requires : tie.Need-refuse-requires
-refuse-requires c κs = search needs
+refuse-requires c κs = tt
 
--- src/writing.rt:99:9
 returns : tie.Need-returns
-returns c = ?
+returns c =
+    let judged = c .before .before .before in
+    let found = rw (judged .before .count-entries .ensures) at (judged .judge .ensures) in
+    rw (c .refuse .ensures) (bad-entry _ _ _ found (c .before .if1 .taken))
 
--- src/writing.rt:102:9
 refuse-requires-2 : tie.Need-refuse-requires-2
-refuse-requires-2 c κs = search needs
+refuse-requires-2 c κs = tt
 
--- src/writing.rt:102:9
 returns-2 : tie.Need-returns-2
-returns-2 c = ?
+returns-2 c =
+    let none = c .before .before .before in
+    let judged = none .before .before in
+    let found = rw (judged .before .count-entries .ensures) at (judged .judge .ensures) in
+    rw (c .refuse2 .ensures) (too-small _ _ _ found (none .if1 .left) (c .before .if2 .taken))
 
--- src/writing.rt:104:5
 put-records-requires : tie.Need-put-records-requires
-put-records-requires c κs = ?
+put-records-requires c κs =
+    let none = c .before .before .before in
+    let judged = none .before .before in
+    let found = rw (judged .before .count-entries .ensures) at (judged .judge .ensures) in
+    rw (judged .before .count-entries .ensures) (can-write _ _ _ found (none .if1 .left) (c .before .if2 .left))
 
--- src/writing.rt:85:1
 same-length : tie.Need-same-length
-same-length c = search needs
+same-length c = omega arith
 
--- src/writing.rt:85:1
 returns-3 : tie.Need-returns-3
-returns-3 c = ?
+returns-3 c =
+    let put = c .before .before in
+    let none = put .before .before .before .before in
+    let judged = none .before .before in
+    let n = judged .before .count-entries .ensures in
+    let found = rw n at (judged .judge .ensures) in
+    written _ _ _ found (none .if1 .left) (put .before .before .if2 .left) (rw n at (put .put-records .ensures))
 
 pub write-transcript-spec : {M : Type 1} → statement M
 write-transcript-spec =
