@@ -20,7 +20,11 @@ sets-behind o at (b ∷ t) u =
 pub put-behind : {o o′ o″ : List ℕ} {at e f : ℕ} {t u : List ℕ} → Put o at t e o′ → Put o′ e u f o″ → Put o at (t ++ u) f o″
 put-behind {o = o} {at = at} {e = e} {t = t} {u = u} x y =
     record {
-      end = y .end ∙ ap (λ (n : ℕ). n + length u) (x .end) ∙ add-assoc at (length t) (length u) ∙ ap (λ (n : ℕ). at + n) (sym (length-append t u));
+      end =
+          y .end ∙
+          ap (λ (n : ℕ). n + length u) (x .end) ∙
+          add-assoc at (length t) (length u) ∙
+          ap (λ (n : ℕ). at + n) (sym (length-append t u));
       bytes =
           y .bytes ∙
           ap (λ (l : List ℕ). sets l e u) (x .bytes) ∙

@@ -23,7 +23,7 @@ left-as-it-was l out number place d e =
     let no = ne-eqb _ 0 (λ z. d (ap (λ (a : Transcribed). a .number) e ∙ z)) in
     record { answer = e; bytes = rw no }
 
-module _ (l : Lists) (out : List ℕ) (o : Judged) (e : o ≡ judged 0 0 (entries-in l)) where
+module _ (l : Lists) (out : List ℕ) {o : Judged} (e : o ≡ judged 0 0 (entries-in l)) where
   abbrev text : List ℕ
   text = transcript-of (entries-in l)
 

@@ -20,7 +20,13 @@ pub(crate) fn count_entries(kinds: &[u32], registers: &[u32], lanes: &[u32], wor
 }
 
 // Entry i of the four lists.
-pub(crate) fn take_entry(kinds: &[u32], registers: &[u32], lanes: &[u32], words: &[u32], i: usize) -> Entry
+pub(crate) fn entry_at(
+    kinds: &[u32],
+    registers: &[u32],
+    lanes: &[u32],
+    words: &[u32],
+    i: usize,
+) -> Entry
     requires { ⌜ i < size (lists (now kinds) (now registers) (now lanes) (now words)) ⌝ }
     ensures { λ e. ⌜ e ≡ entry-at (lists (now (kinds .entry)) (now (registers .entry)) (now (lanes .entry)) (now (words .entry))) i ⌝ }
 {

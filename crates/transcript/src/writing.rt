@@ -6,18 +6,18 @@ ghost use Rattle.transcript_bytes.specs.Lists.{lists, size, entries-from, over}
 ghost use Rattle.transcript_bytes.specs.Writing.{refused, WroteTranscript};
 ghost use Rattle.transcript.specs.Parts.{judged, Writable};
 use crate::entries::count_entries;
+use crate::entries::entry_at;
 use crate::entries::refusal_of;
-use crate::entries::take_entry;
 use crate::records::count_bytes;
 use crate::records::put_record;
 use transcript_bytes::Transcribed;
 
 // What judging a list finds: the refusal of its first bad entry and that one's index, or 0 and 0. `wanted` is the bytes that the
 // records of the entries before it have.
-pub(crate) struct Judged {
-    pub(crate) number: u8,
-    pub(crate) place: usize,
-    pub(crate) wanted: usize,
+struct Judged {
+    number: u8,
+    place: usize,
+    wanted: usize,
 }
 
 // The answer of a refusal.
@@ -42,7 +42,7 @@ fn judge(kinds: &[u32], registers: &[u32], lanes: &[u32], words: &[u32], n: usiz
     while i < n {
         let place = i;
         i += 1;
-        let e = take_entry(kinds, registers, lanes, words, place);
+        let e = entry_at(kinds, registers, lanes, words, place);
         let number = refusal_of(e);
         if number != 0 {
             return Judged {
@@ -75,7 +75,7 @@ fn put_records(
 {
     let mut at = 0;
     for i in 0..n {
-        let e = take_entry(kinds, registers, lanes, words, i);
+        let e = entry_at(kinds, registers, lanes, words, i);
         at = put_record(bytes, at, e);
     }
 }

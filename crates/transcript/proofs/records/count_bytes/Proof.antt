@@ -18,7 +18,9 @@ count-groups-requires-2 c κs = tt
 add-result : tie.Need-add-result
 add-result c =
     let head = c .before .before .before in
-    omega (arith, head .count-groups .ensures, few-groups (head .before .head-of .result), c .count-groups2 .ensures, few-groups (head .before .before .args .e .word))
+    let few = few-groups (head .before .head-of .result) in
+    let few2 = few-groups (head .before .before .args .e .word) in
+    omega (arith, head .count-groups .ensures, c .count-groups2 .ensures, few, few2)
 
 returns : tie.Need-returns
 returns c =

@@ -35,15 +35,16 @@ module _ {l : Lists} {n wanted i : ℕ} (j : Judging l n wanted i) where
     went-on : entry-refusal e ≡ 0 → (m : ℕ) → m ≡ length (record-of e) → Judging l n (wanted + m) (i + 1)
     went-on z m h =
         let rest = left l n (i + 1) in
+        let one = first ∙ good-one i wanted e rest z in
         record {
           most = omega arith;
           few = omega (arith, j .few, short e z);
-          same = rw h (first ∙ good-one i wanted e rest z ∙ ap (λ (k : ℕ). judged k (wanted + length (record-of e)) rest) (sym (add-one i)));
+          same = rw h (one ∙ ap (λ (k : ℕ). judged k (wanted + length (record-of e)) rest) (sym (add-one i)));
         }
 
     -- it is bad
-    fell : entry-refusal e ≢ 0 → found (entry-refusal e) i wanted ≡ judged 0 0 (entries-from l 0 n)
-    fell d = sym (first ∙ bad-one i wanted e _ d)
+    fell : (number : ℕ) → number ≡ entry-refusal e → number ≢ 0 → found number i wanted ≡ judged 0 0 (entries-from l 0 n)
+    fell number h d = rw h (sym (first ∙ bad-one i wanted e _ (λ z. d (h ∙ z))))
 
   -- all are judged
   ended : n ≤ i → found 0 0 wanted ≡ judged 0 0 (entries-from l 0 n)
@@ -62,8 +63,8 @@ loop-holds c = begun _ _
 add-i : tie.Need-add-i Inv-loop μ-loop
 add-i c = omega arith
 
-take-entry-requires : tie.Need-take-entry-requires Inv-loop μ-loop
-take-entry-requires c κs =
+entry-at-requires : tie.Need-entry-at-requires Inv-loop μ-loop
+entry-at-requires c κs =
     omega (arith, c .loop-test .taken, c .before .before .before .before .before .before .pre)
 
 refusal-of-requires : tie.Need-refusal-of-requires Inv-loop μ-loop
@@ -73,8 +74,8 @@ returns : tie.Need-returns Inv-loop μ-loop
 returns c =
     let judged = c .before in
     let taken = judged .before in
-    let e = judged .refusal-of .ensures in
-    rw e (fell (taken .before .before .loop .inv) (taken .before .loop-test .taken) _ (taken .take-entry .ensures) (λ z. c .if1 .taken (e ∙ z)))
+    fell (taken .before .before .loop .inv) (taken .before .loop-test .taken) _ (taken .entry-at .ensures)
+    _ (judged .refusal-of .ensures) (c .if1 .taken)
 
 count-bytes-requires : tie.Need-count-bytes-requires Inv-loop μ-loop
 count-bytes-requires c κs = sym (c .before .refusal-of .ensures) ∙ c .if1 .left
@@ -85,7 +86,7 @@ add-wanted c =
     let taken = judged .before in
     let j = taken .before .before .loop .inv in
     let start = taken .before .before .before .before .before .before .before in
-    let four = short (taken .take-entry .result) (sym (judged .refusal-of .ensures) ∙ c .before .if1 .left) in
+    let four = short (taken .entry-at .result) (sym (judged .refusal-of .ensures) ∙ c .before .if1 .left) in
     omega (arith, j .few, taken .before .loop-test .taken, start .pre, c .count-bytes .ensures, four)
 
 loop-less : tie.Need-loop-less Inv-loop μ-loop
@@ -95,7 +96,7 @@ loop-again : tie.Need-loop-again Inv-loop μ-loop
 loop-again c =
     let judged = c .before .before in
     let taken = judged .before in
-    went-on (taken .before .before .loop .inv) (taken .before .loop-test .taken) _ (taken .take-entry .ensures)
+    went-on (taken .before .before .loop .inv) (taken .before .loop-test .taken) _ (taken .entry-at .ensures)
     (sym (judged .refusal-of .ensures) ∙ c .before .if1 .left) _ (c .count-bytes .ensures)
 
 returns-2 : tie.Need-returns-2 Inv-loop μ-loop
@@ -109,7 +110,7 @@ judge-spec =
     μ-loop
     loop-holds
     add-i
-    take-entry-requires
+    entry-at-requires
     refusal-of-requires
     returns
     count-bytes-requires

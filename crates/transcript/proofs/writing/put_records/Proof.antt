@@ -80,8 +80,8 @@ abbrev μ-loop : tie.MeasureT-loop
 loop-holds : tie.Need-loop-holds Inv-loop μ-loop
 loop-holds c = begun (c .before .before .before .before .before .pre)
 
-take-entry-requires : tie.Need-take-entry-requires Inv-loop μ-loop
-take-entry-requires c κs =
+entry-at-requires : tie.Need-entry-at-requires Inv-loop μ-loop
+entry-at-requires c κs =
     omega (arith, c .loop-test .taken, c .before .before .before .before .before .before .before .pre .there)
 
 put-record-requires : tie.Need-put-record-requires Inv-loop μ-loop
@@ -89,7 +89,7 @@ put-record-requires c κs =
     let taken = c .before in
     let w = taken .before .before .loop .inv in
     let more = taken .before .loop-test .taken in
-    (is-good w more _ (taken .take-entry .ensures) .0, has-room w more _ (taken .take-entry .ensures))
+    (is-good w more _ (taken .entry-at .ensures) .0, has-room w more _ (taken .entry-at .ensures))
 
 add-i : tie.Need-add-i Inv-loop μ-loop
 add-i c = omega arith
@@ -101,7 +101,7 @@ loop-again : tie.Need-loop-again Inv-loop μ-loop
 loop-again c =
     let put = c .before .before in
     let taken = put .before .before in
-    turned (taken .before .before .loop .inv) (taken .before .loop-test .taken) _ (taken .take-entry .ensures) (put .put-record .ensures)
+    turned (taken .before .before .loop .inv) (taken .before .loop-test .taken) _ (taken .entry-at .ensures) (put .put-record .ensures)
 
 same-length : tie.Need-same-length Inv-loop μ-loop
 same-length c = c .before .loop .inv .room
@@ -116,7 +116,7 @@ put-records-spec =
     Inv-loop
     μ-loop
     loop-holds
-    take-entry-requires
+    entry-at-requires
     put-record-requires
     add-i
     loop-less
