@@ -30,7 +30,7 @@ module _ (k wanted : ℕ) (e : Entry) (rest : List Entry) where
   bad-one d = rw (ne-eqb (entry-refusal e) 0 d)
 
 -- ---- a whole list
--- None is bad: all are good, their records want so many bytes, and the answer is one that is given where none is bad.
+-- None is bad: their records are counted to the last, and the writer answers what it does where none is bad.
 pub record Passed (k wanted : ℕ) (es : List Entry) : Type 0 where
   pub good : AllGood es
   pub wants : judged k wanted es .wanted ≡ wanted + length (transcript-of es)

@@ -1,11 +1,12 @@
 -- Texts put into the bytes, one behind another.
 use Prim.Native.Nat.{ℕ, suc, _+_, _≤_}
-use native.Mathlib.Nat.{add-zero, zero-add, add-suc, suc-add, add-assoc}
+use native.Mathlib.Nat.{add-zero, zero-add, add-assoc}
 use native.Mathlib.Omega.{arith}
-use mathlib.Core.Path.{_≡_, refl, sym, ap, _∙_}
+use mathlib.Core.Path.{_≡_, sym, ap, _∙_}
 use mathlib.Core.List.{List, [], _∷_, _++_}
 use lib.ListN.{length, drop, set, length-append}
 use lib.Seq.{sets, length-sets, sets-eq}
+use Rattle.words.proofs.One.{one-value}
 use Rattle.transcript_bytes.specs.Lists.{over}
 use Rattle.transcript.specs.Parts.{Put}
 
@@ -35,6 +36,10 @@ put-behind {o = o} {at = at} {e = e} {t = t} {u = u} x y =
 -- There are as many bytes as there were.
 pub put-length : {o o′ t : List ℕ} {at e : ℕ} → Put o at t e o′ → length o′ ≡ length o
 put-length {o = o} {t = t} {at = at} x = ap length (x .bytes) ∙ length-sets o at t
+
+-- Any two outcomes of it are one.
+pub one-put : {o o′ o″ t : List ℕ} {at e f : ℕ} → Put o at t e o′ → Put o at t f o″ → (e ≡ f) × (o′ ≡ o″)
+one-put x y = (one-value (x .end) (y .end), one-value (x .bytes) (y .bytes))
 
 -- A text that is put at the front takes the first places, and the later ones stay.
 pub put-front : (o t : List ℕ) → length t ≤ length o → sets o 0 t ≡ over t o

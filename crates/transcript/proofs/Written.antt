@@ -6,7 +6,7 @@ use mathlib.Core.Path.{_≡_, sym, ap, _∙_}
 use mathlib.Core.List.{List}
 use mathlib.Core.Logic.{_≢_}
 use lib.ListN.{length}
-use borrow.Author.Tests.{eq-eqb, ne-eqb, lt-ltb, le-ltb}
+use borrow.Author.Tests.{ne-eqb, lt-ltb, le-ltb}
 use Rattle.transcript_bytes.specs.Format.{transcript-of}
 use Rattle.transcript_bytes.specs.Lists.{Lists, size, entries-in, over}
 use Rattle.transcript_bytes.specs.Writing.{refused, accepted, fitting, write-answer, bytes-after, WroteTranscript}

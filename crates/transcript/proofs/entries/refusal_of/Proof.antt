@@ -1,5 +1,5 @@
 -- `transcript::entries::refusal_of` meets its contract: the tests are the definition's, in its order.
-use mathlib.Core.Path.{_≡_, sym, _∙_}
+use mathlib.Core.Path.{sym, _∙_}
 use borrow.Author.Tests.{not-true, not-false}
 use Rattle.transcript_bytes.specs.Writing.{entry-refusal}
 use Rattle.transcript.proofs.entries.refusal_of.Statement.{statement}

@@ -1,6 +1,5 @@
 -- `transcript::records::count_bytes` meets its contract: the groups of the head and, for a write, those of the word.
 use native.Mathlib.Omega.{arith}
-use mathlib.Core.Path.{_≡_, sym}
 use Rattle.transcript.proofs.Groups.{few-groups}
 use Rattle.transcript.proofs.RecordBytes.{length-of-write, of-other}
 use Rattle.transcript.proofs.records.count_bytes.Statement.{statement}

@@ -1,7 +1,6 @@
 -- `transcript::records::put_record` meets its contract: the head's groups and, for a write, the word's behind them.
 use native.Mathlib.Omega.{arith}
-use mathlib.Core.Path.{_≡_, sym, ap}
-use lib.ListN.{length}
+use mathlib.Core.Path.{sym}
 use Rattle.transcript.proofs.GoodEntries.{good, small-head}
 use Rattle.transcript.proofs.Putting.{put-behind, put-length}
 use Rattle.transcript.proofs.RecordBytes.{head-fits, of-write, length-of-write, of-other}

@@ -1,9 +1,9 @@
--- `transcript::writing::judge` meets its contract: before place i all the entries are found to be what those from there on are, with
--- the bytes wanted so far. A record has at most four bytes, as an entry's place in a list has, so that their sum can't wrap.
-use Prim.Native.Nat.{ℕ, suc, _+_, _-_, _*_, _≤_, _<_}
+-- `transcript::writing::judge` meets its contract: at place i all the entries are judged as those from there on, with the bytes wanted
+-- so far. A record has at most four bytes, and each number of a list takes four, so that the sum can't wrap.
+use Prim.Native.Nat.{ℕ, _+_, _-_, _*_, _≤_, _<_}
 use native.Mathlib.Numerals.{add-one}
 use native.Mathlib.Omega.{arith}
-use mathlib.Core.Path.{_≡_, refl, sym, ap, _∙_}
+use mathlib.Core.Path.{_≡_, sym, ap, _∙_}
 use mathlib.Core.List.{_∷_}
 use mathlib.Core.Logic.{_≢_}
 use lib.ListN.{length}

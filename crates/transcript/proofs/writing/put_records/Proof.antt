@@ -1,14 +1,12 @@
--- `transcript::writing::put_records` meets its contract: the records of the entries from place i on, put behind those before it, make
--- the bytes what they are to be.
+-- `transcript::writing::put_records` meets its contract: at entry i the bytes lack just the records from there on.
 use Prim.Native.Nat.{ℕ, _+_, _-_, _≤_, _<_}
 use native.Mathlib.Omega.{arith}
-use mathlib.Core.Path.{_≡_, refl, sym, ap, _∙_}
+use mathlib.Core.Path.{_≡_, refl, ap, _∙_}
 use mathlib.Core.List.{List, _∷_, _++_}
 use lib.ListN.{length, length-append}
 use lib.Seq.{sets}
 use Rattle.transcript_bytes.specs.Format.{record-of, transcript-of}
 use Rattle.transcript_bytes.specs.Lists.{Lists, lists, entry-at, entries-from, over}
-use Rattle.transcript_bytes.specs.Writing.{entry-refusal}
 use Rattle.transcript_bytes.specs.declared.Entry.{Entry}
 use Rattle.transcript.specs.Parts.{Put, AllGood, Writable}
 use Rattle.transcript.proofs.EntriesLeft.{left, all-left, next-left, none-left}
