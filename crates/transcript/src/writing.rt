@@ -12,8 +12,8 @@ use crate::records::count_bytes;
 use crate::records::put_record;
 use transcript_bytes::Transcribed;
 
-// What judging a list finds: the refusal of its first bad entry and that one's index, or 0 and 0. `wanted` is the bytes that the
-// records of the entries before it have.
+// What judging a list finds: the refusal of its first bad entry and that one's index, or 0 and 0; and how many bytes the records of the
+// entries before it have, or of all where none is bad.
 struct Judged {
     number: u8,
     place: usize,
