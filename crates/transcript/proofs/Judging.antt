@@ -1,0 +1,70 @@
+-- What judging a list finds, entry by entry; and the writer's answer by what it finds.
+use Prim.Native.Nat.{ℕ, suc, _+_}
+use native.Mathlib.Nat.{add-zero, add-assoc}
+use mathlib.Core.Path.{_≡_, refl, sym, ap, _∙_}
+use mathlib.Core.List.{List, [], _∷_}
+use mathlib.Core.Logic.{⊎-elim, _≢_}
+use lib.ListN.{length, length-append}
+use borrow.Author.Tests.{eq-eqb, ne-eqb}
+use Rattle.words.proofs.Choices.{same-or-not}
+use Rattle.transcript_bytes.specs.Format.{record-of, transcript-of}
+use Rattle.transcript_bytes.specs.Writing.{entry-refusal, refused, first-bad}
+use Rattle.transcript_bytes.specs.declared.Entry.{Entry}
+use Rattle.transcript_bytes.specs.declared.Transcribed.{Transcribed}
+use Rattle.transcript.specs.Parts.{AllGood, judged}
+use Rattle.transcript.specs.declared.writing.Judged.{Judged}
+
+abbrev pub found : ℕ → ℕ → ℕ → Judged
+found number place wanted = record { number = number; place = place; wanted = wanted }
+
+-- ---- one entry
+module _ (k wanted : ℕ) (e : Entry) (rest : List Entry) where
+  -- It is good: the others are judged.
+  pub good-one : entry-refusal e ≡ 0 → judged k wanted (e ∷ rest) ≡ judged (suc k) (wanted + length (record-of e)) rest
+  unfolding judged
+  good-one z = rw (eq-eqb (entry-refusal e) 0 z)
+
+  -- It is bad: that is found.
+  pub bad-one : entry-refusal e ≢ 0 → judged k wanted (e ∷ rest) ≡ found (entry-refusal e) k wanted
+  unfolding judged
+  bad-one d = rw (ne-eqb (entry-refusal e) 0 d)
+
+-- ---- a whole list
+-- None is bad: their records are counted to the last, and the writer answers what it does where none is bad.
+pub record Passed (k wanted : ℕ) (es : List Entry) : Type 0 where
+  pub good : AllGood es
+  pub wants : judged k wanted es .wanted ≡ wanted + length (transcript-of es)
+  pub answer : (a : Transcribed) → first-bad k es a ≡ a
+
+pub passed : (k wanted : ℕ) (es : List Entry) → judged k wanted es .number ≡ 0 → Passed k wanted es
+unfolding judged transcript-of first-bad
+passed k wanted [] z = record { good = tt; wants = sym (add-zero wanted); answer = λ a. refl }
+passed k wanted (e ∷ rest) z =
+    ⊎-elim
+    (λ g.
+    let on = good-one k wanted e rest g in
+    let p = passed (suc k) (wanted + length (record-of e)) rest (rw on at z) in
+    record {
+      good = (g, p .good);
+      wants =
+          ap (λ (o : Judged). o .wanted) on ∙
+          p .wants ∙
+          add-assoc wanted (length (record-of e)) (length (transcript-of rest)) ∙
+          ap (λ (n : ℕ). wanted + n) (sym (length-append (record-of e) (transcript-of rest)));
+      answer = λ a. rw (eq-eqb (entry-refusal e) 0 g) (p .answer a);
+    })
+    (λ d. absurd (d (rw (bad-one k wanted e rest d) at z)))
+    (same-or-not (entry-refusal e) 0)
+
+-- One is bad: the answer names it.
+pub barred : (k wanted : ℕ) (es : List Entry) → let o = judged k wanted es in o .number ≢ 0 →
+    (a : Transcribed) → first-bad k es a ≡ refused (o .number) (o .place)
+unfolding judged first-bad
+barred k wanted [] d a = absurd (d refl)
+barred k wanted (e ∷ rest) d a =
+    ⊎-elim
+    (λ g.
+    let yes = eq-eqb (entry-refusal e) 0 g in
+    rw yes (barred (suc k) (wanted + length (record-of e)) rest (λ z. d (rw (good-one k wanted e rest g) z)) a))
+    (λ b. rw (ne-eqb (entry-refusal e) 0 b))
+    (same-or-not (entry-refusal e) 0)
