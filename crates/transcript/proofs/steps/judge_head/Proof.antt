@@ -1,38 +1,49 @@
+-- `transcript::steps::judge_head` meets its contract: its tests are those of the definition, in their order.
 use borrow.Author.Needs.{needs}
+use borrow.Author.Tests.{lt-ltb, le-ltb, eq-eqb, ne-eqb}
+use Rattle.transcript_bytes.specs.Reading.{head-read}
 use Rattle.transcript.proofs.steps.judge_head.Statement.{statement}
 use Rattle.transcript.proofs.steps.judge_head.Tie as tie
-use Rattle.transcript.proofs.steps.judge_head.Reads as reads
-use Rattle.transcript.proofs.steps.judge_head.Lts as lts
-use Rattle.transcript.proofs.steps.entry_from.Reads as entry-from-reads
-use Rattle.transcript.proofs.steps.no_number.Reads as no-number-reads
 
--- src/steps.rt:64:9
 returns : tie.Need-returns
-returns c = ?
+unfolding head-read
+returns c = rw (c .if1 .taken)
 
--- src/steps.rt:67:9
 returns-2 : tie.Need-returns-2
-returns-2 c = ?
+unfolding head-read
+returns-2 c = rw (c .before .if1 .left, lt-ltb _ _ (c .if2 .taken))
 
--- src/steps.rt:70:9
 returns-3 : tie.Need-returns-3
-returns-3 c = ?
+unfolding head-read
+returns-3 c = rw (c .before .before .if1 .left, le-ltb _ _ (c .before .if2 .left), lt-ltb _ _ (c .if3 .taken))
 
--- src/steps.rt:73:28
 entry-from-requires : tie.Need-entry-from-requires
 entry-from-requires c κs = search needs
 
--- src/steps.rt:73:9
 returns-4 : tie.Need-returns-4
-returns-4 c = ?
+unfolding head-read
+returns-4 c =
+    rw (
+      c .before .before .before .before .if1 .left,
+      le-ltb _ _ (c .before .before .before .if2 .left),
+      le-ltb _ _ (c .before .before .if3 .left),
+      eq-eqb _ _ (c .before .if4 .taken),
+      c .entry-from .ensures,
+    )
 
--- src/steps.rt:75:33
 no-number-requires : tie.Need-no-number-requires
 no-number-requires c κs = search needs
 
--- src/steps.rt:59:1
 returns-5 : tie.Need-returns-5
-returns-5 c = ?
+unfolding head-read
+returns-5 c =
+    rw (
+      c .before .before .before .before .if1 .left,
+      le-ltb _ _ (c .before .before .before .if2 .left),
+      le-ltb _ _ (c .before .before .if3 .left),
+      ne-eqb _ _ (c .before .if4 .left),
+      c .no-number .ensures,
+    )
 
 pub judge-head-spec : {M : Type 1} → statement M
 judge-head-spec =

@@ -1,25 +1,24 @@
+-- `transcript::steps::judge_word` meets its contract: its tests are those of the definition, in their order.
 use borrow.Author.Needs.{needs}
+use borrow.Author.Tests.{lt-ltb, le-ltb}
+use Rattle.transcript_bytes.specs.Reading.{word-read}
 use Rattle.transcript.proofs.steps.judge_word.Statement.{statement}
 use Rattle.transcript.proofs.steps.judge_word.Tie as tie
-use Rattle.transcript.proofs.steps.judge_word.Reads as reads
-use Rattle.transcript.proofs.steps.judge_word.Lts as lts
-use Rattle.transcript.proofs.steps.entry_from.Reads as entry-from-reads
 
--- src/steps.rt:84:9
 returns : tie.Need-returns
-returns c = ?
+unfolding word-read
+returns c = rw (c .if1 .taken)
 
--- src/steps.rt:87:9
 returns-2 : tie.Need-returns-2
-returns-2 c = ?
+unfolding word-read
+returns-2 c = rw (c .before .if1 .left, lt-ltb _ _ (c .if2 .taken))
 
--- src/steps.rt:89:17
 entry-from-requires : tie.Need-entry-from-requires
 entry-from-requires c κs = search needs
 
--- src/steps.rt:79:1
 returns-3 : tie.Need-returns-3
-returns-3 c = ?
+unfolding word-read
+returns-3 c = rw (c .before .before .if1 .left, le-ltb _ _ (c .before .if2 .left), c .entry-from .ensures)
 
 pub judge-word-spec : {M : Type 1} → statement M
 judge-word-spec = tie.close (tie.spec returns returns-2 entry-from-requires returns-3)
