@@ -1,0 +1,6 @@
+-- Laws that the code of a transcript is proved by. Proofs of single functions are in the folders beside them.
+-- ---- what is read
+pub mod BadNumbers
+pub mod ReadingOn
+-- ---- what is put into the lists
+pub mod Columns
