@@ -44,6 +44,9 @@ pub record SameLengths (l₀ l : Lists) : Type 0 where
   pub lanes : length (l .lanes) ≡ length (l₀ .lanes)
   pub words : length (l .words) ≡ length (l₀ .words)
 
+pub same-size : {l₀ l : Lists} → SameLengths l₀ l → size l ≡ size l₀
+same-size k = rw (k .kinds, k .registers, k .lanes, k .words)
+
 module _ (got : List Entry) (l : Lists) where
   -- Entries that fit leave the lists as long as they were.
   pub lengths-stay : length got ≤ size l → SameLengths l (with-entries got l)

@@ -1,3 +1,19 @@
+-- `transcript::reading::fill` meets its contract: at each turn the string is read up to i, and the lists' first k places hold its entries so far.
+use Prim.Native.Nat.{ℕ, _+_, _-_, _≤_, _<_}
+use native.Mathlib.Omega.{arith}
+use mathlib.Core.Path.{_≡_, refl, sym, ap, _∙_}
+use mathlib.Core.List.{List, [], _∷_, _++_}
+use lib.ListN.{length, getD, length-append}
+use borrow.Author.Needs.{needs}
+use Rattle.transcript_bytes.specs.Lists.{Lists, lists, size, with-entries}
+use Rattle.transcript_bytes.specs.Reading.{Reading, at, start, fresh, step, entries-read}
+use Rattle.transcript_bytes.specs.declared.Entry.{Entry}
+use Rattle.transcript_bytes.specs.declared.Part.{Part}
+use Rattle.transcript_bytes.specs.declared.Step.the-variants.{Goes, Whole, Bad}
+use Rattle.transcript.specs.Parts.{with-entry}
+use Rattle.transcript.proofs.BadNumbers.{bad-has-number}
+use Rattle.transcript.proofs.Columns.{SameLengths, lengths-stay, same-size, entry-more}
+use Rattle.transcript.proofs.ReadingOn.{Reached, none-yet, one-more, at-end, at-refusal, so-far}
 use Rattle.transcript.proofs.reading.fill.Statement.{statement}
 use Rattle.transcript.proofs.reading.fill.Tie as tie
 use Rattle.transcript.proofs.reading.fill.Reads as reads
@@ -6,111 +22,159 @@ use Rattle.transcript.proofs.reading.put_entry.Reads as put-entry-reads
 use Rattle.transcript.proofs.scanning.no_part.Reads as no-part-reads
 use Rattle.transcript.proofs.steps.take_byte.Reads as take-byte-reads
 
+record Filling (s : List ℕ) (l₀ l : Lists) (p : Part) (k i : ℕ) : Type 0 where
+  got : List Entry
+  from : ℕ
+  here : Reached start s i (at got from i p 0)
+  count : k ≡ length got
+  filled : l ≡ with-entries got l₀
+
+begun : (s : List ℕ) (l : Lists) → Filling s l l fresh 0 0
+begun s l = record { got = []; from = 0; here = none-yet start s; count = refl; filled = refl }
+
+module _ {s : List ℕ} {l₀ l : Lists} {p : Part} {k i : ℕ} (f : Filling s l₀ l p k i) where
+  -- the lists are as long as they were
+  lengths : length (entries-read s) ≤ size l₀ → SameLengths l₀ l
+  lengths fit = rw (f .filled) (lengths-stay (f .got) l₀ (omega (arith, so-far (f .here))))
+
+  module _ (more : i < length s) where
+    -- the record goes on
+    goes-on : {q : Part} → step p (getD s i 0) ≡ Goes q → Filling s l₀ l q k (i + 1)
+    goes-on e = record { got = f .got; from = f .from; here = one-more (f .here) more e; count = f .count; filled = f .filled }
+
+    -- it is whole and good: its entry is one of those that fit
+    module _ (fit : length (entries-read s) ≤ size l₀) {e : Entry} (w : step p (getD s i 0) ≡ Whole e) where
+      next-fits : k < size l₀
+      next-fits = omega (arith, so-far (one-more (f .here) more w), length-append (f .got) (e ∷ []), f .count)
+
+      has-room : k < size l
+      has-room = rw (same-size (lengths fit)) next-fits
+
+      put : {l′ : Lists} → l′ ≡ with-entry l k e → Filling s l₀ l′ fresh (k + 1) (i + 1)
+      put x =
+          record {
+            got = f .got ++ (e ∷ []);
+            from = i + 1;
+            here = one-more (f .here) more w;
+            count = ap (λ (n : ℕ). n + 1) (f .count) ∙ sym (length-append (f .got) (e ∷ []));
+            filled = x ∙ rw (f .filled, f .count) (entry-more (f .got) l₀ e (omega (arith, next-fits, f .count)));
+          }
+
+    -- it is bad
+    stopped : {n : ℕ} → step p (getD s i 0) ≡ Bad n → l ≡ with-entries (entries-read s) l₀
+    stopped b =
+        f .filled ∙
+        ap (λ (r : Reading). with-entries (r .got) l₀) (sym (at-refusal (one-more (f .here) more b) (bad-has-number p (getD s i 0) b)))
+
+  -- no byte is left
+  all-read : length s ≤ i → l ≡ with-entries (entries-read s) l₀
+  all-read h = f .filled ∙ ap (λ (r : Reading). with-entries (r .got) l₀) (sym (at-end (f .here) h))
+
 abbrev Inv-loop : tie.InvT-loop
-Inv-loop bytes kinds₀ registers₀ lanes₀ words₀ part₀ k₀ i₀ kinds registers lanes words part k i = ?
+Inv-loop bytes kinds₀ registers₀ lanes₀ words₀ part₀ k₀ i₀ kinds registers lanes words part k i =
+    Filling bytes (lists kinds₀ registers₀ lanes₀ words₀) (lists kinds registers lanes words) part k i
 
 abbrev μ-loop : tie.MeasureT-loop
-μ-loop bytes kinds₀ registers₀ lanes₀ words₀ part₀ k₀ i₀ kinds registers lanes words part k i = ?
+μ-loop bytes kinds₀ registers₀ lanes₀ words₀ part₀ k₀ i₀ kinds registers lanes words part k i = length bytes - i
 
--- src/reading.rt:49:9
 no-part-requires : tie.Need-no-part-requires Inv-loop μ-loop
-no-part-requires c κs = ?
+no-part-requires c κs = tt
 
--- src/reading.rt:52:5
 loop-holds : tie.Need-loop-holds Inv-loop μ-loop
-loop-holds c = ?
+loop-holds c = rw (c .no-part .ensures) (begun _ _)
 
--- src/reading.rt:53:36
 shared-slice-read-take-byte : tie.Need-shared-slice-read-take-byte Inv-loop μ-loop
-shared-slice-read-take-byte c = ?
+shared-slice-read-take-byte c = omega arith
 
--- src/reading.rt:53:13
 take-byte-requires : tie.Need-take-byte-requires Inv-loop μ-loop
-take-byte-requires c κs = ?
+take-byte-requires c κs = tt
 
--- src/reading.rt:54:9
 add-i : tie.Need-add-i Inv-loop μ-loop
-add-i c = ?
+add-i c = omega arith
 
--- src/reading.rt:56:24
 enum-known-step : tie.Need-enum-known-step Inv-loop μ-loop
-enum-known-step c = ?
+enum-known-step c = search needs
 
--- src/reading.rt:52:5
 loop-less : tie.Need-loop-less Inv-loop μ-loop
-loop-less c = ?
+loop-less c = omega arith
 
--- src/reading.rt:52:5
 loop-again : tie.Need-loop-again Inv-loop μ-loop
-loop-again c = ?
+loop-again c =
+    let taken = c .before .before .before in
+    let test = taken .before .before in
+    goes-on (test .before .loop .inv) (test .loop-test .taken) (sym (taken .take-byte .ensures) ∙ c .before .step .given .1)
 
--- src/reading.rt:59:25
 enum-known-step-2 : tie.Need-enum-known-step-2 Inv-loop μ-loop
-enum-known-step-2 c = ?
+enum-known-step-2 c = search needs
 
--- src/reading.rt:60:17
 no-part-requires-2 : tie.Need-no-part-requires-2 Inv-loop μ-loop
-no-part-requires-2 c κs = ?
+no-part-requires-2 c κs = tt
 
--- src/reading.rt:61:17
 put-entry-requires : tie.Need-put-entry-requires Inv-loop μ-loop
-put-entry-requires c κs = ?
+put-entry-requires c κs =
+    let taken = c .before .before .before .before .before .before .before .before in
+    let test = taken .before .before in
+    let start = test .before .before .before .before .before .before .before .before in
+    has-room (test .before .loop .inv) (test .loop-test .taken) (start .pre)
+    (sym (taken .take-byte .ensures) ∙ c .before .before .before .before .before .before .step2 .given .1)
 
--- src/reading.rt:62:17
 add-k : tie.Need-add-k Inv-loop μ-loop
-add-k c = ?
+add-k c =
+    let taken = c .before .before .before .before .before .before .before .before .before .before .before .before .before .before .before .before .before in
+    let test = taken .before .before in
+    let start = test .before .before .before .before .before .before .before .before in
+    let fits = next-fits (test .before .loop .inv) (test .loop-test .taken) (start .pre) (sym (taken .take-byte .ensures) ∙ c .before .before .before .before .before .before .before .before .before .before .before .before .before .before .before .step2 .given .1) in
+    omega (arith, fits, start .good)
 
--- src/reading.rt:52:5
 loop-less-2 : tie.Need-loop-less-2 Inv-loop μ-loop
-loop-less-2 c = ?
+loop-less-2 c = omega arith
 
--- src/reading.rt:52:5
 loop-again-2 : tie.Need-loop-again-2 Inv-loop μ-loop
-loop-again-2 c = ?
+loop-again-2 c =
+    let put-there = c .before .before .before .before .before .before .before .before in
+    let at-fresh = put-there .before .before .before .before .before in
+    let taken = at-fresh .before .before .before .before in
+    let test = taken .before .before in
+    let start = test .before .before .before .before .before .before .before .before in
+    rw (at-fresh .no-part2 .ensures)
+    (put (test .before .loop .inv) (test .loop-test .taken) (start .pre) (sym (taken .take-byte .ensures) ∙ at-fresh .before .before .step2 .given .1)
+    (put-there .put-entry .ensures))
 
--- src/reading.rt:65:17
 enum-told : tie.Need-enum-told Inv-loop μ-loop
-enum-told c = ?
+enum-told c = search needs
 
--- src/reading.rt:65:17
 same-length : tie.Need-same-length Inv-loop μ-loop
-same-length c = ?
+same-length c = lengths (c .before .before .before .before .before .loop .inv) (c .before .before .before .before .before .before .before .before .before .before .before .before .pre) .kinds
 
--- src/reading.rt:65:17
 same-length-2 : tie.Need-same-length-2 Inv-loop μ-loop
-same-length-2 c = ?
+same-length-2 c = lengths (c .before .before .before .before .before .loop .inv) (c .before .before .before .before .before .before .before .before .before .before .before .before .pre) .registers
 
--- src/reading.rt:65:17
 same-length-3 : tie.Need-same-length-3 Inv-loop μ-loop
-same-length-3 c = ?
+same-length-3 c = lengths (c .before .before .before .before .before .loop .inv) (c .before .before .before .before .before .before .before .before .before .before .before .before .pre) .lanes
 
--- src/reading.rt:65:17
 same-length-4 : tie.Need-same-length-4 Inv-loop μ-loop
-same-length-4 c = ?
+same-length-4 c = lengths (c .before .before .before .before .before .loop .inv) (c .before .before .before .before .before .before .before .before .before .before .before .before .pre) .words
 
--- src/reading.rt:65:17
 returns : tie.Need-returns Inv-loop μ-loop
-returns c = ?
+returns c =
+    let taken = c .before .before in
+    let test = taken .before .before in
+    stopped (test .before .loop .inv) (test .loop-test .taken) (sym (taken .take-byte .ensures) ∙ c .enum-told .given .1)
 
--- src/reading.rt:37:1
 same-length-5 : tie.Need-same-length-5 Inv-loop μ-loop
-same-length-5 c = ?
+same-length-5 c = lengths (c .before .loop .inv) (c .before .before .before .before .before .before .before .before .pre) .kinds
 
--- src/reading.rt:37:1
 same-length-6 : tie.Need-same-length-6 Inv-loop μ-loop
-same-length-6 c = ?
+same-length-6 c = lengths (c .before .loop .inv) (c .before .before .before .before .before .before .before .before .pre) .registers
 
--- src/reading.rt:37:1
 same-length-7 : tie.Need-same-length-7 Inv-loop μ-loop
-same-length-7 c = ?
+same-length-7 c = lengths (c .before .loop .inv) (c .before .before .before .before .before .before .before .before .pre) .lanes
 
--- src/reading.rt:37:1
 same-length-8 : tie.Need-same-length-8 Inv-loop μ-loop
-same-length-8 c = ?
+same-length-8 c = lengths (c .before .loop .inv) (c .before .before .before .before .before .before .before .before .pre) .words
 
--- src/reading.rt:37:1
 returns-2 : tie.Need-returns-2 Inv-loop μ-loop
-returns-2 c = ?
+returns-2 c = all-read (c .before .loop .inv) (c .loop-test .left)
 
 pub fill-spec : {M : Type 1} → statement M
 fill-spec =
