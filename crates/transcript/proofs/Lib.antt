@@ -4,3 +4,5 @@ pub mod BadNumbers
 pub mod ReadingOn
 -- ---- what is put into the lists
 pub mod Columns
+-- ---- what the reader leaves
+pub mod ReadOutcomes

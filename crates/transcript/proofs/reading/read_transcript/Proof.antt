@@ -1,4 +1,7 @@
+-- `transcript::reading::read_transcript` meets its contract: the scan tells which of the three outcomes it is.
+use native.Mathlib.Omega.{arith}
 use borrow.Author.Needs.{needs}
+use Rattle.transcript.proofs.ReadOutcomes.{bad-refused, small-refused, all-taken}
 use Rattle.transcript.proofs.reading.read_transcript.Statement.{statement}
 use Rattle.transcript.proofs.reading.read_transcript.Tie as tie
 use Rattle.transcript.proofs.reading.read_transcript.Reads as reads
@@ -8,61 +11,58 @@ use Rattle.transcript.proofs.reading.refuse.Reads as refuse-reads
 use Rattle.transcript.proofs.scanning.scan.Reads as scan-reads
 use Rattle.words.proofs.least.Reads as least-reads
 
--- src/reading.rt:95:9
 scan-requires : tie.Need-scan-requires
-scan-requires c κs = search needs
+scan-requires c κs = tt
 
--- src/reading.rt:98:9
 refuse-requires : tie.Need-refuse-requires
-refuse-requires c κs = search needs
+refuse-requires c κs = tt
 
--- src/reading.rt:98:9
 returns : tie.Need-returns
-returns c = ?
+returns c = rw (c .refuse .ensures) (bad-refused _ _ (c .before .before .scan .ensures) (c .before .if1 .taken))
 
--- src/reading.rt:101:22
 least-requires : tie.Need-least-requires
-least-requires c κs = search needs
+least-requires c κs = tt
 
--- src/reading.rt:101:59
 least-requires-2 : tie.Need-least-requires-2
-least-requires-2 c κs = search needs
+least-requires-2 c κs = tt
 
--- src/reading.rt:101:9
 least-requires-3 : tie.Need-least-requires-3
-least-requires-3 c κs = search needs
+least-requires-3 c κs = tt
 
--- src/reading.rt:103:9
 refuse-requires-2 : tie.Need-refuse-requires-2
-refuse-requires-2 c κs = search needs
+refuse-requires-2 c κs = tt
 
--- src/reading.rt:103:9
 returns-2 : tie.Need-returns-2
-returns-2 c = ?
+returns-2 c =
+    let four = c .before .before in
+    let judged = four .before .before .before in
+    let room = rw (four .before .before .least .ensures, four .before .least2 .ensures) at (four .least3 .ensures) in
+    rw (c .refuse2 .ensures) (small-refused _ _ (judged .before .scan .ensures) (judged .if1 .left) (rw room at (c .before .if2 .taken)))
 
--- src/reading.rt:105:5
 fill-requires : tie.Need-fill-requires
-fill-requires c κs = ?
+fill-requires c κs =
+    let four = c .before .before .before .before .before in
+    let room = rw (four .before .before .least .ensures, four .before .least2 .ensures) at (four .least3 .ensures) in
+    rw (room, four .before .before .before .before .scan .ensures) at (c .before .before .before .before .if2 .left)
 
--- src/reading.rt:84:1
 same-length : tie.Need-same-length
 same-length c = search needs
 
--- src/reading.rt:84:1
 same-length-2 : tie.Need-same-length-2
 same-length-2 c = search needs
 
--- src/reading.rt:84:1
 same-length-3 : tie.Need-same-length-3
 same-length-3 c = search needs
 
--- src/reading.rt:84:1
 same-length-4 : tie.Need-same-length-4
 same-length-4 c = search needs
 
--- src/reading.rt:84:1
 returns-3 : tie.Need-returns-3
-returns-3 c = ?
+returns-3 c =
+    let four = c .before .before .before .before .before .before .before .before .before .before .before .before .before .before in
+    let judged = four .before .before .before in
+    let room = rw (four .before .before .least .ensures, four .before .least2 .ensures) at (four .least3 .ensures) in
+    all-taken _ _ (judged .before .scan .ensures) (judged .if1 .left) (rw room at (c .before .before .before .before .before .before .before .before .before .before .before .before .before .if2 .left)) (c .before .before .before .before .before .before .before .before .fill .ensures)
 
 pub read-transcript-spec : {M : Type 1} → statement M
 read-transcript-spec =
