@@ -1,28 +1,21 @@
-// A whole string of bytes, looked through up to its first bad record.
+// A string of bytes, looked through up to its first bad record.
 ghost use mathlib.Core.Path.{_≡_};
-ghost use Rattle.transcript_bytes.specs.Reading.{fresh, cut-off};
+ghost use Rattle.transcript_bytes.specs.Reading.{cut-off};
 ghost use Rattle.transcript.specs.Parts.{scanned};
-use crate::steps::no_number;
+use crate::steps::fresh_part;
 use crate::steps::take_byte;
 use transcript_bytes::Part;
 use transcript_bytes::Step;
 
-// How many good records stand before the first bad one, where that one begins, and its refusal, or 0 where none is bad.
+// What a string holds: how many good records up to the first bad one, where that one begins, and its refusal, or 0 where none is bad.
 pub(crate) struct Scanned {
     pub(crate) entries: usize,
     pub(crate) place: usize,
     pub(crate) refusal: u8,
 }
 
-// Before a record.
-pub(crate) fn no_part() -> Part
-    ensures { λ r. ⌜ r ≡ fresh ⌝ }
-{
-    Part::Head(no_number())
-}
-
-// Number 20 where nothing follows on a record that is begun, or 0 between two records.
-fn number_at_end(p: Part) -> u8
+// The refusal when nothing follows: 20 where a record is begun, and 0 between two records.
+fn refusal_at_end(p: Part) -> u8
     ensures { λ r. ⌜ r ≡ cut-off p ⌝ }
 {
     match p {
@@ -36,11 +29,11 @@ fn number_at_end(p: Part) -> u8
     }
 }
 
-// The good records of a string up to its first bad one.
+// The records of a string, byte by byte. `place` is where the record begins that is being read.
 pub(crate) fn scan(bytes: &[u8]) -> Scanned
     ensures { λ r. ⌜ r ≡ scanned (now (bytes .entry)) ⌝ }
 {
-    let mut part = no_part();
+    let mut part = fresh_part();
     let mut entries: usize = 0;
     let mut place: usize = 0;
     let mut i: usize = 0;
@@ -52,15 +45,15 @@ pub(crate) fn scan(bytes: &[u8]) -> Scanned
                 part = p;
             }
             Step::Whole(_) => {
-                part = no_part();
+                part = fresh_part();
                 entries += 1;
                 place = i;
             }
-            Step::Bad(number) => {
+            Step::Bad(refusal) => {
                 return Scanned {
                     entries,
                     place,
-                    refusal: number,
+                    refusal,
                 };
             }
         }
@@ -68,6 +61,6 @@ pub(crate) fn scan(bytes: &[u8]) -> Scanned
     Scanned {
         entries,
         place,
-        refusal: number_at_end(part),
+        refusal: refusal_at_end(part),
     }
 }

@@ -1,13 +1,13 @@
 // What one byte more makes of a record: its numbers grow group by group, and each is judged when its last group is there.
 ghost use mathlib.Core.Path.{_≡_};
-ghost use Rattle.transcript_bytes.specs.Reading.{with-group, grown, none, entry-of, head-read, word-read, step};
+ghost use Rattle.transcript_bytes.specs.Reading.{none, fresh, with-group, grown, entry-of, head-read, word-read, step};
 use transcript_bytes::Entry;
 use transcript_bytes::Number;
 use transcript_bytes::Part;
 use transcript_bytes::Step;
 
 // A number before its first group.
-pub(crate) fn no_number() -> Number
+fn no_number() -> Number
     ensures { λ r. ⌜ r ≡ none ⌝ }
 {
     Number {
@@ -15,6 +15,13 @@ pub(crate) fn no_number() -> Number
         padded: false,
         value: 0,
     }
+}
+
+// A record before its first byte.
+pub(crate) fn fresh_part() -> Part
+    ensures { λ r. ⌜ r ≡ fresh ⌝ }
+{
+    Part::Head(no_number())
 }
 
 // A value with one group more. From 65,536 on it is over every limit and stays, so that it never wraps.

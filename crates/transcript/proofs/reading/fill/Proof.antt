@@ -16,11 +16,6 @@ use Rattle.transcript.proofs.Columns.{SameLengths, lengths-stay, same-s
 use Rattle.transcript.proofs.ReadingOn.{Reached, none-yet, one-more, at-end, at-refusal, so-far}
 use Rattle.transcript.proofs.reading.fill.Statement.{statement}
 use Rattle.transcript.proofs.reading.fill.Tie as tie
-use Rattle.transcript.proofs.reading.fill.Reads as reads
-use Rattle.transcript.proofs.reading.fill.Lts as lts
-use Rattle.transcript.proofs.reading.put_entry.Reads as put-entry-reads
-use Rattle.transcript.proofs.scanning.no_part.Reads as no-part-reads
-use Rattle.transcript.proofs.steps.take_byte.Reads as take-byte-reads
 
 record Filling (s : List ℕ) (l₀ l : Lists) (p : Part) (k i : ℕ) : Type 0 where
   got : List Entry
@@ -71,17 +66,17 @@ module _ {s : List ℕ} {l₀ l : Lists} {p : Part} {k i : ℕ} (f : Filling s l
   all-read h = f .filled ∙ ap (λ (r : Reading). with-entries (r .got) l₀) (sym (at-end (f .here) h))
 
 abbrev Inv-loop : tie.InvT-loop
-Inv-loop bytes kinds₀ registers₀ lanes₀ words₀ part₀ k₀ i₀ kinds registers lanes words part k i =
-    Filling bytes (lists kinds₀ registers₀ lanes₀ words₀) (lists kinds registers lanes words) part k i
+Inv-loop bytes kinds₀ registers₀ lanes₀ words₀ part₀ entries₀ i₀ kinds registers lanes words part entries i =
+    Filling bytes (lists kinds₀ registers₀ lanes₀ words₀) (lists kinds registers lanes words) part entries i
 
 abbrev μ-loop : tie.MeasureT-loop
-μ-loop bytes kinds₀ registers₀ lanes₀ words₀ part₀ k₀ i₀ kinds registers lanes words part k i = length bytes - i
+μ-loop bytes kinds₀ registers₀ lanes₀ words₀ part₀ entries₀ i₀ kinds registers lanes words part entries i = length bytes - i
 
-no-part-requires : tie.Need-no-part-requires Inv-loop μ-loop
-no-part-requires c κs = tt
+fresh-part-requires : tie.Need-fresh-part-requires Inv-loop μ-loop
+fresh-part-requires c κs = tt
 
 loop-holds : tie.Need-loop-holds Inv-loop μ-loop
-loop-holds c = rw (c .no-part .ensures) (begun _ _)
+loop-holds c = rw (c .fresh-part .ensures) (begun _ _)
 
 shared-slice-read-take-byte : tie.Need-shared-slice-read-take-byte Inv-loop μ-loop
 shared-slice-read-take-byte c = omega arith
@@ -107,8 +102,8 @@ loop-again c =
 enum-known-step-2 : tie.Need-enum-known-step-2 Inv-loop μ-loop
 enum-known-step-2 c = search needs
 
-no-part-requires-2 : tie.Need-no-part-requires-2 Inv-loop μ-loop
-no-part-requires-2 c κs = tt
+fresh-part-requires-2 : tie.Need-fresh-part-requires-2 Inv-loop μ-loop
+fresh-part-requires-2 c κs = tt
 
 put-entry-requires : tie.Need-put-entry-requires Inv-loop μ-loop
 put-entry-requires c κs =
@@ -118,8 +113,8 @@ put-entry-requires c κs =
     has-room (test .before .loop .inv) (test .loop-test .taken) (start .pre)
     (sym (taken .take-byte .ensures) ∙ c .before .before .before .before .before .before .step2 .given .1)
 
-add-k : tie.Need-add-k Inv-loop μ-loop
-add-k c =
+add-entries : tie.Need-add-entries Inv-loop μ-loop
+add-entries c =
     let taken = c .before .before .before .before .before .before .before .before .before .before .before .before .before .before .before .before .before in
     let test = taken .before .before in
     let start = test .before .before .before .before .before .before .before .before in
@@ -136,7 +131,7 @@ loop-again-2 c =
     let taken = at-fresh .before .before .before .before in
     let test = taken .before .before in
     let start = test .before .before .before .before .before .before .before .before in
-    rw (at-fresh .no-part2 .ensures)
+    rw (at-fresh .fresh-part2 .ensures)
     (put (test .before .loop .inv) (test .loop-test .taken) (start .pre) (sym (taken .take-byte .ensures) ∙ at-fresh .before .before .step2 .given .1)
     (put-there .put-entry .ensures))
 
@@ -182,7 +177,7 @@ fill-spec =
     (tie.spec
     Inv-loop
     μ-loop
-    no-part-requires
+    fresh-part-requires
     loop-holds
     shared-slice-read-take-byte
     take-byte-requires
@@ -191,9 +186,9 @@ fill-spec =
     loop-less
     loop-again
     enum-known-step-2
-    no-part-requires-2
+    fresh-part-requires-2
     put-entry-requires
-    add-k
+    add-entries
     loop-less-2
     loop-again-2
     enum-told

@@ -17,11 +17,6 @@ use Rattle.transcript.proofs.BadNumbers.{bad-has-number}
 use Rattle.transcript.proofs.ReadingOn.{Reached, none-yet, one-more, at-end, at-refusal}
 use Rattle.transcript.proofs.scanning.scan.Statement.{statement}
 use Rattle.transcript.proofs.scanning.scan.Tie as tie
-use Rattle.transcript.proofs.scanning.scan.Reads as reads
-use Rattle.transcript.proofs.scanning.scan.Lts as lts
-use Rattle.transcript.proofs.scanning.no_part.Reads as no-part-reads
-use Rattle.transcript.proofs.scanning.number_at_end.Reads as number-at-end-reads
-use Rattle.transcript.proofs.steps.take_byte.Reads as take-byte-reads
 
 record Scanning (s : List ℕ) (p : Part) (entries place i : ℕ) : Type 0 where
   got : List Entry
@@ -73,11 +68,11 @@ Inv-loop bytes part₀ entries₀ place₀ i₀ part entries place i = Scanning 
 abbrev μ-loop : tie.MeasureT-loop
 μ-loop bytes part₀ entries₀ place₀ i₀ part entries place i = length bytes - i
 
-no-part-requires : tie.Need-no-part-requires Inv-loop μ-loop
-no-part-requires c κs = tt
+fresh-part-requires : tie.Need-fresh-part-requires Inv-loop μ-loop
+fresh-part-requires c κs = tt
 
 loop-holds : tie.Need-loop-holds Inv-loop μ-loop
-loop-holds c = rw (c .no-part .ensures) (begun _)
+loop-holds c = rw (c .fresh-part .ensures) (begun _)
 
 shared-slice-read-take-byte : tie.Need-shared-slice-read-take-byte Inv-loop μ-loop
 shared-slice-read-take-byte c = omega arith
@@ -103,8 +98,8 @@ loop-again c =
 enum-told : tie.Need-enum-told Inv-loop μ-loop
 enum-told c = search needs
 
-no-part-requires-2 : tie.Need-no-part-requires-2 Inv-loop μ-loop
-no-part-requires-2 c κs = tt
+fresh-part-requires-2 : tie.Need-fresh-part-requires-2 Inv-loop μ-loop
+fresh-part-requires-2 c κs = tt
 
 add-entries : tie.Need-add-entries Inv-loop μ-loop
 add-entries c = omega arith
@@ -116,7 +111,7 @@ loop-again-2 : tie.Need-loop-again-2 Inv-loop μ-loop
 loop-again-2 c =
     let taken = c .before .before .before in
     let test = taken .before .before in
-    rw (c .no-part2 .ensures)
+    rw (c .fresh-part2 .ensures)
     (counted (test .before .loop .inv) (test .loop-test .taken) (sym (taken .take-byte .ensures) ∙ c .before .enum-told .given .1))
 
 enum-known-step-2 : tie.Need-enum-known-step-2 Inv-loop μ-loop
@@ -128,11 +123,11 @@ returns c =
     let test = taken .before .before in
     stopped (test .before .loop .inv) (test .loop-test .taken) (sym (taken .take-byte .ensures) ∙ c .before .step2 .given .1)
 
-number-at-end-requires : tie.Need-number-at-end-requires Inv-loop μ-loop
-number-at-end-requires c κs = tt
+refusal-at-end-requires : tie.Need-refusal-at-end-requires Inv-loop μ-loop
+refusal-at-end-requires c κs = tt
 
 returns-2 : tie.Need-returns-2 Inv-loop μ-loop
-returns-2 c = rw (c .number-at-end .ensures) (all-read (c .before .before .loop .inv) (c .before .loop-test .left))
+returns-2 c = rw (c .refusal-at-end .ensures) (all-read (c .before .before .loop .inv) (c .before .loop-test .left))
 
 pub scan-spec : {M : Type 1} → statement M
 scan-spec =
@@ -140,7 +135,7 @@ scan-spec =
     (tie.spec
     Inv-loop
     μ-loop
-    no-part-requires
+    fresh-part-requires
     loop-holds
     shared-slice-read-take-byte
     take-byte-requires
@@ -149,11 +144,11 @@ scan-spec =
     loop-less
     loop-again
     enum-told
-    no-part-requires-2
+    fresh-part-requires-2
     add-entries
     loop-less-2
     loop-again-2
     enum-known-step-2
     returns
-    number-at-end-requires
+    refusal-at-end-requires
     returns-2)
