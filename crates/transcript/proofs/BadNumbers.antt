@@ -1,11 +1,11 @@
 -- A bad record has a number: 0 is never the refusal of one.
 use Prim.Native.Nat.{ℕ, _%_}
 use native.Mathlib.Omega.{arith}
-use mathlib.Core.Path.{_≡_, subst}
+use mathlib.Core.Path.{_≡_}
 use mathlib.Core.Bool.{Bool, true, false, cond}
 use mathlib.Core.Logic.{_≢_}
 use lib.Dec.{eqb, ltb}
-use Rattle.transcript_bytes.specs.Reading.{none, grown, entry-of, head-read, word-read, step}
+use Rattle.transcript_bytes.specs.Reading.{grown, head-read, word-read, step}
 use Rattle.transcript_bytes.specs.declared.Number.{Number}
 use Rattle.transcript_bytes.specs.declared.Part.{Part}
 use Rattle.transcript_bytes.specs.declared.Part.the-variants.{Head, Word}

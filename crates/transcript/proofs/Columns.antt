@@ -6,7 +6,7 @@ use mathlib.Core.Path.{_≡_, refl, sym, ap, _∙_}
 use mathlib.Core.List.{List, [], _∷_, _++_, map, map-append}
 use lib.ListN.{length, drop, getD, set, length-append, length-drop, length-map}
 use lib.Seq.{drop-cons, set-at, append-snoc}
-use Rattle.transcript_bytes.specs.Lists.{Lists, lists, size, over, with-entries}
+use Rattle.transcript_bytes.specs.Lists.{Lists, size, over, with-entries}
 use Rattle.transcript_bytes.specs.declared.Entry.{Entry}
 use Rattle.transcript.specs.Parts.{with-entry}
 

@@ -2,6 +2,7 @@
 -- ---- what is read
 pub mod BadNumbers
 pub mod ReadingOn
+pub mod Counting
 -- ---- what is put into the lists
 pub mod Columns
 -- ---- what the reader leaves

@@ -1,69 +1,66 @@
--- `transcript::reading::fill` meets its contract: at each turn the string is read up to i, and the lists' first k places hold its entries so far.
+-- `transcript::reading::fill` meets its contract: at each turn the entries so far stand in the first places of the lists.
 use Prim.Native.Nat.{ℕ, _+_, _-_, _≤_, _<_}
 use native.Mathlib.Omega.{arith}
 use mathlib.Core.Path.{_≡_, refl, sym, ap, _∙_}
-use mathlib.Core.List.{List, [], _∷_, _++_}
+use mathlib.Core.List.{List, [], _∷_}
 use lib.ListN.{length, getD, length-append}
 use borrow.Author.Needs.{needs}
 use Rattle.transcript_bytes.specs.Lists.{Lists, lists, size, with-entries}
-use Rattle.transcript_bytes.specs.Reading.{Reading, at, start, fresh, step, entries-read}
+use Rattle.transcript_bytes.specs.Reading.{Reading, fresh, step, entries-read}
 use Rattle.transcript_bytes.specs.declared.Entry.{Entry}
 use Rattle.transcript_bytes.specs.declared.Part.{Part}
 use Rattle.transcript_bytes.specs.declared.Step.the-variants.{Goes, Whole, Bad}
 use Rattle.transcript.specs.Parts.{with-entry}
-use Rattle.transcript.proofs.BadNumbers.{bad-has-number}
 use Rattle.transcript.proofs.Columns.{SameLengths, lengths-stay, same-size, entry-more}
-use Rattle.transcript.proofs.ReadingOn.{Reached, none-yet, one-more, at-end, at-refusal, so-far}
+use Rattle.transcript.proofs.Counting.{Counting, begun, goes-on, counted, stopped, all-read}
+use Rattle.transcript.proofs.ReadingOn.{so-far}
 use Rattle.transcript.proofs.reading.fill.Statement.{statement}
 use Rattle.transcript.proofs.reading.fill.Tie as tie
 
-record Filling (s : List ℕ) (l₀ l : Lists) (p : Part) (k i : ℕ) : Type 0 where
-  got : List Entry
-  from : ℕ
-  here : Reached start s i (at got from i p 0)
-  count : k ≡ length got
-  filled : l ≡ with-entries got l₀
+record Filling (s : List ℕ) (l₀ l : Lists) (p : Part) (entries i : ℕ) : Type 0 where
+  place : ℕ
+  reads : Counting s p entries place i
+  fit : length (entries-read s) ≤ size l₀
+  filled : l ≡ with-entries (reads .got) l₀
 
-begun : (s : List ℕ) (l : Lists) → Filling s l l fresh 0 0
-begun s l = record { got = []; from = 0; here = none-yet start s; count = refl; filled = refl }
+none-put : (s : List ℕ) (l : Lists) → length (entries-read s) ≤ size l → Filling s l l fresh 0 0
+none-put s l h = record { place = 0; reads = begun s; fit = h; filled = refl }
 
-module _ {s : List ℕ} {l₀ l : Lists} {p : Part} {k i : ℕ} (f : Filling s l₀ l p k i) where
+module _ {s : List ℕ} {l₀ l : Lists} {p : Part} {entries i : ℕ} (f : Filling s l₀ l p entries i) where
   -- the lists are as long as they were
-  lengths : length (entries-read s) ≤ size l₀ → SameLengths l₀ l
-  lengths fit = rw (f .filled) (lengths-stay (f .got) l₀ (omega (arith, so-far (f .here))))
+  lengths : SameLengths l₀ l
+  lengths = rw (f .filled) (lengths-stay (f .reads .got) l₀ (omega (arith, so-far (f .reads .here), f .fit)))
 
   module _ (more : i < length s) where
-    -- the record goes on
-    goes-on : {q : Part} → step p (getD s i 0) ≡ Goes q → Filling s l₀ l q k (i + 1)
-    goes-on e = record { got = f .got; from = f .from; here = one-more (f .here) more e; count = f .count; filled = f .filled }
+    still-filled : {q : Part} → step p (getD s i 0) ≡ Goes q → Filling s l₀ l q entries (i + 1)
+    still-filled e = record { place = f .place; reads = goes-on (f .reads) more e; fit = f .fit; filled = f .filled }
 
-    -- it is whole and good: its entry is one of those that fit
-    module _ (fit : length (entries-read s) ≤ size l₀) {e : Entry} (w : step p (getD s i 0) ≡ Whole e) where
-      next-fits : k < size l₀
-      next-fits = omega (arith, so-far (one-more (f .here) more w), length-append (f .got) (e ∷ []), f .count)
+    -- a good record: its entry is one of those that fit, and takes the next place
+    module _ {e : Entry} (w : step p (getD s i 0) ≡ Whole e) where
+      next-fits : entries < size l₀
+      next-fits = omega (arith, so-far (counted (f .reads) more w .here), length-append (f .reads .got) (e ∷ []), f .reads .count, f .fit)
 
-      has-room : k < size l
-      has-room = rw (same-size (lengths fit)) next-fits
+      has-room : entries < size l
+      has-room = rw (same-size lengths) next-fits
 
-      put : {l′ : Lists} → l′ ≡ with-entry l k e → Filling s l₀ l′ fresh (k + 1) (i + 1)
-      put x =
+      one-put : {l′ : Lists} → l′ ≡ with-entry l entries e → Filling s l₀ l′ fresh (entries + 1) (i + 1)
+      one-put x =
           record {
-            got = f .got ++ (e ∷ []);
-            from = i + 1;
-            here = one-more (f .here) more w;
-            count = ap (λ (n : ℕ). n + 1) (f .count) ∙ sym (length-append (f .got) (e ∷ []));
-            filled = x ∙ rw (f .filled, f .count) (entry-more (f .got) l₀ e (omega (arith, next-fits, f .count)));
+            place = i + 1;
+            reads = counted (f .reads) more w;
+            fit = f .fit;
+            filled =
+                x ∙
+                ap (λ (y : Lists). with-entry y entries e) (f .filled) ∙
+                ap (λ (n : ℕ). with-entry (with-entries (f .reads .got) l₀) n e) (f .reads .count) ∙
+                entry-more (f .reads .got) l₀ e (omega (arith, next-fits, f .reads .count));
           }
 
-    -- it is bad
-    stopped : {n : ℕ} → step p (getD s i 0) ≡ Bad n → l ≡ with-entries (entries-read s) l₀
-    stopped b =
-        f .filled ∙
-        ap (λ (r : Reading). with-entries (r .got) l₀) (sym (at-refusal (one-more (f .here) more b) (bad-has-number p (getD s i 0) b)))
+    bad-ends : {n : ℕ} → step p (getD s i 0) ≡ Bad n → l ≡ with-entries (entries-read s) l₀
+    bad-ends b = f .filled ∙ ap (λ (r : Reading). with-entries (r .got) l₀) (sym (stopped (f .reads) more b))
 
-  -- no byte is left
-  all-read : length s ≤ i → l ≡ with-entries (entries-read s) l₀
-  all-read h = f .filled ∙ ap (λ (r : Reading). with-entries (r .got) l₀) (sym (at-end (f .here) h))
+  all-put : length s ≤ i → l ≡ with-entries (entries-read s) l₀
+  all-put h = f .filled ∙ ap (λ (r : Reading). with-entries (r .got) l₀) (sym (all-read (f .reads) h))
 
 abbrev Inv-loop : tie.InvT-loop
 Inv-loop bytes kinds₀ registers₀ lanes₀ words₀ part₀ entries₀ i₀ kinds registers lanes words part entries i =
@@ -76,7 +73,7 @@ fresh-part-requires : tie.Need-fresh-part-requires Inv-loop μ-loop
 fresh-part-requires c κs = tt
 
 loop-holds : tie.Need-loop-holds Inv-loop μ-loop
-loop-holds c = rw (c .fresh-part .ensures) (begun _ _)
+loop-holds c = rw (c .fresh-part .ensures) (none-put _ _ (c .before .before .before .before .before .before .pre))
 
 shared-slice-read-take-byte : tie.Need-shared-slice-read-take-byte Inv-loop μ-loop
 shared-slice-read-take-byte c = omega arith
@@ -97,7 +94,7 @@ loop-again : tie.Need-loop-again Inv-loop μ-loop
 loop-again c =
     let taken = c .before .before .before in
     let test = taken .before .before in
-    goes-on (test .before .loop .inv) (test .loop-test .taken) (sym (taken .take-byte .ensures) ∙ c .before .step .given .1)
+    still-filled (test .before .loop .inv) (test .loop-test .taken) (sym (taken .take-byte .ensures) ∙ c .before .step .given .1)
 
 enum-known-step-2 : tie.Need-enum-known-step-2 Inv-loop μ-loop
 enum-known-step-2 c = search needs
@@ -107,69 +104,63 @@ fresh-part-requires-2 c κs = tt
 
 put-entry-requires : tie.Need-put-entry-requires Inv-loop μ-loop
 put-entry-requires c κs =
-    let taken = c .before .before .before .before .before .before .before .before in
+    let at-fresh = c .before .before .before .before in
+    let taken = at-fresh .before .before .before .before in
     let test = taken .before .before in
-    let start = test .before .before .before .before .before .before .before .before in
-    has-room (test .before .loop .inv) (test .loop-test .taken) (start .pre)
-    (sym (taken .take-byte .ensures) ∙ c .before .before .before .before .before .before .step2 .given .1)
+    has-room (test .before .loop .inv) (test .loop-test .taken)
+    (sym (taken .take-byte .ensures) ∙ at-fresh .before .before .step2 .given .1)
 
 add-entries : tie.Need-add-entries Inv-loop μ-loop
-add-entries c =
-    let taken = c .before .before .before .before .before .before .before .before .before .before .before .before .before .before .before .before .before in
-    let test = taken .before .before in
-    let start = test .before .before .before .before .before .before .before .before in
-    let fits = next-fits (test .before .loop .inv) (test .loop-test .taken) (start .pre) (sym (taken .take-byte .ensures) ∙ c .before .before .before .before .before .before .before .before .before .before .before .before .before .before .before .step2 .given .1) in
-    omega (arith, fits, start .good)
+add-entries c = omega arith
 
 loop-less-2 : tie.Need-loop-less-2 Inv-loop μ-loop
 loop-less-2 c = omega arith
 
 loop-again-2 : tie.Need-loop-again-2 Inv-loop μ-loop
 loop-again-2 c =
-    let put-there = c .before .before .before .before .before .before .before .before in
-    let at-fresh = put-there .before .before .before .before .before in
+    let put = c .before .before .before .before .before .before .before .before in
+    let at-fresh = put .before .before .before .before .before in
     let taken = at-fresh .before .before .before .before in
     let test = taken .before .before in
-    let start = test .before .before .before .before .before .before .before .before in
     rw (at-fresh .fresh-part2 .ensures)
-    (put (test .before .loop .inv) (test .loop-test .taken) (start .pre) (sym (taken .take-byte .ensures) ∙ at-fresh .before .before .step2 .given .1)
-    (put-there .put-entry .ensures))
+    (one-put (test .before .loop .inv) (test .loop-test .taken)
+    (sym (taken .take-byte .ensures) ∙ at-fresh .before .before .step2 .given .1) (put .put-entry .ensures))
 
 enum-told : tie.Need-enum-told Inv-loop μ-loop
 enum-told c = search needs
 
 same-length : tie.Need-same-length Inv-loop μ-loop
-same-length c = lengths (c .before .before .before .before .before .loop .inv) (c .before .before .before .before .before .before .before .before .before .before .before .before .pre) .kinds
+same-length c = lengths (c .before .before .before .before .before .loop .inv) .kinds
 
 same-length-2 : tie.Need-same-length-2 Inv-loop μ-loop
-same-length-2 c = lengths (c .before .before .before .before .before .loop .inv) (c .before .before .before .before .before .before .before .before .before .before .before .before .pre) .registers
+same-length-2 c = lengths (c .before .before .before .before .before .loop .inv) .registers
 
 same-length-3 : tie.Need-same-length-3 Inv-loop μ-loop
-same-length-3 c = lengths (c .before .before .before .before .before .loop .inv) (c .before .before .before .before .before .before .before .before .before .before .before .before .pre) .lanes
+same-length-3 c = lengths (c .before .before .before .before .before .loop .inv) .lanes
 
 same-length-4 : tie.Need-same-length-4 Inv-loop μ-loop
-same-length-4 c = lengths (c .before .before .before .before .before .loop .inv) (c .before .before .before .before .before .before .before .before .before .before .before .before .pre) .words
+same-length-4 c = lengths (c .before .before .before .before .before .loop .inv) .words
 
 returns : tie.Need-returns Inv-loop μ-loop
 returns c =
     let taken = c .before .before in
     let test = taken .before .before in
-    stopped (test .before .loop .inv) (test .loop-test .taken) (sym (taken .take-byte .ensures) ∙ c .enum-told .given .1)
+    bad-ends (test .before .loop .inv) (test .loop-test .taken) (sym (taken .take-byte .ensures) ∙ c .enum-told .given .1)
 
 same-length-5 : tie.Need-same-length-5 Inv-loop μ-loop
-same-length-5 c = lengths (c .before .loop .inv) (c .before .before .before .before .before .before .before .before .pre) .kinds
+same-length-5 c = lengths (c .before .loop .inv) .kinds
 
 same-length-6 : tie.Need-same-length-6 Inv-loop μ-loop
-same-length-6 c = lengths (c .before .loop .inv) (c .before .before .before .before .before .before .before .before .pre) .registers
+same-length-6 c = lengths (c .before .loop .inv) .registers
 
 same-length-7 : tie.Need-same-length-7 Inv-loop μ-loop
-same-length-7 c = lengths (c .before .loop .inv) (c .before .before .before .before .before .before .before .before .pre) .lanes
+same-length-7 c = lengths (c .before .loop .inv) .lanes
 
 same-length-8 : tie.Need-same-length-8 Inv-loop μ-loop
-same-length-8 c = lengths (c .before .loop .inv) (c .before .before .before .before .before .before .before .before .pre) .words
+same-length-8 c = lengths (c .before .loop .inv) .words
 
 returns-2 : tie.Need-returns-2 Inv-loop μ-loop
-returns-2 c = all-read (c .before .loop .inv) (c .loop-test .left)
+returns-2 c = all-put (c .before .loop .inv) (c .loop-test .left)
 
 pub fill-spec : {M : Type 1} → statement M
 fill-spec =

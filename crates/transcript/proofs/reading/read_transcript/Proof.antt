@@ -1,6 +1,6 @@
 -- `transcript::reading::read_transcript` meets its contract: its answer is right, and by that answer the lists are filled or left.
+use native.Mathlib.Omega.{arith}
 use mathlib.Core.Path.{_≡_, sym, ap, _∙_}
-use borrow.Author.Needs.{needs}
 use Rattle.transcript_bytes.specs.Lists.{lists, size}
 use Rattle.transcript_bytes.specs.Reading.{read-answer}
 use Rattle.transcript_bytes.specs.declared.Transcribed.{Transcribed}
@@ -37,23 +37,26 @@ returns c = nothing-put _ _ (right (c .before .before)) (c .if1 .taken)
 
 fill-requires : tie.Need-fill-requires
 fill-requires c κs =
-    let judged = c .before .before .before .before .before .before in
-    all-fit _ _ (sym (ap (λ (o : Transcribed). o .number) (right judged)) ∙ c .before .before .before .before .if1 .left)
+    let passed = c .before .before .before .before in
+    all-fit _ _ (sym (ap (λ (o : Transcribed). o .number) (right (passed .before .before))) ∙ passed .if1 .left)
 
 same-length : tie.Need-same-length
-same-length c = search needs
+same-length c = omega arith
 
 same-length-2 : tie.Need-same-length-2
-same-length-2 c = search needs
+same-length-2 c = omega arith
 
 same-length-3 : tie.Need-same-length-3
-same-length-3 c = search needs
+same-length-3 c = omega arith
 
 same-length-4 : tie.Need-same-length-4
-same-length-4 c = search needs
+same-length-4 c = omega arith
 
 returns-2 : tie.Need-returns-2
-returns-2 c = all-put _ _ (right (c .before .before .before .before .before .before .before .before .before .before .before .before .before .before .before)) (c .before .before .before .before .before .before .before .before .before .before .before .before .before .if1 .left) (c .before .before .before .before .before .before .before .before .fill .ensures)
+returns-2 c =
+    let filled = c .before .before .before .before .before .before .before .before in
+    let passed = filled .before .before .before .before .before in
+    all-put _ _ (right (passed .before .before)) (passed .if1 .left) (filled .fill .ensures)
 
 pub read-transcript-spec : {M : Type 1} → statement M
 read-transcript-spec =

@@ -1,69 +1,41 @@
--- `transcript::scanning::scan` meets its contract: at each turn the string is read up to i, with as many entries as were counted.
-use Prim.Native.Nat.{ℕ, _+_, _-_, _≤_, _<_}
+-- `transcript::scanning::scan` meets its contract: at each turn the entries are counted of the bytes that are read.
+use Prim.Native.Nat.{ℕ, _-_, _≤_, _<_}
 use native.Mathlib.Omega.{arith}
-use mathlib.Core.Path.{_≡_, refl, sym, ap, _∙_}
+use mathlib.Core.Path.{_≡_, sym, ap, _∙_}
 use mathlib.Core.Bool.{Bool, cond}
-use mathlib.Core.List.{List, [], _∷_, _++_}
-use lib.ListN.{length, getD, length-append}
+use mathlib.Core.List.{List}
+use lib.ListN.{length, getD}
 use borrow.Author.Needs.{needs}
 use borrow.Author.Tests.{ne-eqb}
-use Rattle.transcript_bytes.specs.Reading.{Reading, at, start, fresh, step, cut-off, ended}
-use Rattle.transcript_bytes.specs.declared.Entry.{Entry}
+use Rattle.transcript_bytes.specs.Reading.{Reading, step, cut-off, ended}
 use Rattle.transcript_bytes.specs.declared.Part.{Part}
-use Rattle.transcript_bytes.specs.declared.Step.the-variants.{Goes, Whole, Bad}
+use Rattle.transcript_bytes.specs.declared.Step.the-variants.{Bad}
 use Rattle.transcript.specs.Parts.{scanned}
 use Rattle.transcript.specs.declared.scanning.Scanned.{Scanned}
 use Rattle.transcript.proofs.BadNumbers.{bad-has-number}
-use Rattle.transcript.proofs.ReadingOn.{Reached, none-yet, one-more, at-end, at-refusal}
+use Rattle.transcript.proofs.Counting.{Counting, begun, goes-on, counted, stopped, all-read}
 use Rattle.transcript.proofs.scanning.scan.Statement.{statement}
 use Rattle.transcript.proofs.scanning.scan.Tie as tie
-
-record Scanning (s : List ℕ) (p : Part) (entries place i : ℕ) : Type 0 where
-  got : List Entry
-  here : Reached start s i (at got place i p 0)
-  count : entries ≡ length got
-  few : entries ≤ i
-
-begun : (s : List ℕ) → Scanning s fresh 0 0 0
-begun s = record { got = []; here = none-yet start s; count = refl; few = omega arith }
 
 abbrev found : ℕ → ℕ → ℕ → Scanned
 found entries place refusal = record { entries = entries; place = place; refusal = refusal }
 
--- what is told of a reading when nothing follows
-abbrev told : Reading → Scanned
-told r = found (length (r .got)) (r .from) (ended r)
+-- what is found in a string that ends at this reading
+abbrev found-by : Reading → Scanned
+found-by r = found (length (r .got)) (r .from) (ended r)
 
-module _ {s : List ℕ} {p : Part} {entries place i : ℕ} (k : Scanning s p entries place i) where
-  module _ (more : i < length s) where
-    -- the record goes on
-    goes-on : {q : Part} → step p (getD s i 0) ≡ Goes q → Scanning s q entries place (i + 1)
-    goes-on e = record { got = k .got; here = one-more (k .here) more e; count = k .count; few = omega arith }
+module _ {s : List ℕ} {p : Part} {entries place i : ℕ} (k : Counting s p entries place i) where
+  bad-found : i < length s → {n : ℕ} → step p (getD s i 0) ≡ Bad n → found entries place n ≡ scanned s
+  bad-found more {n} b =
+      ap (λ (m : ℕ). found m place n) (k .count) ∙
+      ap (λ (t : Bool). found (length (k .got)) place (cond t 0 n)) (sym (ne-eqb n 0 (bad-has-number p (getD s i 0) b))) ∙
+      ap found-by (sym (stopped k more b))
 
-    -- it is whole and good
-    counted : {e : Entry} → step p (getD s i 0) ≡ Whole e → Scanning s fresh (entries + 1) (i + 1) (i + 1)
-    counted {e} w =
-        record {
-          got = k .got ++ (e ∷ []);
-          here = one-more (k .here) more w;
-          count = ap (λ (n : ℕ). n + 1) (k .count) ∙ sym (length-append (k .got) (e ∷ []));
-          few = omega arith;
-        }
-
-    -- it is bad
-    stopped : {n : ℕ} → step p (getD s i 0) ≡ Bad n → found entries place n ≡ scanned s
-    stopped {n} b =
-        let h = bad-has-number p (getD s i 0) b in
-        ap (λ (m : ℕ). found m place n) (k .count) ∙
-        ap (λ (t : Bool). found (length (k .got)) place (cond t 0 n)) (sym (ne-eqb n 0 h)) ∙
-        ap told (sym (at-refusal (one-more (k .here) more b) h))
-
-  -- no byte is left
-  all-read : length s ≤ i → found entries place (cut-off p) ≡ scanned s
-  all-read h = ap (λ (m : ℕ). found m place (cut-off p)) (k .count) ∙ ap told (sym (at-end (k .here) h))
+  end-found : length s ≤ i → found entries place (cut-off p) ≡ scanned s
+  end-found h = ap (λ (m : ℕ). found m place (cut-off p)) (k .count) ∙ ap found-by (sym (all-read k h))
 
 abbrev Inv-loop : tie.InvT-loop
-Inv-loop bytes part₀ entries₀ place₀ i₀ part entries place i = Scanning bytes part entries place i
+Inv-loop bytes part₀ entries₀ place₀ i₀ part entries place i = Counting bytes part entries place i
 
 abbrev μ-loop : tie.MeasureT-loop
 μ-loop bytes part₀ entries₀ place₀ i₀ part entries place i = length bytes - i
@@ -121,13 +93,13 @@ returns : tie.Need-returns Inv-loop μ-loop
 returns c =
     let taken = c .before .before .before in
     let test = taken .before .before in
-    stopped (test .before .loop .inv) (test .loop-test .taken) (sym (taken .take-byte .ensures) ∙ c .before .step2 .given .1)
+    bad-found (test .before .loop .inv) (test .loop-test .taken) (sym (taken .take-byte .ensures) ∙ c .before .step2 .given .1)
 
 refusal-at-end-requires : tie.Need-refusal-at-end-requires Inv-loop μ-loop
 refusal-at-end-requires c κs = tt
 
 returns-2 : tie.Need-returns-2 Inv-loop μ-loop
-returns-2 c = rw (c .refusal-at-end .ensures) (all-read (c .before .before .loop .inv) (c .before .loop-test .left))
+returns-2 c = rw (c .refusal-at-end .ensures) (end-found (c .before .before .loop .inv) (c .before .loop-test .left))
 
 pub scan-spec : {M : Type 1} → statement M
 scan-spec =
