@@ -1,5 +1,5 @@
 -- What the reader answers and leaves: a refusal with the lists as they were, or the entries put into them.
-use Prim.Native.Nat.{ℕ, _≤_}
+use Prim.Native.Nat.{ℕ, _≤_, _<_}
 use native.Mathlib.Omega.{arith}
 use mathlib.Core.Path.{_≡_, sym, ap, _∙_}
 use mathlib.Core.List.{List}
@@ -20,18 +20,20 @@ unfolding read-answer answer-for
 right-answer {found = found} s room e is same =
     e ∙ ap (answer-for found) same ∙ ap (λ (f : Scanned). answer-for f room) is
 
--- What is accepted has room.
-pub all-fit : (s : List ℕ) (room : ℕ) → read-answer s room .number ≡ 0 → length (entries-read s) ≤ room
-unfolding read-answer
-all-fit s room e =
-    ⊎-elim
-    (λ good.
-    ⊎-elim
-    (λ more.
-    let never : _≡_ {A = ℕ} 24 0 = rw (eq-eqb (refusal-read s) 0 good, lt-ltb room (length (entries-read s)) more) at e in omega arith)
-    (λ fits. fits) (less-or-not room (length (entries-read s))))
-    (λ bad. let never : refusal-read s ≡ 0 = rw (ne-eqb (refusal-read s) 0 bad) at e in omega (arith, bad never))
-    (same-or-not (refusal-read s) 0)
+module _ (s : List ℕ) (room : ℕ) where
+  -- more entries than have room: a number, that of a bad record or 24
+  number-if-more : room < length (entries-read s) → read-answer s room .number ≢ 0
+  unfolding read-answer
+  number-if-more more e =
+      ⊎-elim
+      (λ good.
+      let never : _≡_ {A = ℕ} 24 0 = rw (eq-eqb (refusal-read s) 0 good, lt-ltb room (length (entries-read s)) more) at e in omega arith)
+      (λ bad. bad (rw (ne-eqb (refusal-read s) 0 bad) at e)) (same-or-not (refusal-read s) 0)
+
+  -- What is accepted has room.
+  pub all-fit : read-answer s room .number ≡ 0 → length (entries-read s) ≤ room
+  all-fit e =
+      ⊎-elim (λ more. omega (arith, number-if-more more e)) (λ fits. fits) (less-or-not room (length (entries-read s)))
 
 module _ (s : List ℕ) (l : Lists) {o : Transcribed} (right : o ≡ read-answer s (size l)) where
   number-is : o .number ≡ read-answer s (size l) .number

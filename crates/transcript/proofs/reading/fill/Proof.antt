@@ -12,8 +12,8 @@ use Rattle.transcript_bytes.specs.declared.Part.{Part}
 use Rattle.transcript_bytes.specs.declared.Step.the-variants.{Goes, Whole, Bad}
 use Rattle.transcript.specs.Parts.{with-entry}
 use Rattle.transcript.proofs.Columns.{SameLengths, lengths-stay, same-size, entry-more}
-use Rattle.transcript.proofs.Counting.{Counting, begun, goes-on, counted, stopped, all-read}
-use Rattle.transcript.proofs.ReadingOn.{so-far}
+use Rattle.transcript.proofs.Counting.{Counting, begun, goes-on, counted, stopped}
+use Rattle.transcript.proofs.ReadingOn.{at-end, so-far}
 use Rattle.transcript.proofs.reading.fill.Statement.{statement}
 use Rattle.transcript.proofs.reading.fill.Tie as tie
 
@@ -60,7 +60,7 @@ module _ {s : List ℕ} {l₀ l : Lists} {p : Part} {entries i : ℕ} (f : Filli
     bad-ends b = f .filled ∙ ap (λ (r : Reading). with-entries (r .got) l₀) (sym (stopped (f .reads) more b))
 
   all-put : length s ≤ i → l ≡ with-entries (entries-read s) l₀
-  all-put h = f .filled ∙ ap (λ (r : Reading). with-entries (r .got) l₀) (sym (all-read (f .reads) h))
+  all-put h = f .filled ∙ ap (λ (r : Reading). with-entries (r .got) l₀) (sym (at-end (f .reads .here) h))
 
 abbrev Inv-loop : tie.InvT-loop
 Inv-loop bytes kinds₀ registers₀ lanes₀ words₀ part₀ entries₀ i₀ kinds registers lanes words part entries i =

@@ -13,7 +13,8 @@ use Rattle.transcript_bytes.specs.declared.Step.the-variants.{Bad}
 use Rattle.transcript.specs.Parts.{scanned}
 use Rattle.transcript.specs.declared.scanning.Scanned.{Scanned}
 use Rattle.transcript.proofs.BadNumbers.{bad-has-number}
-use Rattle.transcript.proofs.Counting.{Counting, begun, goes-on, counted, stopped, all-read}
+use Rattle.transcript.proofs.Counting.{Counting, begun, goes-on, counted, stopped}
+use Rattle.transcript.proofs.ReadingOn.{at-end}
 use Rattle.transcript.proofs.scanning.scan.Statement.{statement}
 use Rattle.transcript.proofs.scanning.scan.Tie as tie
 
@@ -32,7 +33,7 @@ module _ {s : List ℕ} {p : Part} {entries place i : ℕ} (k : Counting s p ent
       ap found-by (sym (stopped k more b))
 
   end-found : length s ≤ i → found entries place (cut-off p) ≡ scanned s
-  end-found h = ap (λ (m : ℕ). found m place (cut-off p)) (k .count) ∙ ap found-by (sym (all-read k h))
+  end-found h = ap (λ (m : ℕ). found m place (cut-off p)) (k .count) ∙ ap found-by (sym (at-end (k .here) h))
 
 abbrev Inv-loop : tie.InvT-loop
 Inv-loop bytes part₀ entries₀ place₀ i₀ part entries place i = Counting bytes part entries place i
