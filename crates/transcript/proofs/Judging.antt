@@ -8,10 +8,12 @@ use lib.ListN.{length, length-append}
 use borrow.Author.Tests.{eq-eqb, ne-eqb}
 use Rattle.words.proofs.Choices.{same-or-not}
 use Rattle.transcript_bytes.specs.Format.{record-of, transcript-of}
+use Rattle.transcript_bytes.specs.InPlainWords.{AllGood}
 use Rattle.transcript_bytes.specs.Writing.{entry-refusal, refused, first-bad}
 use Rattle.transcript_bytes.specs.declared.Entry.{Entry}
 use Rattle.transcript_bytes.specs.declared.Transcribed.{Transcribed}
-use Rattle.transcript.specs.Parts.{AllGood, judged}
+use Rattle.transcript_bytes.proofs.WrittenExactly.{passes-good}
+use Rattle.transcript.specs.WriterParts.{judged}
 use Rattle.transcript.specs.declared.writing.Judged.{Judged}
 
 abbrev pub found : ℕ → ℕ → ℕ → Judged
@@ -45,7 +47,7 @@ passed k wanted (e ∷ rest) z =
     let on = good-one k wanted e rest g in
     let p = passed (suc k) (wanted + length (record-of e)) rest (rw on at z) in
     record {
-      good = (g, p .good);
+      good = (passes-good e g, p .good);
       wants =
           ap (λ (o : Judged). o .wanted) on ∙
           p .wants ∙

@@ -8,7 +8,7 @@ use lib.ListN.{length, drop, set, length-append}
 use lib.Seq.{sets, length-sets, sets-eq}
 use Rattle.words.proofs.One.{one-value}
 use Rattle.transcript_bytes.specs.Lists.{over}
-use Rattle.transcript.specs.Parts.{Put}
+use Rattle.transcript.specs.WriterParts.{Put}
 
 -- Two texts, one put behind the other, are put together.
 pub sets-behind : (o : List ℕ) (at : ℕ) (t u : List ℕ) → sets (sets o at t) (at + length t) u ≡ sets o at (t ++ u)

@@ -11,7 +11,7 @@ use Rattle.transcript_bytes.specs.Format.{transcript-of}
 use Rattle.transcript_bytes.specs.Lists.{Lists, size, entries-in, over}
 use Rattle.transcript_bytes.specs.Writing.{refused, accepted, fitting, write-answer, bytes-after, WroteTranscript}
 use Rattle.transcript_bytes.specs.declared.Transcribed.{Transcribed}
-use Rattle.transcript.specs.Parts.{judged, Writable}
+use Rattle.transcript.specs.WriterParts.{judged, Writable}
 use Rattle.transcript.specs.declared.writing.Judged.{Judged}
 use Rattle.transcript.proofs.Judging.{Passed, passed, barred}
 

@@ -1,2 +1,3 @@
 -- what only private functions state
-pub mod Parts
+pub mod WriterParts
+pub mod ReaderParts

@@ -1,6 +1,6 @@
-// The entries that the writer is lent, and the refusal of each.
+// The entries that a call is lent, and the refusal of each.
 ghost use mathlib.Core.Path.{_≡_};
-ghost use Prim.Native.Nat.{_<_};
+ghost use Prim.Native.Nat.{_<_, min};
 ghost use Rattle.transcript_bytes.specs.Lists.{lists, size, entry-at};
 ghost use Rattle.transcript_bytes.specs.Writing.{no-record, entry-refusal};
 use transcript_bytes::Entry;
@@ -9,14 +9,11 @@ use words::either;
 use words::least;
 use words::names_lanes;
 
-// How many entries four lists hold: as many as the shortest.
-pub(crate) fn count_entries(kinds: &[u32], registers: &[u32], lanes: &[u32], words: &[u32]) -> usize
-    ensures { λ n. ⌜ n ≡ size (lists (now (kinds .entry)) (now (registers .entry)) (now (lanes .entry)) (now (words .entry))) ⌝ }
+// How many entries four lists of these lengths hold: as many as the shortest.
+pub(crate) fn shortest(kinds: usize, registers: usize, lanes: usize, words: usize) -> usize
+    ensures { λ n. ⌜ n ≡ min (min kinds registers) (min lanes words) ⌝ }
 {
-    least(
-        least(kinds.len(), registers.len()),
-        least(lanes.len(), words.len()),
-    )
+    least(least(kinds, registers), least(lanes, words))
 }
 
 // Entry i of the four lists.

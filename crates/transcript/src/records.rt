@@ -1,15 +1,15 @@
-// The record of an entry that is not refused: its head and, for a write, its word, in groups of seven bits.
+// The record of a good entry: its head and, for a write, its word, in groups of seven bits.
 ghost use mathlib.Core.Path.{_≡_};
 ghost use Prim.Native.Nat.{_+_, _≤_, _<_};
 ghost use lib.ListN.{length};
 ghost use Rattle.transcript_bytes.specs.Format.{head-of, groups, record-of};
-ghost use Rattle.transcript_bytes.specs.Writing.{entry-refusal};
-ghost use Rattle.transcript.specs.Parts.{Put};
+ghost use Rattle.transcript_bytes.specs.InPlainWords.{Good};
+ghost use Rattle.transcript.specs.WriterParts.{Put};
 use transcript_bytes::Entry;
 
 // The head of an entry's record.
 fn head_of(e: Entry) -> u32
-    requires { ⌜ entry-refusal e ≡ 0 ⌝ }
+    requires { ⌜ Good e ⌝ }
     ensures { λ h. ⌜ h ≡ head-of e ⌝ }
 {
     e.kind + 2 * e.register + 8 * e.lanes
@@ -30,7 +30,7 @@ fn count_groups(v: u32) -> usize
 
 // How many bytes an entry's record has.
 pub(crate) fn count_bytes(e: Entry) -> usize
-    requires { ⌜ entry-refusal e ≡ 0 ⌝ }
+    requires { ⌜ Good e ⌝ }
     ensures { λ n. ⌜ n ≡ length (record-of e) ⌝ }
 {
     let head = count_groups(head_of(e));
@@ -62,7 +62,7 @@ fn put_groups(bytes: &mut [u8], at: usize, v: u32) -> usize
 
 // Puts an entry's record into the bytes from a place on, and answers the place after it.
 pub(crate) fn put_record(bytes: &mut [u8], at: usize, e: Entry) -> usize
-    requires { ⌜ (entry-refusal e ≡ 0) × (at + length (record-of e) ≤ length (now bytes)) ⌝ }
+    requires { ⌜ Good e × (at + length (record-of e) ≤ length (now bytes)) ⌝ }
     ensures { λ r. ⌜ Put (now (bytes .entry)) at (record-of e) r (now (bytes .exit)) ⌝ }
 {
     let after_head = put_groups(bytes, at, head_of(e));

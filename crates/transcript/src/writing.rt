@@ -3,11 +3,12 @@ ghost use mathlib.Core.Path.{_≡_};
 ghost use Prim.Native.Nat.{_≤_};
 ghost use Rattle.transcript_bytes.specs.Format.{transcript-of};
 ghost use Rattle.transcript_bytes.specs.Lists.{lists, size, entries-from, over};
-ghost use Rattle.transcript_bytes.specs.Writing.{refused, WroteTranscript};
-ghost use Rattle.transcript.specs.Parts.{judged, Writable};
-use crate::entries::count_entries;
+ghost use Rattle.transcript_bytes.specs.Writing.{WroteTranscript};
+ghost use Rattle.transcript.specs.WriterParts.{judged, Writable};
+use crate::answers::refuse;
 use crate::entries::entry_at;
 use crate::entries::refusal_of;
+use crate::entries::shortest;
 use crate::records::count_bytes;
 use crate::records::put_record;
 use transcript_bytes::Transcribed;
@@ -18,17 +19,6 @@ struct Judged {
     number: u8,
     place: usize,
     wanted: usize,
-}
-
-// The answer of a refusal.
-fn refuse(number: u8, place: usize) -> Transcribed
-    ensures { λ o. ⌜ o ≡ refused number place ⌝ }
-{
-    Transcribed {
-        number,
-        count: 0,
-        place,
-    }
 }
 
 // The first n entries, judged one after the other up to the first bad one.
@@ -93,7 +83,7 @@ pub fn write_transcript(
         (lists (now (kinds .entry)) (now (registers .entry)) (now (lanes .entry)) (now (words .entry))) (now (bytes .entry))
         o (now (bytes .exit)) ⌝ }
 {
-    let n = count_entries(kinds, registers, lanes, words);
+    let n = shortest(kinds.len(), registers.len(), lanes.len(), words.len());
     let judged = judge(kinds, registers, lanes, words, n);
     if judged.number != 0 {
         return refuse(judged.number, judged.place);

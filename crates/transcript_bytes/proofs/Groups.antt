@@ -17,17 +17,32 @@ use Rattle.transcript_bytes.specs.InPlainWords.{Continued, Spelled, valu
 use Rattle.transcript_bytes.proofs.Bytes.{bytes-none, bytes-cons, bytes-first}
 
 -- ---- groups, by how many there are
+-- A number below 128 is one group.
 pub one-group : (v : ℕ) → v < 128 → groups v ≡ v ∷ []
 unfolding groups
 one-group v h = rw (lt-ltb v 128 h)
 
+-- From there on up to 16,384 it has two,
 pub two-groups : (v : ℕ) → 128 ≤ v → v < 16384 → groups v ≡ (128 + v / 128) ∷ (v % 128) ∷ []
 unfolding groups
 two-groups v l h = rw (le-ltb v 128 l, lt-ltb v 16384 h)
 
+-- and from there on three.
 pub three-groups : (v : ℕ) → 16384 ≤ v → groups v ≡ (128 + v / 16384) ∷ (128 + v / 128 % 128) ∷ (v % 128) ∷ []
 unfolding groups
 three-groups v l = let k : 128 ≤ v = omega arith in rw (le-ltb v 128 k, le-ltb v 16384 l)
+
+-- There are never more.
+pub few-groups : (v : ℕ) → length (groups v) ≤ 3
+few-groups v =
+    ⊎-elim
+    (λ small. omega (arith, ap length (one-group v small)))
+    (λ h.
+    ⊎-elim
+    (λ k. omega (arith, ap length (two-groups v h k)))
+    (λ large. omega (arith, ap length (three-groups v large)))
+    (less-or-not v 16384))
+    (less-or-not v 128)
 
 -- ---- what some bytes spell, by how many there are
 value-one : (a : ℕ) → value-of (a ∷ []) ≡ a % 128

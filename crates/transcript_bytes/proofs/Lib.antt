@@ -2,13 +2,16 @@
 pub mod Bytes
 pub mod Groups
 pub mod NumberRead
--- ---- the reader, on a number, a record and a whole string
+-- ---- the reader, byte by byte, on a number, a record and a whole string
+pub mod BadNumbers
+pub mod ReadingOn
 pub mod ThroughNumbers
 pub mod Judged
 pub mod ThroughRecords
 pub mod Divided
 pub mod ReadExactly
 -- ---- the writer
+pub mod RecordBytes
 pub mod WrittenExactly
 -- ---- between the two
 pub mod OneEncoding

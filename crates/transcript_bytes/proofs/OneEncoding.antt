@@ -3,10 +3,9 @@ use Prim.Native.Nat.{ℕ, _+_, _*_, _<_, _≤_}
 use native.Mathlib.Omega.{arith}
 use mathlib.Core.Path.{_≡_, refl, sym, ap, _∙_, subst}
 use mathlib.Core.Bool.{Bool, true, false, cond}
-use mathlib.Core.List.{List, [], _∷_, _++_, append-nil}
+use mathlib.Core.List.{List, [], _∷_, _++_}
 use mathlib.Core.Logic.{_⊎_, ⊎-elim, _↔_}
 use lib.Dec.{eqb}
-use borrow.Author.Tests.{eq-eqb, ne-eqb}
 use Rattle.words.specs.Bytes.{AreBytes}
 use Rattle.words.proofs.Choices.{same-or-not}
 use Rattle.transcript_bytes.specs.Format.{head-of, groups, record-of, transcript-of}
@@ -15,28 +14,19 @@ use Rattle.transcript_bytes.specs.declared.Entry.{Entry}
 use Rattle.transcript_bytes.proofs.Bytes.{bytes-none, bytes-first, bytes-second, bytes-joined}
 use Rattle.transcript_bytes.proofs.Groups.{groups-say, groups-bytes, said-by-groups}
 use Rattle.transcript_bytes.proofs.Judged.{head-range}
+use Rattle.transcript_bytes.proofs.RecordBytes.{of-write, of-other}
 
--- ---- a record, by its kind
-pub read-bytes : (e : Entry) → e .kind ≡ 0 → record-of e ≡ groups (head-of e)
-unfolding record-of
-read-bytes e z =
-    ap (λ (t : Bool). groups (head-of e) ++ cond t (groups (e .word)) []) (ne-eqb (e .kind) 1 (λ o. omega arith))
-    ∙ append-nil (groups (head-of e))
-
-pub write-bytes : (e : Entry) → e .kind ≡ 1 → record-of e ≡ groups (head-of e) ++ groups (e .word)
-unfolding record-of
-write-bytes e o = ap (λ (t : Bool). groups (head-of e) ++ cond t (groups (e .word)) []) (eq-eqb (e .kind) 1 o)
-
+-- ---- what is written is sound
 -- The record of a good entry is a good record.
 pub record-good : (e : Entry) → Good e → GoodRecord (record-of e) e
 record-good e g =
     let r = head-range e g in
     let h = groups-say (head-of e) (omega arith) in
     ⊎-elim
-    (λ z. subst (λ (s : List ℕ). GoodRecord s e) (sym (read-bytes e z)) (a-read g z h))
+    (λ z. subst (λ (s : List ℕ). GoodRecord s e) (sym (of-other e (λ o. omega arith))) (a-read g z h))
     (λ d.
     let o : e .kind ≡ 1 = omega (arith, g .kind, d) in
-    subst (λ (s : List ℕ). GoodRecord s e) (sym (write-bytes e o)) (a-write g o h (groups-say (e .word) (omega (arith, g .word)))))
+    subst (λ (s : List ℕ). GoodRecord s e) (sym (of-write e o)) (a-write g o h (groups-say (e .word) (omega (arith, g .word)))))
     (same-or-not (e .kind) 0)
 
 -- The transcript of good entries is sound.
@@ -50,12 +40,12 @@ transcript-sound (e ∷ es) g = and-more (record-good e (g .0)) (transcript-soun
 pub good-record-is : (s : List ℕ) (e : Entry) → AreBytes s → GoodRecord s e → Good e × (s ≡ record-of e)
 good-record-is s e b (a-read g z h) =
     let r = head-range e g in
-    (g, said-by-groups s (head-of e) b h (omega arith) ∙ sym (read-bytes e z))
+    (g, said-by-groups s (head-of e) b h (omega arith) ∙ sym (of-other e (λ o. omega arith)))
 good-record-is _ e b (a-write {h} {w} g o p q) =
     let r = head-range e g in
     let x = said-by-groups h (head-of e) (bytes-first h w b) p (omega arith) in
     let y = said-by-groups w (e .word) (bytes-second h w b) q (omega (arith, g .word)) in
-    (g, ap (λ (l : List ℕ). l ++ w) x ∙ ap (λ (l : List ℕ). groups (head-of e) ++ l) y ∙ sym (write-bytes e o))
+    (g, ap (λ (l : List ℕ). l ++ w) x ∙ ap (λ (l : List ℕ). groups (head-of e) ++ l) y ∙ sym (of-write e o))
 
 -- A sound string of bytes is the transcript of its entries, and these are good.
 pub sound-is : (s : List ℕ) (es : List Entry) → AreBytes s → Sound s es → AllGood es × (s ≡ transcript-of es)

@@ -19,20 +19,6 @@ use Rattle.transcript_bytes.specs.declared.Step.{Step}
 use Rattle.transcript_bytes.specs.declared.Step.the-variants.{Goes}
 use Rattle.transcript_bytes.proofs.NumberRead.{grown-by}
 
--- After the first bad record nothing moves.
-pub stuck : (a : Reading) (s : List ℕ) → (a .refusal ≡ 0 → ⊥) → feeds a s ≡ a
-unfolding feeds feed
-stuck a [] h = refl
-stuck a (b ∷ s) h =
-    ap (λ (t : Bool). feeds (cond t (fed (a .got) (a .from) (a .next + 1) (step (a .part) b)) a) s) (ne-eqb (a .refusal) 0 h)
-    ∙ stuck a s h
-
--- A string may be cut anywhere.
-pub feeds-append : (a : Reading) (s t : List ℕ) → feeds a (s ++ t) ≡ feeds (feeds a s) t
-unfolding feeds
-feeds-append a [] t = refl
-feeds-append a (b ∷ s) t = feeds-append (feed a b) s t
-
 pub next-place : (i n : ℕ) → i + 1 + n ≡ i + suc n
 next-place i n = omega arith
 

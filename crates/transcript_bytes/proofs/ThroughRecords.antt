@@ -22,7 +22,8 @@ use Rattle.transcript_bytes.specs.declared.Part.the-variants.{Head, Word
 use Rattle.transcript_bytes.specs.declared.Step.{Step}
 use Rattle.transcript_bytes.specs.declared.Step.the-variants.{Goes, Whole, Bad}
 use Rattle.transcript_bytes.proofs.NumberRead.{grown-by, is-begun}
-use Rattle.transcript_bytes.proofs.ThroughNumbers.{stuck, adds, reads-number, head-rule, word-rule}
+use Rattle.transcript_bytes.proofs.ReadingOn.{stays-refused}
+use Rattle.transcript_bytes.proofs.ThroughNumbers.{adds, reads-number, head-rule, word-rule}
 use Rattle.transcript_bytes.proofs.Judged.{head-refused, word-refused, head-accepted, word-accepted, head-range, head-kind, head-back}
 
 -- a reading that stands between two records
@@ -101,7 +102,7 @@ pub record Stopped (got : List Entry) (i n : ℕ) (a : Reading) : Type 0 where
 module _ (got : List Entry) (i : ℕ) where
   stops : (j n : ℕ) (rest : List ℕ) → n ≢ 0 → Stopped got i n (feeds (fed got i j (Bad n)) rest)
   stops j n rest d =
-      subst (Stopped got i n) (sym (stuck (fed got i j (Bad n)) rest d))
+      subst (Stopped got i n) (sym (stays-refused (fed got i j (Bad n)) rest d))
       (record {
         refusal = ap (λ (t : Bool). cond t 0 n) (ne-eqb n 0 d);
         entries = refl;

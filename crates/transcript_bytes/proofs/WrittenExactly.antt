@@ -100,6 +100,10 @@ module _ (e : Entry) where
   pub good-or-bad : Judged
   good-or-bad = ⊎-elim (λ h. inr (_, no-register h)) with-register (less-or-not 3 (e .register))
 
+-- An entry that is not refused is good.
+pub passes-good : (e : Entry) → entry-refusal e ≡ 0 → Good e
+passes-good e z = ⊎-elim (λ g. g) (λ b. absurd (bad-number e (b .0) (b .1) (sym (bad-refused e (b .0) (b .1)) ∙ z))) (good-or-bad e)
+
 -- ---- a list of entries
 -- Where all are good, none is bad.
 pub none-bad : (k : ℕ) (es : List Entry) (good : Transcribed) → AllGood es → first-bad k es good ≡ good

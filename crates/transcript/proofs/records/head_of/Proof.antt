@@ -1,21 +1,21 @@
--- `transcript::records::head_of` meets its contract: the head of an entry that is not refused is small, so that nothing wraps.
+-- `transcript::records::head_of` meets its contract: the head of a good entry is small, so that nothing wraps.
 use native.Mathlib.Omega.{arith}
 use mathlib.Core.Path.{refl}
-use Rattle.transcript.proofs.GoodEntries.{small-head}
+use Rattle.transcript_bytes.proofs.Judged.{head-range}
 use Rattle.transcript.proofs.records.head_of.Statement.{statement}
 use Rattle.transcript.proofs.records.head_of.Tie as tie
 
 mul-result : tie.Need-mul-result
-mul-result c = omega (arith, small-head _ (c .before .pre))
+mul-result c = omega (arith, head-range _ (c .before .pre) .1)
 
 add-result : tie.Need-add-result
-add-result c = omega (arith, small-head _ (c .before .before .pre))
+add-result c = omega (arith, head-range _ (c .before .before .pre) .1)
 
 mul-result-2 : tie.Need-mul-result-2
-mul-result-2 c = omega (arith, small-head _ (c .before .before .before .pre))
+mul-result-2 c = omega (arith, head-range _ (c .before .before .before .pre) .1)
 
 add-result-2 : tie.Need-add-result-2
-add-result-2 c = omega (arith, small-head _ (c .before .before .before .pre))
+add-result-2 c = omega (arith, head-range _ (c .before .before .before .pre) .1)
 
 returns : tie.Need-returns
 returns c = refl

@@ -1,9 +1,9 @@
 -- `transcript::records::put_record` meets its contract: the head's groups and, for a write, the word's behind them.
 use native.Mathlib.Omega.{arith}
 use mathlib.Core.Path.{sym}
-use Rattle.transcript.proofs.GoodEntries.{good, small-head}
+use Rattle.transcript_bytes.proofs.Judged.{head-range}
 use Rattle.transcript.proofs.Putting.{put-behind, put-length}
-use Rattle.transcript.proofs.RecordBytes.{head-fits, of-write, length-of-write, of-other}
+use Rattle.transcript_bytes.proofs.RecordBytes.{head-fits, of-write, length-of-write, of-other}
 use Rattle.transcript.proofs.records.put_record.Statement.{statement}
 use Rattle.transcript.proofs.records.put_record.Tie as tie
 
@@ -14,7 +14,7 @@ put-groups-requires : tie.Need-put-groups-requires
 put-groups-requires c κs =
     let start = c .before .before .before in
     let e = start .args .e in
-    rw (c .head-of .ensures) (omega (arith, small-head e (start .pre .0)), omega (arith, start .pre .1, head-fits e))
+    rw (c .head-of .ensures) (omega (arith, head-range e (start .pre .0) .1), omega (arith, start .pre .1, head-fits e))
 
 put-groups-requires-2 : tie.Need-put-groups-requires-2
 put-groups-requires-2 c κs =
@@ -22,7 +22,7 @@ put-groups-requires-2 c κs =
     let start = put .before .before .before .before in
     let e = start .args .e in
     let head = rw (put .before .head-of .ensures) at (put .put-groups .ensures) in (
-      omega (arith, good e (start .pre .0) .word),
+      omega (arith, start .pre .0 .word),
       omega (arith, start .pre .1, head .end, length-of-write e (c .before .if1 .taken), put-length head),
     )
 

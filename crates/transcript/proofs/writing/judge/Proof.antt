@@ -11,10 +11,11 @@ use Rattle.transcript_bytes.specs.Format.{record-of}
 use Rattle.transcript_bytes.specs.Lists.{Lists, lists, entry-at, entries-from}
 use Rattle.transcript_bytes.specs.Writing.{entry-refusal}
 use Rattle.transcript_bytes.specs.declared.Entry.{Entry}
-use Rattle.transcript.specs.Parts.{judged}
+use Rattle.transcript.specs.WriterParts.{judged}
 use Rattle.transcript.proofs.EntriesLeft.{left, all-left, next-left, none-left}
 use Rattle.transcript.proofs.Judging.{found, good-one, bad-one}
-use Rattle.transcript.proofs.RecordBytes.{short}
+use Rattle.transcript_bytes.proofs.RecordBytes.{short}
+use Rattle.transcript_bytes.proofs.WrittenExactly.{passes-good}
 use Rattle.transcript.proofs.writing.judge.Statement.{statement}
 use Rattle.transcript.proofs.writing.judge.Tie as tie
 
@@ -38,7 +39,7 @@ module _ {l : Lists} {n wanted i : ℕ} (j : Judging l n wanted i) where
         let one = first ∙ good-one i wanted e rest z in
         record {
           most = omega arith;
-          few = omega (arith, j .few, short e z);
+          few = omega (arith, j .few, short e (passes-good e z));
           same = rw h (one ∙ ap (λ (k : ℕ). judged k (wanted + length (record-of e)) rest) (sym (add-one i)));
         }
 
@@ -78,7 +79,7 @@ returns c =
     _ (judged .refusal-of .ensures) (c .if1 .taken)
 
 count-bytes-requires : tie.Need-count-bytes-requires Inv-loop μ-loop
-count-bytes-requires c κs = sym (c .before .refusal-of .ensures) ∙ c .if1 .left
+count-bytes-requires c κs = passes-good _ (sym (c .before .refusal-of .ensures) ∙ c .if1 .left)
 
 add-wanted : tie.Need-add-wanted Inv-loop μ-loop
 add-wanted c =
@@ -86,7 +87,8 @@ add-wanted c =
     let taken = judged .before in
     let j = taken .before .before .loop .inv in
     let start = taken .before .before .before .before .before .before .before in
-    let four = short (taken .entry-at .result) (sym (judged .refusal-of .ensures) ∙ c .before .if1 .left) in
+    let good = passes-good (taken .entry-at .result) (sym (judged .refusal-of .ensures) ∙ c .before .if1 .left) in
+    let four = short (taken .entry-at .result) good in
     omega (arith, j .few, taken .before .loop-test .taken, start .pre, c .count-bytes .ensures, four)
 
 loop-less : tie.Need-loop-less Inv-loop μ-loop

@@ -2,16 +2,16 @@
 use native.Mathlib.Omega.{arith}
 use mathlib.Core.Path.{_≡_}
 use Rattle.transcript_bytes.specs.Lists.{Lists, lists, entries-in}
-use Rattle.transcript.specs.Parts.{judged}
+use Rattle.transcript.specs.WriterParts.{judged}
 use Rattle.transcript.proofs.Written.{bad-entry, too-small, can-write, written}
 use Rattle.transcript.proofs.writing.write_transcript.Statement.{statement}
 use Rattle.transcript.proofs.writing.write_transcript.Tie as tie
 
-count-entries-requires : tie.Need-count-entries-requires
-count-entries-requires c κs = tt
+shortest-requires : tie.Need-shortest-requires
+shortest-requires c κs = tt
 
 judge-requires : tie.Need-judge-requires
-judge-requires c κs = omega (arith, c .count-entries .ensures)
+judge-requires c κs = omega (arith, c .shortest .ensures)
 
 -- the list that is lent
 abbrev lent : tie.After-judge → Lists
@@ -21,7 +21,7 @@ lent c =
 
 -- all of it is judged
 found : (c : tie.After-judge) → c .judge .result ≡ judged 0 0 (entries-in (lent c))
-found c = rw (c .before .count-entries .ensures) at (c .judge .ensures)
+found c = rw (c .before .shortest .ensures) at (c .judge .ensures)
 
 refuse-requires : tie.Need-refuse-requires
 refuse-requires c κs = tt
@@ -44,7 +44,7 @@ put-records-requires : tie.Need-put-records-requires
 put-records-requires c κs =
     let good = c .before .before .before in
     let j = good .before .before in
-    rw (j .before .count-entries .ensures) (can-write (lent j) _ (found j) (good .if1 .left) (c .before .if2 .left))
+    rw (j .before .shortest .ensures) (can-write (lent j) _ (found j) (good .if1 .left) (c .before .if2 .left))
 
 same-length : tie.Need-same-length
 same-length c = omega arith
@@ -55,14 +55,14 @@ returns-3 c =
     let room = put .before .before in
     let good = room .before .before in
     let j = good .before .before in
-    let text = rw (j .before .count-entries .ensures) at (put .put-records .ensures) in
+    let text = rw (j .before .shortest .ensures) at (put .put-records .ensures) in
     written (lent j) _ (found j) (good .if1 .left) (room .if2 .left) text
 
 pub write-transcript-spec : {M : Type 1} → statement M
 write-transcript-spec =
     tie.close
     (tie.spec
-    count-entries-requires
+    shortest-requires
     judge-requires
     refuse-requires
     returns

@@ -9,11 +9,11 @@ use lib.Dec.{eqb}
 use lib.ListN.{length, length-append}
 use borrow.Author.Tests.{eq-eqb, ne-eqb}
 use Rattle.words.proofs.Choices.{same-or-not}
 use Rattle.transcript_bytes.specs.Format.{head-of, groups, record-of}
-use Rattle.transcript_bytes.specs.Writing.{entry-refusal}
+use Rattle.transcript_bytes.specs.InPlainWords.{Good}
 use Rattle.transcript_bytes.specs.declared.Entry.{Entry}
-use Rattle.transcript.proofs.GoodEntries.{small-head}
-use Rattle.transcript.proofs.Groups.{one-group, few-groups}
+use Rattle.transcript_bytes.proofs.Groups.{one-group, few-groups}
+use Rattle.transcript_bytes.proofs.Judged.{head-range}
 
 module _ (e : Entry) where
   -- A write.
@@ -35,9 +35,9 @@ module _ (e : Entry) where
   head-fits = omega (arith, length-append (groups (head-of e)) (cond (eqb (e .kind) 1) (groups (e .word)) []))
 
   -- The record of a good entry has at most four bytes.
-  pub short : entry-refusal e ≡ 0 → length (record-of e) ≤ 4
-  short z =
-      let head = ap length (one-group (head-of e) (omega (arith, small-head e z))) in
+  pub short : Good e → length (record-of e) ≤ 4
+  short g =
+      let head = ap length (one-group (head-of e) (omega (arith, head-range e g .1))) in
       ⊎-elim
       (λ h. omega (arith, head, few-groups (e .word), length-of-write h))
       (λ h. omega (arith, head, ap length (of-other h)))

@@ -1,6 +1,5 @@
--- What the private functions of this crate state.
+-- What the private functions of the writer state.
 --   Put                  a text put into the bytes from a place on
---   AllGood es           no entry of the list is refused
 --   judged k wanted es   what judging finds in the entries es: the first of them has index k, and the records before it so many bytes
 --   Writable l n bytes   the first n entries can be written: they are there, they are good, and their records fit the bytes
 use Prim.Native.Nat.{ℕ, suc, _+_, _≤_}
@@ -11,6 +10,7 @@ use lib.Dec.{eqb}
 use lib.ListN.{length}
 use lib.Seq.{sets}
 use Rattle.transcript_bytes.specs.Format.{record-of, transcript-of}
+use Rattle.transcript_bytes.specs.InPlainWords.{AllGood}
 use Rattle.transcript_bytes.specs.Lists.{Lists, size, entries-from}
 use Rattle.transcript_bytes.specs.Writing.{entry-refusal}
 use Rattle.transcript_bytes.specs.declared.Entry.{Entry}
@@ -19,10 +19,6 @@ use Rattle.transcript.specs.declared.writing.Judged.{Judged}
 pub record Put (out : List ℕ) (at : ℕ) (text : List ℕ) (e : ℕ) (out′ : List ℕ) : Type 0 where
   pub end : e ≡ at + length text
   pub bytes : out′ ≡ sets out at text
-
-abbrev pub AllGood : List Entry → Type 0
-AllGood [] = Unit
-AllGood (e ∷ rest) = (entry-refusal e ≡ 0) × AllGood rest
 
 unfoldable pub judged : ℕ → ℕ → List Entry → Judged
 judged k wanted [] = record { number = 0; place = 0; wanted = wanted }

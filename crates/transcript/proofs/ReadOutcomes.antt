@@ -1,0 +1,50 @@
+-- What the reader answers and leaves: a refusal with the lists as they were, or the entries put into them.
+use Prim.Native.Nat.{ℕ, _≤_, _<_}
+use native.Mathlib.Omega.{arith}
+use mathlib.Core.Path.{_≡_, sym, ap, _∙_}
+use mathlib.Core.List.{List}
+use mathlib.Core.Logic.{_≢_, ⊎-elim}
+use lib.ListN.{length}
+use borrow.Author.Tests.{lt-ltb, eq-eqb, ne-eqb}
+use Rattle.words.proofs.Choices.{less-or-not, same-or-not}
+use Rattle.transcript_bytes.specs.Lists.{Lists, size, with-entries}
+use Rattle.transcript_bytes.specs.Reading.{entries-read, refusal-read, read-answer, lists-after, ReadTranscript}
+use Rattle.transcript_bytes.specs.declared.Transcribed.{Transcribed}
+use Rattle.transcript.specs.ReaderParts.{scanned, answer-for}
+use Rattle.transcript.specs.declared.scanning.Scanned.{Scanned}
+
+-- The answer is right that follows from a scan and from the room of the shortest list.
+pub right-answer : {o : Transcribed} {found : Scanned} (s : List ℕ) (room : ℕ) {free : ℕ} →
+    o ≡ answer-for found free → found ≡ scanned s → free ≡ room → o ≡ read-answer s room
+unfolding read-answer answer-for
+right-answer {found = found} s room e is same =
+    e ∙ ap (answer-for found) same ∙ ap (λ (f : Scanned). answer-for f room) is
+
+module _ (s : List ℕ) (room : ℕ) where
+  -- more entries than have room: a number, that of a bad record or 24
+  number-if-more : room < length (entries-read s) → read-answer s room .number ≢ 0
+  unfolding read-answer
+  number-if-more more e =
+      ⊎-elim
+      (λ good.
+      let never : _≡_ {A = ℕ} 24 0 = rw (eq-eqb (refusal-read s) 0 good, lt-ltb room (length (entries-read s)) more) at e in omega arith)
+      (λ bad. bad (rw (ne-eqb (refusal-read s) 0 bad) at e)) (same-or-not (refusal-read s) 0)
+
+  -- What is accepted has room.
+  pub all-fit : read-answer s room .number ≡ 0 → length (entries-read s) ≤ room
+  all-fit e =
+      ⊎-elim (λ more. omega (arith, number-if-more more e)) (λ fits. fits) (less-or-not room (length (entries-read s)))
+
+module _ (s : List ℕ) (l : Lists) {o : Transcribed} (right : o ≡ read-answer s (size l)) where
+  number-is : o .number ≡ read-answer s (size l) .number
+  number-is = ap (λ (x : Transcribed). x .number) right
+
+  -- A refusal leaves the lists as they were.
+  pub nothing-put : o .number ≢ 0 → ReadTranscript s l o l
+  unfolding lists-after
+  nothing-put h = record { answer = right; lists = rw (ne-eqb (read-answer s (size l) .number) 0 (λ z. h (number-is ∙ z))) }
+
+  -- Otherwise the entries are put into them.
+  pub all-put : {l′ : Lists} → o .number ≡ 0 → l′ ≡ with-entries (entries-read s) l → ReadTranscript s l o l′
+  unfolding lists-after
+  all-put good e = record { answer = right; lists = rw (eq-eqb (read-answer s (size l) .number) 0 (sym number-is ∙ good)) e }

@@ -1,0 +1,195 @@
+-- `transcript::reading::fill` meets its contract: at each turn the entries so far stand in the first places of the lists.
+use Prim.Native.Nat.{ℕ, _+_, _-_, _≤_, _<_}
+use native.Mathlib.Omega.{arith}
+use mathlib.Core.Path.{_≡_, refl, sym, ap, _∙_}
+use mathlib.Core.List.{List, [], _∷_}
+use lib.ListN.{length, getD, length-append}
+use borrow.Author.Needs.{needs}
+use Rattle.transcript_bytes.specs.Lists.{Lists, lists, size, with-entries}
+use Rattle.transcript_bytes.specs.Reading.{Reading, fresh, step, entries-read}
+use Rattle.transcript_bytes.specs.declared.Entry.{Entry}
+use Rattle.transcript_bytes.specs.declared.Part.{Part}
+use Rattle.transcript_bytes.specs.declared.Step.the-variants.{Goes, Whole, Bad}
+use Rattle.transcript.specs.ReaderParts.{with-entry}
+use Rattle.transcript.proofs.Filled.{SameLengths, lengths-stay, same-size, entry-more}
+use Rattle.transcript.proofs.Counting.{Counting, begun, goes-on, counted, stopped}
+use Rattle.transcript_bytes.proofs.ReadingOn.{at-end, so-far}
+use Rattle.transcript.proofs.reading.fill.Statement.{statement}
+use Rattle.transcript.proofs.reading.fill.Tie as tie
+
+record Filling (s : List ℕ) (l₀ l : Lists) (p : Part) (entries i : ℕ) : Type 0 where
+  place : ℕ
+  reads : Counting s p entries place i
+  fit : length (entries-read s) ≤ size l₀
+  filled : l ≡ with-entries (reads .got) l₀
+
+none-put : (s : List ℕ) (l : Lists) → length (entries-read s) ≤ size l → Filling s l l fresh 0 0
+none-put s l h = record { place = 0; reads = begun s; fit = h; filled = refl }
+
+module _ {s : List ℕ} {l₀ l : Lists} {p : Part} {entries i : ℕ} (f : Filling s l₀ l p entries i) where
+  -- the lists are as long as they were
+  lengths : SameLengths l₀ l
+  lengths = rw (f .filled) (lengths-stay (f .reads .got) l₀ (omega (arith, so-far (f .reads .here), f .fit)))
+
+  module _ (more : i < length s) where
+    still-filled : {q : Part} → step p (getD s i 0) ≡ Goes q → Filling s l₀ l q entries (i + 1)
+    still-filled e = record { place = f .place; reads = goes-on (f .reads) more e; fit = f .fit; filled = f .filled }
+
+    -- a good record: its entry is one of those that fit, and takes the next place
+    module _ {e : Entry} (w : step p (getD s i 0) ≡ Whole e) where
+      next-fits : entries < size l₀
+      next-fits = omega (arith, so-far (counted (f .reads) more w .here), length-append (f .reads .got) (e ∷ []), f .reads .count, f .fit)
+
+      has-room : entries < size l
+      has-room = rw (same-size lengths) next-fits
+
+      one-put : {l′ : Lists} → l′ ≡ with-entry l entries e → Filling s l₀ l′ fresh (entries + 1) (i + 1)
+      one-put x =
+          record {
+            place = i + 1;
+            reads = counted (f .reads) more w;
+            fit = f .fit;
+            filled =
+                x ∙
+                ap (λ (y : Lists). with-entry y entries e) (f .filled) ∙
+                ap (λ (n : ℕ). with-entry (with-entries (f .reads .got) l₀) n e) (f .reads .count) ∙
+                entry-more (f .reads .got) l₀ e (omega (arith, next-fits, f .reads .count));
+          }
+
+    bad-ends : {n : ℕ} → step p (getD s i 0) ≡ Bad n → l ≡ with-entries (entries-read s) l₀
+    bad-ends b = f .filled ∙ ap (λ (r : Reading). with-entries (r .got) l₀) (sym (stopped (f .reads) more b))
+
+  all-put : length s ≤ i → l ≡ with-entries (entries-read s) l₀
+  all-put h = f .filled ∙ ap (λ (r : Reading). with-entries (r .got) l₀) (sym (at-end (f .reads .here) h))
+
+abbrev Inv-loop : tie.InvT-loop
+Inv-loop bytes kinds₀ registers₀ lanes₀ words₀ part₀ entries₀ i₀ kinds registers lanes words part entries i =
+    Filling bytes (lists kinds₀ registers₀ lanes₀ words₀) (lists kinds registers lanes words) part entries i
+
+abbrev μ-loop : tie.MeasureT-loop
+μ-loop bytes kinds₀ registers₀ lanes₀ words₀ part₀ entries₀ i₀ kinds registers lanes words part entries i = length bytes - i
+
+fresh-part-requires : tie.Need-fresh-part-requires Inv-loop μ-loop
+fresh-part-requires c κs = tt
+
+loop-holds : tie.Need-loop-holds Inv-loop μ-loop
+loop-holds c = rw (c .fresh-part .ensures) (none-put _ _ (c .before .before .before .before .before .before .pre))
+
+shared-slice-read-take-byte : tie.Need-shared-slice-read-take-byte Inv-loop μ-loop
+shared-slice-read-take-byte c = omega arith
+
+take-byte-requires : tie.Need-take-byte-requires Inv-loop μ-loop
+take-byte-requires c κs = tt
+
+add-i : tie.Need-add-i Inv-loop μ-loop
+add-i c = omega arith
+
+enum-known-step : tie.Need-enum-known-step Inv-loop μ-loop
+enum-known-step c = search needs
+
+loop-less : tie.Need-loop-less Inv-loop μ-loop
+loop-less c = omega arith
+
+loop-again : tie.Need-loop-again Inv-loop μ-loop
+loop-again c =
+    let taken = c .before .before .before in
+    let test = taken .before .before in
+    still-filled (test .before .loop .inv) (test .loop-test .taken) (sym (taken .take-byte .ensures) ∙ c .before .step .given .1)
+
+enum-known-step-2 : tie.Need-enum-known-step-2 Inv-loop μ-loop
+enum-known-step-2 c = search needs
+
+fresh-part-requires-2 : tie.Need-fresh-part-requires-2 Inv-loop μ-loop
+fresh-part-requires-2 c κs = tt
+
+put-entry-requires : tie.Need-put-entry-requires Inv-loop μ-loop
+put-entry-requires c κs =
+    let at-fresh = c .before .before .before .before in
+    let taken = at-fresh .before .before .before .before in
+    let test = taken .before .before in
+    has-room (test .before .loop .inv) (test .loop-test .taken)
+    (sym (taken .take-byte .ensures) ∙ at-fresh .before .before .step2 .given .1)
+
+add-entries : tie.Need-add-entries Inv-loop μ-loop
+add-entries c = omega arith
+
+loop-less-2 : tie.Need-loop-less-2 Inv-loop μ-loop
+loop-less-2 c = omega arith
+
+loop-again-2 : tie.Need-loop-again-2 Inv-loop μ-loop
+loop-again-2 c =
+    let put = c .before .before .before .before .before .before .before .before in
+    let at-fresh = put .before .before .before .before .before in
+    let taken = at-fresh .before .before .before .before in
+    let test = taken .before .before in
+    rw (at-fresh .fresh-part2 .ensures)
+    (one-put (test .before .loop .inv) (test .loop-test .taken)
+    (sym (taken .take-byte .ensures) ∙ at-fresh .before .before .step2 .given .1) (put .put-entry .ensures))
+
+enum-told : tie.Need-enum-told Inv-loop μ-loop
+enum-told c = search needs
+
+same-length : tie.Need-same-length Inv-loop μ-loop
+same-length c = lengths (c .before .before .before .before .before .loop .inv) .kinds
+
+same-length-2 : tie.Need-same-length-2 Inv-loop μ-loop
+same-length-2 c = lengths (c .before .before .before .before .before .loop .inv) .registers
+
+same-length-3 : tie.Need-same-length-3 Inv-loop μ-loop
+same-length-3 c = lengths (c .before .before .before .before .before .loop .inv) .lanes
+
+same-length-4 : tie.Need-same-length-4 Inv-loop μ-loop
+same-length-4 c = lengths (c .before .before .before .before .before .loop .inv) .words
+
+returns : tie.Need-returns Inv-loop μ-loop
+returns c =
+    let taken = c .before .before in
+    let test = taken .before .before in
+    bad-ends (test .before .loop .inv) (test .loop-test .taken) (sym (taken .take-byte .ensures) ∙ c .enum-told .given .1)
+
+same-length-5 : tie.Need-same-length-5 Inv-loop μ-loop
+same-length-5 c = lengths (c .before .loop .inv) .kinds
+
+same-length-6 : tie.Need-same-length-6 Inv-loop μ-loop
+same-length-6 c = lengths (c .before .loop .inv) .registers
+
+same-length-7 : tie.Need-same-length-7 Inv-loop μ-loop
+same-length-7 c = lengths (c .before .loop .inv) .lanes
+
+same-length-8 : tie.Need-same-length-8 Inv-loop μ-loop
+same-length-8 c = lengths (c .before .loop .inv) .words
+
+returns-2 : tie.Need-returns-2 Inv-loop μ-loop
+returns-2 c = all-put (c .before .loop .inv) (c .loop-test .left)
+
+pub fill-spec : {M : Type 1} → statement M
+fill-spec =
+    tie.close
+    (tie.spec
+    Inv-loop
+    μ-loop
+    fresh-part-requires
+    loop-holds
+    shared-slice-read-take-byte
+    take-byte-requires
+    add-i
+    enum-known-step
+    loop-less
+    loop-again
+    enum-known-step-2
+    fresh-part-requires-2
+    put-entry-requires
+    add-entries
+    loop-less-2
+    loop-again-2
+    enum-told
+    same-length
+    same-length-2
+    same-length-3
+    same-length-4
+    returns
+    same-length-5
+    same-length-6
+    same-length-7
+    same-length-8
+    returns-2)

@@ -1,0 +1,66 @@
+-- `transcript::reading::read_transcript` meets its contract: its answer is right, and by that answer the lists are filled or left.
+use native.Mathlib.Omega.{arith}
+use mathlib.Core.Path.{_≡_, sym, ap, _∙_}
+use Rattle.transcript_bytes.specs.Lists.{lists, size}
+use Rattle.transcript_bytes.specs.Reading.{read-answer}
+use Rattle.transcript_bytes.specs.declared.Transcribed.{Transcribed}
+use Rattle.transcript.proofs.ReadOutcomes.{right-answer, nothing-put, all-fit, all-put}
+use Rattle.transcript.proofs.reading.read_transcript.Statement.{statement}
+use Rattle.transcript.proofs.reading.read_transcript.Tie as tie
+
+-- the answer, wherever it is used
+right : (c : tie.After-answer-for) →
+    let x = c .before .before .before .before .before .before .before .before .args in
+    c .answer-for .result ≡ read-answer (x .bytes .now) (size (lists (x .kinds .now) (x .registers .now) (x .lanes .now) (x .words .now)))
+right c =
+    right-answer _ _ (c .answer-for .ensures) (c .before .scan .ensures) (c .before .before .shortest .ensures)
+
+shortest-requires : tie.Need-shortest-requires
+shortest-requires c κs = tt
+
+scan-requires : tie.Need-scan-requires
+scan-requires c κs = tt
+
+answer-for-requires : tie.Need-answer-for-requires
+answer-for-requires c κs = tt
+
+returns : tie.Need-returns
+returns c = nothing-put _ _ (right (c .before .before)) (c .if1 .taken)
+
+fill-requires : tie.Need-fill-requires
+fill-requires c κs =
+    let passed = c .before .before .before .before in
+    all-fit _ _ (sym (ap (λ (o : Transcribed). o .number) (right (passed .before .before))) ∙ passed .if1 .left)
+
+same-length : tie.Need-same-length
+same-length c = omega arith
+
+same-length-2 : tie.Need-same-length-2
+same-length-2 c = omega arith
+
+same-length-3 : tie.Need-same-length-3
+same-length-3 c = omega arith
+
+same-length-4 : tie.Need-same-length-4
+same-length-4 c = omega arith
+
+returns-2 : tie.Need-returns-2
+returns-2 c =
+    let filled = c .before .before .before .before .before .before .before .before in
+    let passed = filled .before .before .before .before .before in
+    all-put _ _ (right (passed .before .before)) (passed .if1 .left) (filled .fill .ensures)
+
+pub read-transcript-spec : {M : Type 1} → statement M
+read-transcript-spec =
+    tie.close
+    (tie.spec
+    shortest-requires
+    scan-requires
+    answer-for-requires
+    returns
+    fill-requires
+    same-length
+    same-length-2
+    same-length-3
+    same-length-4
+    returns-2)

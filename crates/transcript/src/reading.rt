@@ -1,0 +1,110 @@
+// The reader: a string of bytes to the four lists of a transcript's entries, or to a refusal with the lists as they were.
+ghost use mathlib.Core.Path.{_≡_};
+ghost use Prim.Native.Nat.{_≤_, _<_};
+ghost use lib.ListN.{length};
+ghost use Rattle.transcript_bytes.specs.Lists.{lists, size, with-entries};
+ghost use Rattle.transcript_bytes.specs.Reading.{entries-read, ReadTranscript};
+ghost use Rattle.transcript.specs.ReaderParts.{answer-for, with-entry};
+use crate::answers::refuse;
+use crate::entries::shortest;
+use crate::scanning::Scanned;
+use crate::scanning::scan;
+use crate::steps::fresh_part;
+use crate::steps::take_byte;
+use transcript_bytes::Entry;
+use transcript_bytes::Step;
+use transcript_bytes::Transcribed;
+
+// What is answered of a string, by what the scan found and by how many entries have room: a bad record comes before lists that are too
+// small.
+fn answer_for(found: Scanned, room: usize) -> Transcribed
+    ensures { λ o. ⌜ o ≡ answer-for found room ⌝ }
+{
+    if found.refusal != 0 {
+        return refuse(found.refusal, found.place);
+    }
+    if room < found.entries {
+        return refuse(24, 0);
+    }
+    Transcribed {
+        number: 0,
+        count: found.entries,
+        place: 0,
+    }
+}
+
+// An entry at a place of the four lists.
+fn put_entry(
+    kinds: &mut [u32],
+    registers: &mut [u32],
+    lanes: &mut [u32],
+    words: &mut [u32],
+    index: usize,
+    e: Entry,
+)
+    requires { ⌜ index < size (lists (now kinds) (now registers) (now lanes) (now words)) ⌝ }
+    ensures { λ _. ⌜ lists (now (kinds .exit)) (now (registers .exit)) (now (lanes .exit)) (now (words .exit))
+        ≡ with-entry (lists (now (kinds .entry)) (now (registers .entry)) (now (lanes .entry)) (now (words .entry))) index e ⌝ }
+{
+    kinds[index] = e.kind;
+    registers[index] = e.register;
+    lanes[index] = e.lanes;
+    words[index] = e.word;
+}
+
+// The entries of a string, up to its first bad record, in the first places of the four lists.
+fn fill(
+    bytes: &[u8],
+    kinds: &mut [u32],
+    registers: &mut [u32],
+    lanes: &mut [u32],
+    words: &mut [u32],
+)
+    requires { ⌜ length (entries-read (now bytes)) ≤ size (lists (now kinds) (now registers) (now lanes) (now words)) ⌝ }
+    ensures { λ _. ⌜ lists (now (kinds .exit)) (now (registers .exit)) (now (lanes .exit)) (now (words .exit))
+        ≡ with-entries (entries-read (now (bytes .entry)))
+        (lists (now (kinds .entry)) (now (registers .entry)) (now (lanes .entry)) (now (words .entry))) ⌝ }
+{
+    let mut part = fresh_part();
+    let mut entries: usize = 0;
+    let mut i: usize = 0;
+    while i < bytes.len() {
+        let step = take_byte(part, bytes[i]);
+        i += 1;
+        match step {
+            Step::Goes(p) => {
+                part = p;
+            }
+            Step::Whole(e) => {
+                part = fresh_part();
+                put_entry(kinds, registers, lanes, words, entries, e);
+                entries += 1;
+            }
+            Step::Bad(_) => {
+                return;
+            }
+        }
+    }
+}
+
+// A transcript's entries, in the first places of the four lists, which hold as many as the shortest of them. Nothing is put there
+// before all records are known to be good and to fit.
+pub fn read_transcript(
+    bytes: &[u8],
+    kinds: &mut [u32],
+    registers: &mut [u32],
+    lanes: &mut [u32],
+    words: &mut [u32],
+) -> Transcribed
+    ensures { λ o. ⌜ ReadTranscript (now (bytes .entry))
+        (lists (now (kinds .entry)) (now (registers .entry)) (now (lanes .entry)) (now (words .entry)))
+        o (lists (now (kinds .exit)) (now (registers .exit)) (now (lanes .exit)) (now (words .exit))) ⌝ }
+{
+    let room = shortest(kinds.len(), registers.len(), lanes.len(), words.len());
+    let answer = answer_for(scan(bytes), room);
+    if answer.number != 0 {
+        return answer;
+    }
+    fill(bytes, kinds, registers, lanes, words);
+    answer
+}
