@@ -1,10 +1,9 @@
 -- The four lists and the entries that they hold: the entries' parts are the lists' first places, and lists of entries' parts hold these
 -- entries.
-use Prim.Native.Nat.{ℕ, zero, suc, _+_, _<_, _≤_, min}
-use native.Mathlib.Nat.{add-zero}
+use Prim.Native.Nat.{ℕ, zero, suc, _+_, _<_, _≤_}
 use native.Mathlib.Omega.{arith}
-use mathlib.Core.Path.{_≡_, refl, sym, ap, _∙_, subst}
-use mathlib.Core.List.{List, [], _∷_, _++_, map}
+use mathlib.Core.Path.{_≡_, refl, sym, ap, _∙_}
+use mathlib.Core.List.{List, [], _∷_, map}
 use lib.ListN.{length, take, drop, getD}
 use lib.Seq.{drop-cons, take-at, drop-at}
 use Rattle.transcript_bytes.specs.Lists.{Lists, lists, size, entry-at, entries-from, entries-in, over, columns, with-entries}

@@ -1,13 +1,11 @@
 -- A number's groups are the one way to spell it: written in groups it says what it was, and whatever says a number below 65,536 is its groups.
 -- By how many groups there are; four or more with no leading zero group make 2,097,152 at least.
-use Prim.Native.Nat.{ℕ, suc, _+_, _*_, _/_, _%_, _^_, _<_, _≤_}
-use native.Mathlib.Nat.{pow-suc, le-trans, mul-le-mul, pow-le-pow-right}
+use Prim.Native.Nat.{ℕ, _+_, _*_, _/_, _%_, _^_, _<_, _≤_}
+use native.Mathlib.Nat.{mul-le-mul, pow-le-pow-right}
 use native.Mathlib.Omega.{arith}
 use mathlib.Core.Path.{_≡_, refl, sym, ap, _∙_, subst}
-use mathlib.Core.Bool.{Bool, true, false, cond}
 use mathlib.Core.List.{List, [], _∷_, _++_}
-use mathlib.Core.Logic.{_⊎_, inl, inr, ⊎-elim, _≢_}
-use lib.Dec.{ltb}
+use mathlib.Core.Logic.{_⊎_, ⊎-elim, _≢_}
 use lib.ListN.{length, getD, length-append}
 use borrow.Author.Tests.{lt-ltb, le-ltb}
 use Rattle.words.specs.Bytes.{AreBytes}

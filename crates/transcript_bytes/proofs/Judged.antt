@@ -1,10 +1,10 @@
 -- What the reader says of a head and of a word when the last byte is there, in plain words: by what their bytes spell.
 use Prim.Native.Nat.{ℕ, _+_, _*_, _/_, _%_, _<_, _≤_}
 use native.Mathlib.Omega.{arith}
-use mathlib.Core.Path.{_≡_, refl, sym, ap, _∙_, subst}
-use mathlib.Core.Bool.{Bool, true, false, cond}
+use mathlib.Core.Path.{_≡_, sym, ap, _∙_, subst}
+use mathlib.Core.Bool.{true, false, cond}
 use mathlib.Core.List.{List, [], _∷_, _++_}
-use mathlib.Core.Logic.{_⊎_, ⊎-elim, _≢_}
+use mathlib.Core.Logic.{_⊎_, ⊎-elim}
 use lib.Dec.{ltb, eqb}
 use lib.ListN.{getD}
 use borrow.Author.Tests.{lt-ltb, le-ltb, eq-eqb, ne-eqb}
@@ -14,9 +14,7 @@ use Rattle.transcript_bytes.specs.InPlainWords.{Spelled, value-of, Padde
 use Rattle.transcript_bytes.specs.InPlainWords as plain
 use Rattle.transcript_bytes.specs.Reading.{none, entry-of, head-read, word-read}
 use Rattle.transcript_bytes.specs.declared.Entry.{Entry}
-use Rattle.transcript_bytes.specs.declared.Number.{Number}
 use Rattle.transcript_bytes.specs.declared.Part.the-variants.{Word}
-use Rattle.transcript_bytes.specs.declared.Step.{Step}
 use Rattle.transcript_bytes.specs.declared.Step.the-variants.{Goes, Whole, Bad}
 use Rattle.transcript_bytes.proofs.NumberRead.{grown-by, first-byte-pads, keeps-value}
 

@@ -1,14 +1,14 @@
 -- A number as the reader has it after its last byte, beside what its bytes spell: padded exactly if they are; the same value below 65,536,
 -- and 65,536 at least otherwise, however long it is.
-use Prim.Native.Nat.{ℕ, suc, _+_, _*_, _%_, _^_, _<_, _≤_}
+use Prim.Native.Nat.{ℕ, _+_, _*_, _%_, _^_, _<_, _≤_}
 use native.Mathlib.Nat.{pow-suc, one-le-pow, mul-le-mul-left, mul-assoc, mul-comm, add-mul, add-assoc, mul-one}
 use native.Mathlib.Omega.{arith}
 use mathlib.Core.Path.{_≡_, refl, sym, ap, _∙_, subst}
-use mathlib.Core.Bool.{Bool, true, false, cond}
-use mathlib.Core.List.{List, [], _∷_, _++_}
+use mathlib.Core.Bool.{Bool, true, cond}
+use mathlib.Core.List.{List, [], _∷_}
 use mathlib.Core.Logic.{_⊎_, ⊎-elim}
-use lib.Dec.{ltb, eqb}
-use lib.ListN.{length, getD}
+use lib.Dec.{eqb}
+use lib.ListN.{length}
 use borrow.Author.Tests.{lt-ltb, le-ltb}
 use Rattle.words.proofs.Choices.{less-or-not}
 use Rattle.transcript_bytes.specs.InPlainWords.{value-of}

@@ -1,15 +1,15 @@
 -- One list has one encoding: the transcript of good entries is sound, and a sound string of bytes is the transcript of its entries.
-use Prim.Native.Nat.{ℕ, _+_, _*_, _<_, _≤_}
+use Prim.Native.Nat.{ℕ, _+_}
 use native.Mathlib.Omega.{arith}
 use mathlib.Core.Path.{_≡_, refl, sym, ap, _∙_, subst}
 use mathlib.Core.Bool.{Bool, true, false, cond}
 use mathlib.Core.List.{List, [], _∷_, _++_}
-use mathlib.Core.Logic.{_⊎_, ⊎-elim, _↔_}
+use mathlib.Core.Logic.{_⊎_, ⊎-elim}
 use lib.Dec.{eqb}
 use Rattle.words.specs.Bytes.{AreBytes}
 use Rattle.words.proofs.Choices.{same-or-not}
 use Rattle.transcript_bytes.specs.Format.{head-of, groups, record-of, transcript-of}
-use Rattle.transcript_bytes.specs.InPlainWords.{Says, Good, AllGood, GoodRecord, a-read, a-write, Sound, nothing, and-more}
+use Rattle.transcript_bytes.specs.InPlainWords.{Good, AllGood, GoodRecord, a-read, a-write, Sound, nothing, and-more}
 use Rattle.transcript_bytes.specs.declared.Entry.{Entry}
 use Rattle.transcript_bytes.proofs.Bytes.{bytes-none, bytes-first, bytes-second, bytes-joined}
 use Rattle.transcript_bytes.proofs.Groups.{groups-say, groups-bytes, said-by-groups}

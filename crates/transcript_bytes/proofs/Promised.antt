@@ -1,12 +1,11 @@
 -- What the contracts of writer and reader promise, said of any outcome that they allow: each answer when and only then, what a refusal
 -- leaves, what an accepted call leaves, and the round trips between the two calls.
-use Prim.Native.Nat.{ℕ, _<_, _≤_}
+use Prim.Native.Nat.{ℕ, _≤_}
 use native.Mathlib.Omega.{arith}
 use mathlib.Core.Path.{_≡_, refl, sym, ap, _∙_, subst}
-use mathlib.Core.Bool.{Bool, true, false, cond}
-use mathlib.Core.List.{List, _++_, map}
-use mathlib.Core.Logic.{_⊎_, ⊎-elim, _≢_}
-use lib.Dec.{eqb}
+use mathlib.Core.Bool.{Bool, cond}
+use mathlib.Core.List.{List}
+use mathlib.Core.Logic.{_≢_}
 use lib.ListN.{length, take, drop}
 use lib.Seq.{take-append-seam, drop-append-seam}
 use borrow.Author.Tests.{eq-eqb, ne-eqb}
@@ -15,11 +14,11 @@ use Rattle.transcript_bytes.specs.Format.{transcript-of}
 use Rattle.transcript_bytes.specs.InPlainWords.{AllGood, Sound, Written, ReadAs, first-places, later-places}
 use Rattle.transcript_bytes.specs.InPlainWords as plain
 use Rattle.transcript_bytes.specs.Lists.{Lists, size, entries-in, over, columns, with-entries}
-use Rattle.transcript_bytes.specs.Reading.{entries-read, refusal-read, read-answer, lists-after, ReadTranscript}
-use Rattle.transcript_bytes.specs.Writing.{refused, accepted, write-answer, bytes-after, WroteTranscript}
+use Rattle.transcript_bytes.specs.Reading.{entries-read, read-answer, lists-after, ReadTranscript}
+use Rattle.transcript_bytes.specs.Writing.{accepted, write-answer, bytes-after, WroteTranscript}
 use Rattle.transcript_bytes.specs.declared.Entry.{Entry}
 use Rattle.transcript_bytes.specs.declared.Transcribed.{Transcribed}
-use Rattle.transcript_bytes.proofs.Columns.{length-entries, size-columns, entries-columns, first-are-columns, columns-first, later-stay}
+use Rattle.transcript_bytes.proofs.Columns.{length-entries, entries-columns, first-are-columns, columns-first, later-stay}
 use Rattle.transcript_bytes.proofs.OneEncoding.{transcript-sound, sound-is, one-encoding}
 use Rattle.transcript_bytes.proofs.ReadExactly.{reads-exactly, sound-exactly}
 use Rattle.transcript_bytes.proofs.WrittenExactly.{bad-number, writes-exactly}

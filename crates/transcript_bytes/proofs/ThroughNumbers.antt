@@ -8,9 +8,9 @@ use mathlib.Core.Bool.{Bool, cond}
 use mathlib.Core.List.{List, [], _∷_, _++_, append-assoc}
 use lib.Dec.{ltb}
 use lib.ListN.{length, length-append}
-use borrow.Author.Tests.{lt-ltb, le-ltb, ne-eqb}
+use borrow.Author.Tests.{lt-ltb, le-ltb}
 use Rattle.transcript_bytes.specs.InPlainWords.{Continued, Spelled}
-use Rattle.transcript_bytes.specs.Reading.{none, grown, head-read, word-read, step, Reading, at, fed, feed, feeds}
+use Rattle.transcript_bytes.specs.Reading.{none, grown, head-read, word-read, step, at, fed, feed, feeds}
 use Rattle.transcript_bytes.specs.declared.Entry.{Entry}
 use Rattle.transcript_bytes.specs.declared.Number.{Number}
 use Rattle.transcript_bytes.specs.declared.Part.{Part}

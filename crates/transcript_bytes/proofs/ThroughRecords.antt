@@ -1,22 +1,21 @@
 -- How the reader goes through a record, good or bad, in plain words: a good one adds its entry, and the next begins; a bad one leaves its
 -- refusal, and where it begins.
-use Prim.Native.Nat.{ℕ, suc, _+_, _%_, _<_, _≤_}
+use Prim.Native.Nat.{ℕ, _+_, _%_, _≤_}
 use native.Mathlib.Nat.{add-zero, add-assoc}
 use native.Mathlib.Omega.{arith}
 use mathlib.Core.Path.{_≡_, refl, sym, ap, _∙_, subst}
-use mathlib.Core.Bool.{Bool, true, false, cond}
+use mathlib.Core.Bool.{Bool, cond}
 use mathlib.Core.List.{List, [], _∷_, _++_, append-assoc, append-nil}
 use mathlib.Core.Logic.{_≢_}
-use lib.Dec.{eqb}
 use lib.ListN.{length, length-append}
 use lib.Seq.{append-snoc}
 use borrow.Author.Tests.{eq-eqb, ne-eqb}
 use Rattle.transcript_bytes.specs.Format.{head-of}
-use Rattle.transcript_bytes.specs.InPlainWords.{Continued, Spelled, Says, Good, GoodRecord, a-read, a-write}
-use Rattle.transcript_bytes.specs.InPlainWords.{Sound, nothing, and-more, BadHead, BadWord, WriteHead}
+use Rattle.transcript_bytes.specs.InPlainWords.{Continued, Says, Good, GoodRecord, a-read, a-write}
+use Rattle.transcript_bytes.specs.InPlainWords.{Sound, nothing, and-more, BadHead, BadWord}
 use Rattle.transcript_bytes.specs.InPlainWords.{BadRecord, head-cut, head-bad, word-cut, word-bad}
 use Rattle.transcript_bytes.specs.InPlainWords as plain
-use Rattle.transcript_bytes.specs.Reading.{none, grown, entry-of, head-read, word-read, fresh, Reading, at, fed, feeds, cut-off, ended}
+use Rattle.transcript_bytes.specs.Reading.{none, grown, entry-of, head-read, word-read, fresh, Reading, at, fed, feeds, ended}
 use Rattle.transcript_bytes.specs.declared.Entry.{Entry}
 use Rattle.transcript_bytes.specs.declared.Part.the-variants.{Head, Word}
 use Rattle.transcript_bytes.specs.declared.Step.{Step}

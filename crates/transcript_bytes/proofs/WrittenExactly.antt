@@ -4,7 +4,7 @@ use Prim.Native.Nat.{ℕ, suc, _+_, _<_, _≤_}
 use native.Mathlib.Nat.{add-zero, zero-add}
 use native.Mathlib.Omega.{arith}
 use mathlib.Core.Path.{_≡_, refl, sym, ap, _∙_, subst}
-use mathlib.Core.Bool.{Bool, true, false, cond, not, _&&_, _||_}
+use mathlib.Core.Bool.{Bool, true, false, cond, _||_}
 use mathlib.Core.List.{List, [], _∷_, _++_}
 use mathlib.Core.Logic.{_⊎_, inl, inr, ⊎-elim, _↔_, _≢_}
 use lib.Dec.{ltb, eqb}
@@ -14,7 +14,7 @@ use Rattle.words.specs.Bytes.{are-lanes}
 use Rattle.words.proofs.Choices.{less-or-not, same-or-not}
 use Rattle.words.proofs.Lanes.{lanes-named}
 use Rattle.transcript_bytes.specs.Format.{transcript-of}
-use Rattle.transcript_bytes.specs.InPlainWords.{Good, AllGood, OffLanes, Written}
+use Rattle.transcript_bytes.specs.InPlainWords.{Good, AllGood, Written}
 use Rattle.transcript_bytes.specs.InPlainWords.{BadEntry, no-register, no-lanes, long-word, no-kind, read-with-word}
 use Rattle.transcript_bytes.specs.InPlainWords as plain
 use Rattle.transcript_bytes.specs.Writing.{no-record, entry-refusal, refused, accepted, first-bad, fitting, write-answer}
