@@ -6,5 +6,4 @@ pub mod Putting
 pub mod Written
 -- ---- the reader
 pub mod Counting
-pub mod Filled
 pub mod ReadOutcomes

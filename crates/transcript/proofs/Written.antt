@@ -57,7 +57,7 @@ module _ (l : Lists) (out : List ℕ) {o : Judged} (e : o ≡ judged 0 0 (entrie
     -- They fit: they can be written,
     module _ (h : o .wanted ≤ length out) where
       pub can-write : Writable l (size l) out
-      can-write = record { there = omega arith; good = all .good; fits = omega (arith, wanted-is) }
+      can-write = record { good = all .good; fits = omega (arith, wanted-is) }
 
       -- and are.
       pub written : {out′ : List ℕ} → out′ ≡ over text out → WroteTranscript l out (accepted (o .wanted)) out′

@@ -1,16 +1,13 @@
 -- What the private functions of the reader state.
 --   scanned s              what a string holds: its good records up to the first bad one, where that begins, its refusal or 0
 --   answer-for found room  the answer, by what was found, where so many entries have room
---   with-entry l k e       the four lists with an entry at place k
 use Prim.Native.Nat.{ℕ}
 use mathlib.Core.Bool.{cond}
 use mathlib.Core.List.{List}
 use lib.Dec.{eqb}
-use lib.ListN.{length, set}
-use Rattle.transcript_bytes.specs.Lists.{Lists, lists}
+use lib.ListN.{length}
 use Rattle.transcript_bytes.specs.Reading.{entries-read, place-read, refusal-read}
 use Rattle.transcript_bytes.specs.Writing.{refused, fitting}
-use Rattle.transcript_bytes.specs.declared.Entry.{Entry}
 use Rattle.transcript_bytes.specs.declared.Transcribed.{Transcribed}
 use Rattle.transcript.specs.declared.scanning.Scanned.{Scanned}
 
@@ -20,7 +17,3 @@ scanned s = record { entries = length (entries-read s); place = place-read s; re
 unfoldable pub answer-for : Scanned → ℕ → Transcribed
 answer-for found room =
     cond (eqb (found .refusal) 0) (fitting (found .entries) room) (refused (found .refusal) (found .place))
-
-abbrev pub with-entry : Lists → ℕ → Entry → Lists
-with-entry l k e =
-    lists (set (l .kinds) k (e .kind)) (set (l .registers) k (e .register)) (set (l .lanes) k (e .lanes)) (set (l .words) k (e .word))

@@ -1,7 +1,7 @@
 -- What the private functions of the writer state.
 --   Put                  a text put into the bytes from a place on
 --   judged k wanted es   what judging finds in the entries es: the first of them has index k, and the records before it so many bytes
---   Writable l n bytes   the first n entries can be written: they are there, they are good, and their records fit the bytes
+--   Writable l n bytes   the first n entries can be written: they are good, and their records fit the bytes
 use Prim.Native.Nat.{ℕ, suc, _+_, _≤_}
 use mathlib.Core.Bool.{cond}
 use mathlib.Core.List.{List, [], _∷_}
@@ -11,7 +11,7 @@ use lib.ListN.{length}
 use lib.Seq.{sets}
 use Rattle.transcript_bytes.specs.Format.{record-of, transcript-of}
 use Rattle.transcript_bytes.specs.InPlainWords.{AllGood}
-use Rattle.transcript_bytes.specs.Lists.{Lists, size, entries-from}
+use Rattle.transcript_bytes.specs.Lists.{Lists, entries-from}
 use Rattle.transcript_bytes.specs.Writing.{entry-refusal}
 use Rattle.transcript_bytes.specs.declared.Entry.{Entry}
 use Rattle.transcript.specs.declared.writing.Judged.{Judged}
@@ -28,6 +28,5 @@ judged k wanted (e ∷ rest) =
     (record { number = entry-refusal e; place = k; wanted = wanted })
 
 pub record Writable (l : Lists) (n : ℕ) (bytes : List ℕ) : Type 0 where
-  pub there : n ≤ size l
   pub good : AllGood (entries-from l 0 n)
   pub fits : length (transcript-of (entries-from l 0 n)) ≤ length bytes

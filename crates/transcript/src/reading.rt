@@ -1,19 +1,19 @@
 // The reader: a string of bytes to the four lists of a transcript's entries, or to a refusal with the lists as they were.
 ghost use mathlib.Core.Path.{_≡_};
-ghost use Prim.Native.Nat.{_≤_, _<_};
+ghost use Prim.Native.Nat.{_≤_};
 ghost use lib.ListN.{length};
 ghost use Rattle.transcript_bytes.specs.Lists.{lists, size, with-entries};
 ghost use Rattle.transcript_bytes.specs.Reading.{entries-read, ReadTranscript};
-ghost use Rattle.transcript.specs.ReaderParts.{answer-for, with-entry};
+ghost use Rattle.transcript.specs.ReaderParts.{answer-for};
 use crate::answers::refuse;
-use crate::entries::shortest;
 use crate::scanning::Scanned;
 use crate::scanning::scan;
 use crate::steps::fresh_part;
 use crate::steps::take_byte;
-use transcript_bytes::Entry;
 use transcript_bytes::Step;
 use transcript_bytes::Transcribed;
+use transcript_lists::put_entry;
+use transcript_lists::shortest;
 
 // What is answered of a string, by what the scan found and by how many entries have room: a bad record comes before lists that are too
 // small.
@@ -31,25 +31,6 @@ fn answer_for(found: Scanned, room: usize) -> Transcribed
         count: found.entries,
         place: 0,
     }
-}
-
-// An entry at a place of the four lists.
-fn put_entry(
-    kinds: &mut [u32],
-    registers: &mut [u32],
-    lanes: &mut [u32],
-    words: &mut [u32],
-    index: usize,
-    e: Entry,
-)
-    requires { ⌜ index < size (lists (now kinds) (now registers) (now lanes) (now words)) ⌝ }
-    ensures { λ _. ⌜ lists (now (kinds .exit)) (now (registers .exit)) (now (lanes .exit)) (now (words .exit))
-        ≡ with-entry (lists (now (kinds .entry)) (now (registers .entry)) (now (lanes .entry)) (now (words .entry))) index e ⌝ }
-{
-    kinds[index] = e.kind;
-    registers[index] = e.register;
-    lanes[index] = e.lanes;
-    words[index] = e.word;
 }
 
 // The entries of a string, up to its first bad record, in the first places of the four lists.

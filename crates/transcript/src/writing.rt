@@ -6,12 +6,12 @@ ghost use Rattle.transcript_bytes.specs.Lists.{lists, size, entries-from, over}
 ghost use Rattle.transcript_bytes.specs.Writing.{WroteTranscript};
 ghost use Rattle.transcript.specs.WriterParts.{judged, Writable};
 use crate::answers::refuse;
-use crate::entries::entry_at;
 use crate::entries::refusal_of;
-use crate::entries::shortest;
 use crate::records::count_bytes;
 use crate::records::put_record;
 use transcript_bytes::Transcribed;
+use transcript_lists::entry_at;
+use transcript_lists::shortest;
 
 // What judging a list finds: the refusal of its first bad entry and that one's index, or 0 and 0; and how many bytes the records of the
 // entries before it have, or of all where none is bad.

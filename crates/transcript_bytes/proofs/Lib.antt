@@ -18,6 +18,7 @@ pub mod OneEncoding
 pub mod RoundTrips
 -- ---- the lists, the contracts, worked examples
 pub mod Columns
+pub mod Filled
 pub mod Promised
 pub mod One
 pub mod Holds

@@ -8,9 +8,10 @@
 --   over new old        what a list is when others take its first places: its later places stay
 --   columns es          the four lists of some entries' parts
 --   with-entries es l   the four lists when entries take their first places
+--   with-entry l i e    the four lists when an entry takes place i
 use Prim.Native.Nat.{ℕ, zero, suc, min}
 use mathlib.Core.List.{List, [], _∷_, _++_, map}
-use lib.ListN.{length, drop, getD}
+use lib.ListN.{length, drop, getD, set}
 use Rattle.transcript_bytes.specs.declared.Entry.{Entry}
 
 pub record Lists : Type 0 where
@@ -53,3 +54,7 @@ abbrev pub with-entries : List Entry → Lists → Lists
 with-entries es l =
     lists (over (columns es .kinds) (l .kinds)) (over (columns es .registers) (l .registers)) (over (columns es .lanes) (l .lanes))
     (over (columns es .words) (l .words))
+
+abbrev pub with-entry : Lists → ℕ → Entry → Lists
+with-entry l i e =
+    lists (set (l .kinds) i (e .kind)) (set (l .registers) i (e .register)) (set (l .lanes) i (e .lanes)) (set (l .words) i (e .word))

@@ -5,13 +5,12 @@ use mathlib.Core.Path.{_≡_, refl, sym, ap, _∙_}
 use mathlib.Core.List.{List, [], _∷_}
 use lib.ListN.{length, getD, length-append}
 use borrow.Author.Needs.{needs}
-use Rattle.transcript_bytes.specs.Lists.{Lists, lists, size, with-entries}
+use Rattle.transcript_bytes.specs.Lists.{Lists, lists, size, with-entries, with-entry}
 use Rattle.transcript_bytes.specs.Reading.{Reading, fresh, step, entries-read}
 use Rattle.transcript_bytes.specs.declared.Entry.{Entry}
 use Rattle.transcript_bytes.specs.declared.Part.{Part}
 use Rattle.transcript_bytes.specs.declared.Step.the-variants.{Goes, Whole, Bad}
-use Rattle.transcript.specs.ReaderParts.{with-entry}
-use Rattle.transcript.proofs.Filled.{SameLengths, lengths-stay, same-size, entry-more}
+use Rattle.transcript_bytes.proofs.Filled.{SameLengths, lengths-stay, entry-more}
 use Rattle.transcript.proofs.Counting.{Counting, begun, goes-on, counted, stopped}
 use Rattle.transcript_bytes.proofs.ReadingOn.{at-end, so-far}
 use Rattle.transcript.proofs.reading.fill.Statement.{statement}
@@ -39,9 +38,6 @@ module _ {s : List ℕ} {l₀ l : Lists} {p : Part} {entries i : ℕ} (f : Filli
     module _ {e : Entry} (w : step p (getD s i 0) ≡ Whole e) where
       next-fits : entries < size l₀
       next-fits = omega (arith, so-far (counted (f .reads) more w .here), length-append (f .reads .got) (e ∷ []), f .reads .count, f .fit)
-
-      has-room : entries < size l
-      has-room = rw (same-size lengths) next-fits
 
       one-put : {l′ : Lists} → l′ ≡ with-entry l entries e → Filling s l₀ l′ fresh (entries + 1) (i + 1)
       one-put x =
@@ -103,12 +99,7 @@ fresh-part-requires-2 : tie.Need-fresh-part-requires-2 Inv-loop μ-loop
 fresh-part-requires-2 c κs = tt
 
 put-entry-requires : tie.Need-put-entry-requires Inv-loop μ-loop
-put-entry-requires c κs =
-    let at-fresh = c .before .before .before .before in
-    let taken = at-fresh .before .before .before .before in
-    let test = taken .before .before in
-    has-room (test .before .loop .inv) (test .loop-test .taken)
-    (sym (taken .take-byte .ensures) ∙ at-fresh .before .before .step2 .given .1)
+put-entry-requires c κs = tt
 
 add-entries : tie.Need-add-entries Inv-loop μ-loop
 add-entries c = omega arith

@@ -80,8 +80,7 @@ loop-holds : tie.Need-loop-holds Inv-loop μ-loop
 loop-holds c = begun (c .before .before .before .before .before .pre)
 
 entry-at-requires : tie.Need-entry-at-requires Inv-loop μ-loop
-entry-at-requires c κs =
-    omega (arith, c .loop-test .taken, c .before .before .before .before .before .before .before .pre .there)
+entry-at-requires c κs = tt
 
 put-record-requires : tie.Need-put-record-requires Inv-loop μ-loop
 put-record-requires c κs =

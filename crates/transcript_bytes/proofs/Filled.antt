@@ -6,9 +6,8 @@ use mathlib.Core.Path.{_≡_, refl, sym, ap, _∙_}
 use mathlib.Core.List.{List, [], _∷_, _++_, map, map-append}
 use lib.ListN.{length, drop, getD, set, length-append, length-drop, length-map}
 use lib.Seq.{drop-cons, set-at, append-snoc}
-use Rattle.transcript_bytes.specs.Lists.{Lists, size, over, with-entries}
+use Rattle.transcript_bytes.specs.Lists.{Lists, size, over, with-entries, with-entry}
 use Rattle.transcript_bytes.specs.declared.Entry.{Entry}
-use Rattle.transcript.specs.ReaderParts.{with-entry}
 
 -- ---- one column
 
@@ -43,9 +42,6 @@ pub record SameLengths (l₀ l : Lists) : Type 0 where
   pub registers : length (l .registers) ≡ length (l₀ .registers)
   pub lanes : length (l .lanes) ≡ length (l₀ .lanes)
   pub words : length (l .words) ≡ length (l₀ .words)
-
-pub same-size : {l₀ l : Lists} → SameLengths l₀ l → size l ≡ size l₀
-same-size k = rw (k .kinds, k .registers, k .lanes, k .words)
 
 module _ (got : List Entry) (l : Lists) where
   -- Entries that fit leave the lists as long as they were.
