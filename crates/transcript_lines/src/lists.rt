@@ -2,6 +2,7 @@
 ghost use mathlib.Core.Path.{_≡_};
 ghost use Prim.Native.Nat.{min, _<_};
 ghost use Rattle.transcript_bytes.specs.Lists.{lists, size, entry-at};
+ghost use Rattle.transcript_lines.specs.Parts.{placed};
 use transcript_bytes::Entry;
 use words::least;
 
@@ -29,4 +30,23 @@ pub(crate) fn entry_at(
         lanes: lanes[i],
         word: words[i],
     }
+}
+
+// An entry put at a place.
+pub(crate) fn set_entry(
+    kinds: &mut [u32],
+    registers: &mut [u32],
+    lanes: &mut [u32],
+    words: &mut [u32],
+    i: usize,
+    e: Entry,
+)
+    requires { ⌜ i < size (lists (now kinds) (now registers) (now lanes) (now words)) ⌝ }
+    ensures { λ _. ⌜ lists (now (kinds .exit)) (now (registers .exit)) (now (lanes .exit)) (now (words .exit)) ≡
+        placed (lists (now (kinds .entry)) (now (registers .entry)) (now (lanes .entry)) (now (words .entry))) i e ⌝ }
+{
+    kinds[i] = e.kind;
+    registers[i] = e.register;
+    lanes[i] = e.lanes;
+    words[i] = e.word;
 }

@@ -6,6 +6,7 @@ ghost use Rattle.transcript_bytes.specs.Lists.{lists, size, with-entries};
 ghost use Rattle.transcript_lines.specs.Taking.{taking, take-answer, TookLines};
 use crate::LinesTaken;
 use crate::lines::entry_of;
+use crate::lists::set_entry;
 use crate::lists::smallest;
 use listing::Front;
 use listing::front_line;
@@ -45,16 +46,12 @@ fn fill_lists(
 {
     let mut used = 0;
     let mut i: usize = 0;
-    while used < text.len() {
+    loop {
         let line = front_line(&text[used..]);
         let Front::Good(a, size) = line else {
             return;
         };
-        let e = entry_of(a);
-        kinds[i] = e.kind;
-        registers[i] = e.register;
-        lanes[i] = e.lanes;
-        words[i] = e.word;
+        set_entry(kinds, registers, lanes, words, i, entry_of(a));
         used += size;
         i += 1;
     }

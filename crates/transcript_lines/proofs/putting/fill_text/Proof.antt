@@ -12,31 +12,31 @@ Inv-loop kinds registers lanes words text₀ n at₀ i₀ text at i = ?
 abbrev μ-loop : tie.MeasureT-loop
 μ-loop kinds registers lanes words text₀ n at₀ i₀ text at i = ?
 
--- src/putting.rt:76:9
+-- src/putting.rt:70:9
 smallest-requires : tie.Need-smallest-requires Inv-loop μ-loop
 smallest-requires c κs = ?
 
--- src/putting.rt:79:5
+-- src/putting.rt:73:5
 loop-holds : tie.Need-loop-holds Inv-loop μ-loop
 loop-holds c = ?
 
--- src/putting.rt:80:33
+-- src/putting.rt:74:33
 entry-at-requires : tie.Need-entry-at-requires Inv-loop μ-loop
 entry-at-requires c κs = ?
 
--- src/putting.rt:80:9
+-- src/putting.rt:74:9
 put-line-requires : tie.Need-put-line-requires Inv-loop μ-loop
 put-line-requires c κs = ?
 
--- src/putting.rt:81:9
+-- src/putting.rt:75:9
 add-i : tie.Need-add-i Inv-loop μ-loop
 add-i c = ?
 
--- src/putting.rt:79:5
+-- src/putting.rt:73:5
 loop-less : tie.Need-loop-less Inv-loop μ-loop
 loop-less c = ?
 
--- src/putting.rt:79:5
+-- src/putting.rt:73:5
 loop-again : tie.Need-loop-again Inv-loop μ-loop
 loop-again c = ?
 

@@ -10,55 +10,55 @@ Inv-loop text room used₀ count₀ used count = ?
 abbrev μ-loop : tie.MeasureT-loop
 μ-loop text room used₀ count₀ used count = ?
 
--- src/taking.rt:19:5
+-- src/taking.rt:20:5
 loop-holds : tie.Need-loop-holds Inv-loop μ-loop
 loop-holds c = ?
 
--- src/taking.rt:20:31
+-- src/taking.rt:21:31
 sub-front-line : tie.Need-sub-front-line Inv-loop μ-loop
 sub-front-line c = ?
 
--- src/taking.rt:20:31
+-- src/taking.rt:21:31
 part-front-line-start : tie.Need-part-front-line-start Inv-loop μ-loop
 part-front-line-start c = ?
 
--- src/taking.rt:20:31
+-- src/taking.rt:21:31
 part-front-line-end : tie.Need-part-front-line-end Inv-loop μ-loop
 part-front-line-end c = ?
 
--- src/taking.rt:20:13
+-- src/taking.rt:21:13
 front-line-requires : tie.Need-front-line-requires Inv-loop μ-loop
 front-line-requires c κs = ?
 
--- src/taking.rt:21:28
+-- src/taking.rt:22:28
 enum-known-line : tie.Need-enum-known-line Inv-loop μ-loop
 enum-known-line c = ?
 
--- src/taking.rt:22:13
+-- src/taking.rt:23:13
 returns : tie.Need-returns Inv-loop μ-loop
 returns c = ?
 
--- src/taking.rt:24:9
+-- src/taking.rt:25:9
 add-used : tie.Need-add-used Inv-loop μ-loop
 add-used c = ?
 
--- src/taking.rt:25:9
+-- src/taking.rt:26:9
 add-count : tie.Need-add-count Inv-loop μ-loop
 add-count c = ?
 
--- src/taking.rt:19:5
+-- src/taking.rt:20:5
 loop-less : tie.Need-loop-less Inv-loop μ-loop
 loop-less c = ?
 
--- src/taking.rt:19:5
+-- src/taking.rt:20:5
 loop-again : tie.Need-loop-again Inv-loop μ-loop
 loop-again c = ?
 
--- src/taking.rt:28:9
+-- src/taking.rt:29:9
 returns-2 : tie.Need-returns-2 Inv-loop μ-loop
 returns-2 c = ?
 
--- src/taking.rt:14:1
+-- src/taking.rt:15:1
 returns-3 : tie.Need-returns-3 Inv-loop μ-loop
 returns-3 c = ?
 

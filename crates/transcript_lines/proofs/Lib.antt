@@ -1,0 +1,4 @@
+pub mod Sayable
+pub mod FirstLine
+pub mod LineAfterLine
+pub mod TakenLines
