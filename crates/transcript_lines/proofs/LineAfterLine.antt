@@ -3,6 +3,7 @@
 use Prim.Native.Nat.{ℕ, zero, suc, _+_, _-_, _≤_, _<_}
 use native.Mathlib.Omega.{arith}
 use mathlib.Core.Path.{_≡_, refl, sym, ap, _∙_, subst}
+use mathlib.Core.Bool.{Bool, true, false, true≢false}
 use mathlib.Core.List.{List, [], _∷_, _++_}
 use lib.ListN.{length, drop, length-drop}
 use Rattle.port.specs.declared.Access.{Access}
@@ -49,10 +50,15 @@ pub good-taken : (t : List ℕ) {a : Access} {n : ℕ} → front-line t ≡ Good
 good-taken t e = first-taken t ∙ ap (by-front taking t) e
 
 -- where the front is not good, nothing is.
-pub nothing-taken : (t : List ℕ) → ((a : Access) (n : ℕ) → front-line t ≡ Good a n → ⊥) → taking t ≡ nothing t
-nothing-taken t none = first-taken t ∙ go (front-line t) refl
+abbrev pub is-good : Front → Bool
+is-good (Good a n) = true
+is-good Bad = false
+is-good Open = false
+
+pub nothing-taken : (t : List ℕ) → is-good (front-line t) ≡ false → taking t ≡ nothing t
+nothing-taken t h = first-taken t ∙ go (front-line t) h
   where
-    go : (x : Front) → front-line t ≡ x → by-front taking t x ≡ nothing t
-    go (Good a n) e = absurd (none a n e)
+    go : (x : Front) → is-good x ≡ false → by-front taking t x ≡ nothing t
+    go (Good a n) e = absurd (true≢false e)
     go Bad e = refl
     go Open e = refl

@@ -3,7 +3,7 @@
 use Prim.Native.Nat.{ℕ, zero, suc, _+_, _-_, _≤_, _<_}
 use native.Mathlib.Omega.{arith}
 use mathlib.Core.Path.{_≡_, refl, sym, ap, _∙_, subst}
-use mathlib.Core.Bool.{false}
+use mathlib.Core.Bool.{false, true≢false}
 use mathlib.Core.List.{List, [], _∷_, _++_, append-assoc, append-nil}
 use mathlib.Core.Logic.{_≢_}
 use lib.ListN.{length, drop, length-drop}
@@ -18,7 +18,7 @@ use Rattle.transcript_lines.specs.Lines.{entry-of, access-of, unsayable,
 use Rattle.transcript_lines.specs.Taking.{Taking, nothing, more, by-front, takes, taking}
 use Rattle.transcript_lines.proofs.Sayable.{entry-said, said-entry}
 use Rattle.transcript_lines.proofs.FirstLine.{whole, good-front, begins}
-use Rattle.transcript_lines.proofs.LineAfterLine.{good-taken, nothing-taken}
+use Rattle.transcript_lines.proofs.LineAfterLine.{good-taken, is-good, nothing-taken}
 
 -- so many entries before what else is taken
 abbrev pub behind : List Entry → Taking → Taking
@@ -63,21 +63,27 @@ pub record TextOf (t : List ℕ) (x : Taking) : Type 0 where
   pub stops : NoGoodLine (x .left)
 
 -- the front of such a text is not good, and the other way round
-none-front : (t : List ℕ) → NoGoodLine t → (a : Access) (n : ℕ) → front-line t ≡ Good a n → ⊥
-none-front t h a n e =
-    let b = begins t e in
-    let s = entry-said a (b .says) in
-    h (entry-of a) (drop n t) (s .0) (b .is ∙ ap (λ (x : Access). whole x ++ drop n t) (sym (s .1)))
+none-front : (t : List ℕ) → NoGoodLine t → is-good (front-line t) ≡ false
+none-front t h = go (front-line t) refl
+  where
+    go : (x : Front) → front-line t ≡ x → is-good x ≡ false
+    go (Good a n) e =
+        let b = begins t e in
+        let s = entry-said a (b .says) in
+        absurd (h (entry-of a) (drop n t) (s .0) (b .is ∙ ap (λ (y : Access). whole y ++ drop n t) (sym (s .1))))
+    go Bad e = refl
+    go Open e = refl
 
-front-none : (t : List ℕ) → ((a : Access) (n : ℕ) → front-line t ≡ Good a n → ⊥) → NoGoodLine t
-front-none t h e v s is = h (access-of e) (length (line e)) (ap front-line is ∙ good-front (access-of e) v (said-entry e s .0))
+front-none : (t : List ℕ) → is-good (front-line t) ≡ false → NoGoodLine t
+front-none t h e v s is =
+    true≢false (sym (ap is-good (ap front-line is ∙ good-front (access-of e) v (said-entry e s .0))) ∙ h)
 
 -- Nothing is taken of such a text,
-stopped : (t : List ℕ) (x : Front) → front-line t ≡ x → ((a : Access) (n : ℕ) → x ≡ Good a n → ⊥) → TextOf t (nothing t)
+stopped : (t : List ℕ) → is-good (front-line t) ≡ false → TextOf t (nothing t)
 unfolding lines-of
-stopped t x e h = record { is = refl; says = tt; stops = front-none t (λ a n f. h a n (sym e ∙ f)) }
+stopped t h = record { is = refl; says = tt; stops = front-none t h }
 
--- and of another its first line is, if the shorter texts go right.
+-- and of another its first line is, if shorter texts go right.
 by-line : (f : List ℕ → Taking) (t : List ℕ) → ((u : List ℕ) → length u < length t → TextOf u (f u)) → TextOf t (by-front f t (front-line t))
 unfolding lines-of
 by-line f t shorter = go (front-line t) refl
@@ -97,12 +103,12 @@ by-line f t shorter = go (front-line t) refl
           says = (s .0, rest .says);
           stops = rest .stops;
         }
-    go Bad e = stopped t Bad e (λ a n f. let z : _≡_ {A = ℕ} 0 1 = cc in absurd (omega (arith, z)))
-    go Open e = stopped t Open e (λ a n f. let z : _≡_ {A = ℕ} 0 1 = cc in absurd (omega (arith, z)))
+    go Bad e = stopped t (ap is-good e)
+    go Open e = stopped t (ap is-good e)
 
 text-by : (n : ℕ) (t : List ℕ) → length t ≤ n → TextOf t (takes n t)
 unfolding takes front-line has-feed
-text-by zero [] h = stopped [] Open refl (λ a n f. let z : _≡_ {A = ℕ} 0 1 = cc in absurd (omega (arith, z)))
+text-by zero [] h = stopped [] refl
 text-by zero (b ∷ t) h = absurd (omega (arith, h))
 text-by (suc n) t h = by-line (takes n) t (λ u l. text-by n u (omega (arith, l, h)))
 

@@ -4,6 +4,7 @@
 --   takes n t            at most n lines of the text t
 --   taking t             all of them: a text has no more lines than bytes
 --   fitting n room       the answer where nothing is left: n entries, and places for so many
+--   judged x room        the answer where so much is taken, and there are places for so many entries
 --   take-answer t room   what the call answers of a text, lent lists for so many entries
 --   lists-after t l      the lent lists afterwards
 --   TookLines            these, as the contract of the call
@@ -48,10 +49,12 @@ taking t = takes (length t) t
 abbrev pub fitting : ℕ → ℕ → LinesTaken
 fitting n room = cond (ltb room n) NoPlaces (Taken n)
 
+-- where something is left, its first line is bad
+abbrev pub judged : Taking → ℕ → LinesTaken
+judged x room = cond (eqb (length (x .left)) 0) (fitting (length (x .entries)) room) (BadLine (length (x .entries)))
+
 unfoldable pub take-answer : List ℕ → ℕ → LinesTaken
-take-answer t room =
-    let n : ℕ = length (taking t .entries) in
-    cond (eqb (length (taking t .left)) 0) (fitting n room) (BadLine n)
+take-answer t room = judged (taking t) room
 
 abbrev pub is-taken : LinesTaken → Bool
 is-taken (Taken n) = true

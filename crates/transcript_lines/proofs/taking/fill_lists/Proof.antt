@@ -1,84 +1,97 @@
+-- `transcript_lines::taking::fill_lists` meets its contract: each turn is one of those of `Filling`.
+use Prim.Native.Nat.{_-_}
+use native.Mathlib.Omega.{arith}
+use mathlib.Core.Path.{ap, _∙_}
+use lib.ListN.{length}
+use Rattle.listing.proofs.Turns.{part-front}
+use Rattle.transcript_bytes.specs.Lists.{lists}
+use Rattle.transcript_bytes.specs.declared.Entry.{Entry}
+use Rattle.transcript_lines.specs.Parts.{placed}
+use Rattle.transcript_lines.proofs.LineAfterLine.{is-good}
+use Rattle.transcript_lines.proofs.Turns.{other-front, good-lies}
+use Rattle.transcript_lines.proofs.Filling.{Filled, filled-start, still-long, place-there, filled-next, filled-all}
+use borrow.Author.Needs.{needs}
 use Rattle.transcript_lines.proofs.taking.fill_lists.Statement.{statement}
 use Rattle.transcript_lines.proofs.taking.fill_lists.Tie as tie
-use Rattle.transcript_lines.proofs.taking.fill_lists.Reads as reads
-use Rattle.transcript_lines.proofs.taking.fill_lists.Lts as lts
-use Rattle.listing.proofs.front_line.Reads as front-line-reads
-use Rattle.transcript_lines.proofs.lines.entry_of.Reads as entry-of-reads
-use Rattle.transcript_lines.proofs.lists.set_entry.Reads as set-entry-reads
 
 abbrev Inv-loop : tie.InvT-loop
-Inv-loop text kinds₀ registers₀ lanes₀ words₀ used₀ i₀ kinds registers lanes words used i = ?
+Inv-loop text kinds₀ registers₀ lanes₀ words₀ used₀ i₀ kinds registers lanes words used i =
+    Filled text (lists kinds₀ registers₀ lanes₀ words₀) (lists kinds registers lanes words) used i
 
 abbrev μ-loop : tie.MeasureT-loop
-μ-loop text kinds₀ registers₀ lanes₀ words₀ used₀ i₀ kinds registers lanes words used i = ?
+μ-loop text kinds₀ registers₀ lanes₀ words₀ used₀ i₀ kinds registers lanes words used i = length text - used
 
--- src/taking.rt:49:5
 loop-holds : tie.Need-loop-holds Inv-loop μ-loop
-loop-holds c = ?
+loop-holds c =
+    let a = c .before .before .before .before .before .args in
+    filled-start (a .text .now) (lists (a .kinds .now) (a .registers .now) (a .lanes .now) (a .words .now))
 
--- src/taking.rt:50:31
 sub-front-line : tie.Need-sub-front-line Inv-loop μ-loop
-sub-front-line c = ?
+sub-front-line c = c .loop .inv .come .most
 
--- src/taking.rt:50:31
 part-front-line-start : tie.Need-part-front-line-start Inv-loop μ-loop
-part-front-line-start c = ?
+part-front-line-start c = search needs
 
--- src/taking.rt:50:31
 part-front-line-end : tie.Need-part-front-line-end Inv-loop μ-loop
-part-front-line-end c = ?
+part-front-line-end c = search needs
 
--- src/taking.rt:50:13
 front-line-requires : tie.Need-front-line-requires Inv-loop μ-loop
-front-line-requires c κs = ?
+front-line-requires c κs = tt
 
--- src/taking.rt:51:25
 enum-known-line : tie.Need-enum-known-line Inv-loop μ-loop
-enum-known-line c = ?
+enum-known-line c = search needs
 
--- src/taking.rt:52:13
 same-length : tie.Need-same-length Inv-loop μ-loop
-same-length c = ?
+same-length c = still-long (c .before .before .before .loop .inv) (c .before .before .before .before .before .before .before .before .before .pre) .kinds
 
--- src/taking.rt:52:13
 same-length-2 : tie.Need-same-length-2 Inv-loop μ-loop
-same-length-2 c = ?
+same-length-2 c = still-long (c .before .before .before .loop .inv) (c .before .before .before .before .before .before .before .before .before .pre) .registers
 
--- src/taking.rt:52:13
 same-length-3 : tie.Need-same-length-3 Inv-loop μ-loop
-same-length-3 c = ?
+same-length-3 c = still-long (c .before .before .before .loop .inv) (c .before .before .before .before .before .before .before .before .before .pre) .lanes
 
--- src/taking.rt:52:13
 same-length-4 : tie.Need-same-length-4 Inv-loop μ-loop
-same-length-4 c = ?
+same-length-4 c = still-long (c .before .before .before .loop .inv) (c .before .before .before .before .before .before .before .before .before .pre) .words
 
--- src/taking.rt:52:13
 returns : tie.Need-returns Inv-loop μ-loop
-returns c = ?
+returns c =
+    let l = c .before .before .before .loop in
+    let front = part-front (c .before .before .before .before .before .before .before .before .before .args .text .now) (l .used) (c .before .front-line .ensures) in
+    filled-all (l .inv) (c .before .before .before .before .before .before .before .before .before .pre) (ap is-good front ∙ other-front (c .before .front-line .result) (c .match .keys2))
 
--- src/taking.rt:54:54
 entry-of-requires : tie.Need-entry-of-requires Inv-loop μ-loop
-entry-of-requires c κs = ?
+entry-of-requires c κs = tt
 
--- src/taking.rt:54:9
 set-entry-requires : tie.Need-set-entry-requires Inv-loop μ-loop
-set-entry-requires c κs = ?
+set-entry-requires c κs =
+    let l = c .before .before .before .before .before .before .before .before .before .before .loop in
+    let front = part-front (c .before .before .before .before .before .before .before .before .before .before .before .before .before .before .before .before .args .text .now) (l .used) (c .before .before .before .before .before .before .before .before .front-line .ensures) in
+    place-there (l .inv) (c .before .before .before .before .before .before .before .before .before .before .before .before .before .before .before .before .pre) (front ∙ c .before .before .before .before .before .before .line .given .1)
 
--- src/taking.rt:55:9
 add-used : tie.Need-add-used Inv-loop μ-loop
-add-used c = ?
+add-used c =
+    let l = c .before .before .before .before .before .before .before .before .before .before .before .before .before .before .before .before .before .before .before .loop in
+    let front = part-front (c .before .before .before .before .before .before .before .before .before .before .before .before .before .before .before .before .before .before .before .before .before .before .before .before .before .args .text .now) (l .used) (c .before .before .before .before .before .before .before .before .before .before .before .before .before .before .before .before .before .front-line .ensures) in
+    let lies = good-lies (l .inv .come) (front ∙ c .before .before .before .before .before .before .before .before .before .before .before .before .before .before .before .line .given .1) in
+    omega (arith, lies .1)
 
--- src/taking.rt:56:9
 add-i : tie.Need-add-i Inv-loop μ-loop
-add-i c = ?
+add-i c = omega (arith, c .before .before .before .before .before .before .before .before .before .before .before .before .before .before .before .before .before .before .before .loop .inv .come .few)
 
--- src/taking.rt:49:5
 loop-less : tie.Need-loop-less Inv-loop μ-loop
-loop-less c = ?
+loop-less c =
+    let l = c .before .before .before .before .before .before .before .before .before .before .before .before .before .before .before .before .before .before .before .loop in
+    let front = part-front (c .before .before .before .before .before .before .before .before .before .before .before .before .before .before .before .before .before .before .before .before .before .before .before .before .before .args .text .now) (l .used) (c .before .before .before .before .before .before .before .before .before .before .before .before .before .before .before .before .before .front-line .ensures) in
+    let lies = good-lies (l .inv .come) (front ∙ c .before .before .before .before .before .before .before .before .before .before .before .before .before .before .before .line .given .1) in
+    omega (arith, lies .0, lies .1)
 
--- src/taking.rt:49:5
 loop-again : tie.Need-loop-again Inv-loop μ-loop
-loop-again c = ?
+loop-again c =
+    let l = c .before .before .before .before .before .before .before .before .before .before .before .before .before .before .before .before .before .before .before .loop in
+    let front = part-front (c .before .before .before .before .before .before .before .before .before .before .before .before .before .before .before .before .before .before .before .before .before .before .before .before .before .args .text .now) (l .used) (c .before .before .before .before .before .before .before .before .before .before .before .before .before .before .before .before .before .front-line .ensures) in
+    let before = lists (l .kinds) (l .registers) (l .lanes) (l .words) in
+    filled-next (l .inv) (c .before .before .before .before .before .before .before .before .before .before .before .before .before .before .before .before .before .before .before .before .before .before .before .before .before .pre) (front ∙ c .before .before .before .before .before .before .before .before .before .before .before .before .before .before .before .line .given .1) _
+    (c .before .before .before .before .before .before .before .before .set-entry .ensures ∙ ap (λ (e : Entry). placed before (l .i) e) (c .before .before .before .before .before .before .before .before .before .entry-of .ensures))
 
 pub fill-lists-spec : {M : Type 1} → statement M
 fill-lists-spec =

@@ -1,66 +1,78 @@
+-- `transcript_lines::taking::judge_lines` meets its contract: each turn is one of those of `Turns`.
+use Prim.Native.Nat.{_-_}
+use native.Mathlib.Omega.{arith}
+use mathlib.Core.Path.{sym, _∙_, ap}
+use lib.ListN.{length}
+use borrow.Author.Tests.{lt-ltb, le-ltb}
+use Rattle.listing.proofs.Turns.{part-front}
+use Rattle.transcript_lines.proofs.LineAfterLine.{is-good}
+use Rattle.transcript_lines.proofs.Turns.{Come, at-start, other-front, good-lies, one-more, ends-bad, ends-even}
+use borrow.Author.Needs.{needs}
 use Rattle.transcript_lines.proofs.taking.judge_lines.Statement.{statement}
 use Rattle.transcript_lines.proofs.taking.judge_lines.Tie as tie
-use Rattle.transcript_lines.proofs.taking.judge_lines.Reads as reads
-use Rattle.transcript_lines.proofs.taking.judge_lines.Lts as lts
-use Rattle.listing.proofs.front_line.Reads as front-line-reads
 
 abbrev Inv-loop : tie.InvT-loop
-Inv-loop text room used₀ count₀ used count = ?
+Inv-loop text room used₀ count₀ used count = Come text used count
 
 abbrev μ-loop : tie.MeasureT-loop
-μ-loop text room used₀ count₀ used count = ?
+μ-loop text room used₀ count₀ used count = length text - used
 
--- src/taking.rt:20:5
 loop-holds : tie.Need-loop-holds Inv-loop μ-loop
-loop-holds c = ?
+loop-holds c = at-start (c .before .args .text .now)
 
--- src/taking.rt:21:31
 sub-front-line : tie.Need-sub-front-line Inv-loop μ-loop
-sub-front-line c = ?
+sub-front-line c = c .before .loop .inv .most
 
--- src/taking.rt:21:31
 part-front-line-start : tie.Need-part-front-line-start Inv-loop μ-loop
-part-front-line-start c = ?
+part-front-line-start c = search needs
 
--- src/taking.rt:21:31
 part-front-line-end : tie.Need-part-front-line-end Inv-loop μ-loop
-part-front-line-end c = ?
+part-front-line-end c = search needs
 
--- src/taking.rt:21:13
 front-line-requires : tie.Need-front-line-requires Inv-loop μ-loop
-front-line-requires c κs = ?
+front-line-requires c κs = tt
 
--- src/taking.rt:22:28
 enum-known-line : tie.Need-enum-known-line Inv-loop μ-loop
-enum-known-line c = ?
+enum-known-line c = search needs
 
--- src/taking.rt:23:13
 returns : tie.Need-returns Inv-loop μ-loop
-returns c = ?
+returns c =
+    let l = c .before .before .before .before .loop in
+    let t = c .before .before .before .before .before .before .args .text .now in
+    let front = part-front t (l .used) (c .before .front-line .ensures) in
+    ends-bad (l .inv) (c .before .before .before .before .before .before .args .room) (c .before .before .before .loop-test .taken) (ap is-good front ∙ other-front (c .before .front-line .result) (c .match .keys2))
 
--- src/taking.rt:25:9
 add-used : tie.Need-add-used Inv-loop μ-loop
-add-used c = ?
+add-used c =
+    let l = c .before .before .before .before .before .before .loop in
+    let t = c .before .before .before .before .before .before .before .before .args .text .now in
+    let front = part-front t (l .used) (c .before .before .before .front-line .ensures) in
+    let lies = good-lies (l .inv) (front ∙ c .before .line .given .1) in
+    omega (arith, lies .1)
 
--- src/taking.rt:26:9
 add-count : tie.Need-add-count Inv-loop μ-loop
-add-count c = ?
+add-count c = omega arith
 
--- src/taking.rt:20:5
 loop-less : tie.Need-loop-less Inv-loop μ-loop
-loop-less c = ?
+loop-less c =
+    let l = c .before .before .before .before .before .before .loop in
+    let t = c .before .before .before .before .before .before .before .before .args .text .now in
+    let front = part-front t (l .used) (c .before .before .before .front-line .ensures) in
+    let lies = good-lies (l .inv) (front ∙ c .before .line .given .1) in
+    omega (arith, lies .0, lies .1)
 
--- src/taking.rt:20:5
 loop-again : tie.Need-loop-again Inv-loop μ-loop
-loop-again c = ?
+loop-again c =
+    let l = c .before .before .before .before .before .before .loop in
+    let t = c .before .before .before .before .before .before .before .before .args .text .now in
+    let front = part-front t (l .used) (c .before .before .before .front-line .ensures) in
+    one-more (l .inv) (front ∙ c .before .line .given .1)
 
--- src/taking.rt:29:9
 returns-2 : tie.Need-returns-2 Inv-loop μ-loop
-returns-2 c = ?
+returns-2 c = rw (sym (ends-even (c .before .before .loop .inv) (c .before .before .before .before .args .room) (c .before .loop-test .left)), lt-ltb _ _ (c .if1 .taken))
 
--- src/taking.rt:15:1
 returns-3 : tie.Need-returns-3 Inv-loop μ-loop
-returns-3 c = ?
+returns-3 c = rw (sym (ends-even (c .before .before .loop .inv) (c .before .before .before .before .args .room) (c .before .loop-test .left)), le-ltb _ _ (c .if1 .left))
 
 pub judge-lines-spec : {M : Type 1} → statement M
 judge-lines-spec =
