@@ -10,6 +10,10 @@ use Rattle.transcript_bytes.specs.Lists.{Lists, lists, size, over, with-entries
 use Rattle.transcript_bytes.specs.declared.Entry.{Entry}
 use Rattle.transcript_lines.specs.Parts.{placed}
 
+-- A list under another that is no longer keeps its length.
+pub over-length : (new old : List ℕ) → length new ≤ length old → length (over new old) ≡ length old
+over-length new old h = simp (length-append, length-drop) (omega (arith, h))
+
 -- One number more over a list.
 over-next : (new old : List ℕ) (v : ℕ) → length new < length old → set (over new old) (length new) v ≡ over (new ++ (v ∷ [])) old
 over-next new old v h =
@@ -21,7 +25,7 @@ over-next new old v h =
 module _ (f : Entry → ℕ) (es : List Entry) (old : List ℕ) where
   -- A column leaves the list as long as it was,
   column-length : length es ≤ length old → length (over (map f es) old) ≡ length old
-  column-length h = simp (length-append, length-drop, length-map) (omega (arith, h))
+  column-length h = over-length (map f es) old (omega (arith, h, length-map es f))
 
   -- and one entry more is set behind the others.
   column-next : (e : Entry) → length es < length old → set (over (map f es) old) (length es) (f e) ≡ over (map f (es ++ (e ∷ []))) old

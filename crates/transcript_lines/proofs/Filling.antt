@@ -52,14 +52,15 @@ module _ {t : List ℕ} {l₀ l : Lists} {used i : ℕ} (k : Filled t l₀ l use
         omega (arith, next-place, k .come .count, s .kinds, s .registers, s .lanes, s .words)
 
     -- and stands there.
-    pub filled-next : (l′ : Lists) → l′ ≡ placed l i (entry-of a) → Filled t l₀ l′ (used + n) (i + 1)
+    pub filled-next : {x : Entry} {l′ : Lists} → x ≡ entry-of a → l′ ≡ placed l i x → Filled t l₀ l′ (used + n) (i + 1)
     unfolding one-more
-    filled-next l′ p =
+    filled-next {x = x} is p =
         record {
           come = one-more (k .come) e;
           lists =
               p ∙
-              ap (λ (x : Lists). placed x i (entry-of a)) (k .lists) ∙
+              ap (placed l i) is ∙
+              ap (λ (y : Lists). placed y i (entry-of a)) (k .lists) ∙
               ap (λ (j : ℕ). placed (with-entries got l₀) j (entry-of a)) (k .come .count) ∙
               placed-next got l₀ (entry-of a) next-place;
         }

@@ -5,3 +5,5 @@ pub mod TakenLines
 pub mod Turns
 pub mod Columns
 pub mod Filling
+pub mod LineBytes
+pub mod EntryByEntry

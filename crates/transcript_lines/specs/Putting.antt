@@ -15,25 +15,25 @@ use Rattle.transcript_bytes.specs.Lists.{Lists, entries-in, over}
 use Rattle.transcript_bytes.specs.declared.Entry.{Entry}
 use Rattle.transcript_lines.specs.Lines.{unsayable, text-of}
 use Rattle.transcript_lines.specs.declared.LinesPut.{LinesPut}
-use Rattle.transcript_lines.specs.declared.LinesPut.the-variants.{Put, Unsayable, NoBytes}
+use Rattle.transcript_lines.specs.declared.LinesPut.the-variants.{Written, Unsayable, NoBytes}
 
 unfoldable pub first-unsayable : ℕ → List Entry → LinesPut → LinesPut
 first-unsayable k [] done = done
 first-unsayable k (e ∷ rest) done = cond (unsayable e) (Unsayable k) (first-unsayable (suc k) rest done)
 
 abbrev pub fitting : ℕ → ℕ → LinesPut
-fitting n room = cond (ltb room n) NoBytes (Put n)
+fitting n room = cond (ltb room n) NoBytes (Written n)
 
 unfoldable pub put-answer : List Entry → ℕ → LinesPut
 put-answer es room = first-unsayable 0 es (fitting (length (text-of es)) room)
 
-abbrev pub is-put : LinesPut → Bool
-is-put (Put n) = true
-is-put (Unsayable k) = false
-is-put NoBytes = false
+abbrev pub is-written : LinesPut → Bool
+is-written (Written n) = true
+is-written (Unsayable k) = false
+is-written NoBytes = false
 
 unfoldable pub text-after : List Entry → List ℕ → List ℕ
-text-after es out = cond (is-put (put-answer es (length out))) (over (text-of es) out) out
+text-after es out = cond (is-written (put-answer es (length out))) (over (text-of es) out) out
 
 -- what the call leaves: its answer, and the bytes that it was lent
 pub record PutLines (l : Lists) (out : List ℕ) (o : LinesPut) (out′ : List ℕ) : Type 0 where

@@ -21,7 +21,7 @@ pub enum LinesTaken {
 // What putting the lines of a list answers.
 pub enum LinesPut {
     // A line says each entry: so many bytes stand in the text.
-    Put(usize),
+    Written(usize),
     // No line can say the entry with this index, the first such.
     Unsayable(usize),
     // A line can say each entry, and the lines have more bytes than the text.

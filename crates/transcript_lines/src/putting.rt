@@ -35,7 +35,7 @@ fn judge_room(
         left -= size;
         i += 1;
     }
-    LinesPut::Put(room - left)
+    LinesPut::Written(room - left)
 }
 
 // What is answered of the lists: `done` where a line can say each entry.
@@ -89,7 +89,7 @@ pub fn put_lines(
 {
     let fits = judge_room(kinds, registers, lanes, words, text.len());
     let answer = judge_entries(kinds, registers, lanes, words, fits);
-    let LinesPut::Put(_) = answer else {
+    let LinesPut::Written(_) = answer else {
         return answer;
     };
     fill_text(kinds, registers, lanes, words, text);

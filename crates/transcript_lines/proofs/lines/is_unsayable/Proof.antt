@@ -1,34 +1,29 @@
+-- `transcript_lines::lines::is_unsayable` meets its contract: its tests are the definition's.
+use mathlib.Core.Path.{refl}
+use Rattle.transcript_bytes.specs.Writing.{no-record}
+use Rattle.transcript_lines.specs.Lines.{unsayable}
 use borrow.Author.Needs.{needs}
 use Rattle.transcript_lines.proofs.lines.is_unsayable.Statement.{statement}
 use Rattle.transcript_lines.proofs.lines.is_unsayable.Tie as tie
-use Rattle.transcript_lines.proofs.lines.is_unsayable.Reads as reads
-use Rattle.transcript_lines.proofs.lines.is_unsayable.Lts as lts
-use Rattle.words.proofs.both.Reads as both-reads
-use Rattle.words.proofs.either.Reads as either-reads
 
--- src/lines.rt:46:32
 both-requires : tie.Need-both-requires
-both-requires c κs = search needs
+both-requires c κs = tt
 
--- src/lines.rt:46:13
 either-requires : tie.Need-either-requires
-either-requires c κs = search needs
+either-requires c κs = tt
 
--- src/lines.rt:44:9
 either-requires-2 : tie.Need-either-requires-2
-either-requires-2 c κs = search needs
+either-requires-2 c κs = tt
 
--- src/lines.rt:48:9
 either-requires-3 : tie.Need-either-requires-3
-either-requires-3 c κs = search needs
+either-requires-3 c κs = tt
 
--- src/lines.rt:43:5
 either-requires-4 : tie.Need-either-requires-4
-either-requires-4 c κs = search needs
+either-requires-4 c κs = tt
 
--- src/lines.rt:40:1
 returns : tie.Need-returns
-returns c = ?
+unfolding unsayable no-record
+returns c = rw (c .either4 .ensures, c .before .before .before .before .either2 .ensures, c .before .before .before .before .before .either .ensures, c .before .before .before .before .before .before .both .ensures, c .before .either3 .ensures) refl
 
 pub is-unsayable-spec : {M : Type 1} → statement M
 is-unsayable-spec =

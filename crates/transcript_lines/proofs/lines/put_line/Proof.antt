@@ -1,50 +1,61 @@
+-- `transcript_lines::lines::put_line` meets its contract: a read's line at once, a write's in two parts, one behind the other.
+use native.Mathlib.Omega.{arith}
+use mathlib.Core.Path.{sym, ap}
+use lib.ListN.{length}
+use Rattle.listing.proofs.Laying.{put-behind, put-length}
+use Rattle.transcript_lines.proofs.Sayable.{sayable-when}
+use Rattle.transcript_lines.proofs.LineBytes.{read-line, write-line}
 use borrow.Author.Needs.{needs}
 use Rattle.transcript_lines.proofs.lines.put_line.Statement.{statement}
 use Rattle.transcript_lines.proofs.lines.put_line.Tie as tie
-use Rattle.transcript_lines.proofs.lines.put_line.Reads as reads
-use Rattle.transcript_lines.proofs.lines.put_line.Lts as lts
-use Rattle.transcript_lines.proofs.lines.put_head.Reads as put-head-reads
-use Rattle.transcript_lines.proofs.lines.put_word.Reads as put-word-reads
 
--- src/lines.rt:91:20
 cast-register : tie.Need-cast-register
-cast-register c = ?
+cast-register c =
+    let says = sayable-when (c .before .before .args .e) .0 (c .before .before .pre .1) in
+    record { fits = omega (arith, says .register) }
 
--- src/lines.rt:92:17
 cast-lanes : tie.Need-cast-lanes
-cast-lanes c = ?
+cast-lanes c =
+    let says = sayable-when (c .before .before .before .args .e) .0 (c .before .before .before .pre .1) in
+    record { fits = omega (arith, says .lanes) }
 
--- src/lines.rt:94:9
 put-head-requires : tie.Need-put-head-requires
-put-head-requires c κs = ?
+put-head-requires c κs =
+    let says = sayable-when (c .before .before .before .before .before .before .args .e) .0 (c .before .before .before .before .before .before .pre .1) in
+    let long = ap length (read-line (c .before .before .before .before .before .before .args .e) (c .before .if1 .taken)) in
+    (omega (arith, long, c .before .before .before .before .before .before .pre .0), says .register, says .lanes)
 
--- src/lines.rt:94:9
 same-length : tie.Need-same-length
 same-length c = search needs
 
--- src/lines.rt:94:9
 returns : tie.Need-returns
-returns c = ?
+returns c = rw (read-line (c .before .before .before .before .before .before .before .before .before .args .e) (c .before .before .before .before .if1 .taken)) (c .before .before .put-head .ensures)
 
--- src/lines.rt:96:16
 cast-word : tie.Need-cast-word
-cast-word c = ?
+cast-word c =
+    let says = sayable-when (c .before .before .before .before .before .before .args .e) .0 (c .before .before .before .before .before .before .pre .1) in
+    record { fits = omega (arith, says .word) }
 
--- src/lines.rt:97:9
 put-head-requires-2 : tie.Need-put-head-requires-2
-put-head-requires-2 c κs = ?
+put-head-requires-2 c κs =
+    let says = sayable-when (c .before .before .before .before .before .before .before .args .e) .0 (c .before .before .before .before .before .before .before .pre .1) in
+    let long = ap length (write-line (c .before .before .before .before .before .before .before .args .e) (c .before .before .if1 .left)) in
+    (omega (arith, long, c .before .before .before .before .before .before .before .pre .0), says .register, says .lanes)
 
--- src/lines.rt:98:5
 put-word-requires : tie.Need-put-word-requires
-put-word-requires c κs = ?
+put-word-requires c κs =
+    let long = ap length (write-line (c .before .before .before .before .before .before .before .before .before .before .before .args .e) (c .before .before .before .before .before .before .if1 .left)) in
+    let room = put-length (omega (arith, long, c .before .before .before .before .before .before .before .before .before .before .before .pre .0)) (c .before .before .before .put-head2 .ensures) in
+    omega (arith, long, c .before .before .before .before .before .before .before .before .before .before .before .pre .0, room, c .before .before .before .put-head2 .ensures .end)
 
--- src/lines.rt:87:1
 same-length-2 : tie.Need-same-length-2
 same-length-2 c = search needs
 
--- src/lines.rt:87:1
 returns-2 : tie.Need-returns-2
-returns-2 c = ?
+returns-2 c =
+    let is = write-line (c .before .before .before .before .before .before .before .before .before .before .before .before .before .before .args .e) (c .before .before .before .before .before .before .before .before .before .if1 .left) in
+    let long = ap length is in
+    rw is (put-behind (omega (arith, long, c .before .before .before .before .before .before .before .before .before .before .before .before .before .before .pre .0)) (c .before .before .before .before .before .before .put-head2 .ensures) (c .before .before .put-word .ensures))
 
 pub put-line-spec : {M : Type 1} → statement M
 put-line-spec =

@@ -1,52 +1,49 @@
+-- `transcript_lines::putting::fill_text` meets its contract: each turn is one of those of `EntryByEntry`.
+use Prim.Native.Nat.{_-_}
+use native.Mathlib.Omega.{arith}
+use Rattle.transcript_bytes.specs.Lists.{lists}
+use Rattle.transcript_lines.proofs.EntryByEntry.{Laid, laid-start, laid-length, laid-room, laid-next, laid-all}
 use Rattle.transcript_lines.proofs.putting.fill_text.Statement.{statement}
 use Rattle.transcript_lines.proofs.putting.fill_text.Tie as tie
-use Rattle.transcript_lines.proofs.putting.fill_text.Reads as reads
-use Rattle.transcript_lines.proofs.putting.fill_text.Lts as lts
-use Rattle.transcript_lines.proofs.lines.put_line.Reads as put-line-reads
-use Rattle.transcript_lines.proofs.lists.entry_at.Reads as entry-at-reads
-use Rattle.transcript_lines.proofs.lists.smallest.Reads as smallest-reads
 
 abbrev Inv-loop : tie.InvT-loop
-Inv-loop kinds registers lanes words text₀ n at₀ i₀ text at i = ?
+Inv-loop kinds registers lanes words text₀ n at₀ i₀ text at i =
+    Laid (lists kinds registers lanes words) text₀ text at i
 
 abbrev μ-loop : tie.MeasureT-loop
-μ-loop kinds registers lanes words text₀ n at₀ i₀ text at i = ?
+μ-loop kinds registers lanes words text₀ n at₀ i₀ text at i =
+    n - i
 
--- src/putting.rt:70:9
 smallest-requires : tie.Need-smallest-requires Inv-loop μ-loop
-smallest-requires c κs = ?
+smallest-requires c κs = tt
 
--- src/putting.rt:73:5
 loop-holds : tie.Need-loop-holds Inv-loop μ-loop
-loop-holds c = ?
+loop-holds c =
+    let a = c .before .before .before .before .before .before .args in
+    laid-start (lists (a .kinds .now) (a .registers .now) (a .lanes .now) (a .words .now)) (a .text .now) (c .before .before .before .before .before .before .pre .0)
 
--- src/putting.rt:74:33
 entry-at-requires : tie.Need-entry-at-requires Inv-loop μ-loop
-entry-at-requires c κs = ?
+entry-at-requires c κs = omega (arith, c .before .loop-test .taken, c .before .before .before .smallest .ensures)
 
--- src/putting.rt:74:9
 put-line-requires : tie.Need-put-line-requires Inv-loop μ-loop
-put-line-requires c κs = ?
+put-line-requires c κs =
+    laid-room (c .before .before .before .loop .inv) (c .before .before .before .before .before .before .before .before .before .before .pre .1) (omega (arith, c .before .before .loop-test .taken, c .before .before .before .before .smallest .ensures)) (c .entry-at .ensures)
 
--- src/putting.rt:75:9
 add-i : tie.Need-add-i Inv-loop μ-loop
-add-i c = ?
+add-i c = omega (arith, c .before .before .before .before .before .loop-test .taken)
 
--- src/putting.rt:73:5
 loop-less : tie.Need-loop-less Inv-loop μ-loop
-loop-less c = ?
+loop-less c = omega (arith, c .before .before .before .before .before .loop-test .taken)
 
--- src/putting.rt:73:5
 loop-again : tie.Need-loop-again Inv-loop μ-loop
-loop-again c = ?
+loop-again c =
+    laid-next (c .before .before .before .before .before .before .loop .inv) (c .before .before .before .before .before .before .before .before .before .before .before .before .before .pre .1) (omega (arith, c .before .before .before .before .before .loop-test .taken, c .before .before .before .before .before .before .before .smallest .ensures)) (c .before .before .before .entry-at .ensures) (c .before .before .put-line .ensures)
 
--- src/putting.rt:64:1
 same-length : tie.Need-same-length Inv-loop μ-loop
-same-length c = ?
+same-length c = laid-length (c .before .loop .inv) (c .before .before .before .before .before .before .before .before .pre .1)
 
--- src/putting.rt:64:1
 returns : tie.Need-returns Inv-loop μ-loop
-returns c = ?
+returns c = laid-all (c .before .loop .inv) (c .before .before .before .before .before .before .before .before .pre .1) (omega (arith, c .loop-test .left, c .before .before .smallest .ensures))
 
 pub fill-text-spec : {M : Type 1} → statement M
 fill-text-spec =

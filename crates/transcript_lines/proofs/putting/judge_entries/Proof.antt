@@ -1,52 +1,50 @@
+-- `transcript_lines::putting::judge_entries` meets its contract: each turn is one of those of `EntryByEntry`.
+use Prim.Native.Nat.{_-_}
+use native.Mathlib.Omega.{arith}
+use mathlib.Core.Path.{sym, _∙_}
+use Rattle.transcript_bytes.specs.Lists.{lists}
+use Rattle.transcript_lines.proofs.EntryByEntry.{Judged, judged-start, judged-next, judged-unsayable, judged-all}
 use Rattle.transcript_lines.proofs.putting.judge_entries.Statement.{statement}
 use Rattle.transcript_lines.proofs.putting.judge_entries.Tie as tie
-use Rattle.transcript_lines.proofs.putting.judge_entries.Reads as reads
-use Rattle.transcript_lines.proofs.putting.judge_entries.Lts as lts
-use Rattle.transcript_lines.proofs.lines.is_unsayable.Reads as is-unsayable-reads
-use Rattle.transcript_lines.proofs.lists.entry_at.Reads as entry-at-reads
-use Rattle.transcript_lines.proofs.lists.smallest.Reads as smallest-reads
 
 abbrev Inv-loop : tie.InvT-loop
-Inv-loop kinds registers lanes words done n i₀ i = ?
+Inv-loop kinds registers lanes words done n i₀ i =
+    Judged (lists kinds registers lanes words) done i
 
 abbrev μ-loop : tie.MeasureT-loop
-μ-loop kinds registers lanes words done n i₀ i = ?
+μ-loop kinds registers lanes words done n i₀ i =
+    n - i
 
--- src/putting.rt:52:9
 smallest-requires : tie.Need-smallest-requires Inv-loop μ-loop
-smallest-requires c κs = ?
+smallest-requires c κs = tt
 
--- src/putting.rt:54:5
 loop-holds : tie.Need-loop-holds Inv-loop μ-loop
-loop-holds c = ?
+loop-holds c =
+    let a = c .before .before .before .before .before .args in
+    judged-start (lists (a .kinds .now) (a .registers .now) (a .lanes .now) (a .words .now)) (a .done)
 
--- src/putting.rt:55:25
 entry-at-requires : tie.Need-entry-at-requires Inv-loop μ-loop
-entry-at-requires c κs = ?
+entry-at-requires c κs = omega (arith, c .loop-test .taken, c .before .before .smallest .ensures)
 
--- src/putting.rt:55:12
 is-unsayable-requires : tie.Need-is-unsayable-requires Inv-loop μ-loop
-is-unsayable-requires c κs = ?
+is-unsayable-requires c κs = tt
 
--- src/putting.rt:56:13
 returns : tie.Need-returns Inv-loop μ-loop
-returns c = ?
+returns c =
+    judged-unsayable (c .before .before .before .before .loop .inv) (omega (arith, c .before .before .before .loop-test .taken, c .before .before .before .before .before .smallest .ensures)) (c .before .before .entry-at .ensures) (sym (c .before .is-unsayable .ensures) ∙ c .if1 .taken)
 
--- src/putting.rt:58:9
 add-i : tie.Need-add-i Inv-loop μ-loop
-add-i c = ?
+add-i c = omega (arith, c .before .before .before .loop-test .taken)
 
--- src/putting.rt:54:5
 loop-less : tie.Need-loop-less Inv-loop μ-loop
-loop-less c = ?
+loop-less c = omega (arith, c .before .before .before .loop-test .taken)
 
--- src/putting.rt:54:5
 loop-again : tie.Need-loop-again Inv-loop μ-loop
-loop-again c = ?
+loop-again c =
+    judged-next (c .before .before .before .before .loop .inv) (omega (arith, c .before .before .before .loop-test .taken, c .before .before .before .before .before .smallest .ensures)) (c .before .before .entry-at .ensures) (sym (c .before .is-unsayable .ensures) ∙ c .if1 .left)
 
--- src/putting.rt:42:1
 returns-2 : tie.Need-returns-2 Inv-loop μ-loop
-returns-2 c = ?
+returns-2 c = judged-all (c .before .loop .inv) (omega (arith, c .loop-test .left, c .before .before .smallest .ensures))
 
 pub judge-entries-spec : {M : Type 1} → statement M
 judge-entries-spec =

@@ -1,56 +1,52 @@
+-- `transcript_lines::putting::judge_room` meets its contract: each turn is one of those of `EntryByEntry`.
+use Prim.Native.Nat.{_-_}
+use native.Mathlib.Omega.{arith}
+use Rattle.transcript_bytes.specs.Lists.{lists}
+use Rattle.transcript_lines.proofs.EntryByEntry.{Measured, measured-start, measured-next, measured-out, measured-all}
 use Rattle.transcript_lines.proofs.putting.judge_room.Statement.{statement}
 use Rattle.transcript_lines.proofs.putting.judge_room.Tie as tie
-use Rattle.transcript_lines.proofs.putting.judge_room.Reads as reads
-use Rattle.transcript_lines.proofs.putting.judge_room.Lts as lts
-use Rattle.transcript_lines.proofs.lines.line_size.Reads as line-size-reads
-use Rattle.transcript_lines.proofs.lists.entry_at.Reads as entry-at-reads
-use Rattle.transcript_lines.proofs.lists.smallest.Reads as smallest-reads
 
 abbrev Inv-loop : tie.InvT-loop
-Inv-loop kinds registers lanes words room n left₀ i₀ left i = ?
+Inv-loop kinds registers lanes words room n left₀ i₀ left i =
+    Measured (lists kinds registers lanes words) room left i
 
 abbrev μ-loop : tie.MeasureT-loop
-μ-loop kinds registers lanes words room n left₀ i₀ left i = ?
+μ-loop kinds registers lanes words room n left₀ i₀ left i =
+    n - i
 
--- src/putting.rt:27:9
 smallest-requires : tie.Need-smallest-requires Inv-loop μ-loop
-smallest-requires c κs = ?
+smallest-requires c κs = tt
 
--- src/putting.rt:30:5
 loop-holds : tie.Need-loop-holds Inv-loop μ-loop
-loop-holds c = ?
+loop-holds c =
+    let a = c .before .before .before .before .before .args in
+    measured-start (lists (a .kinds .now) (a .registers .now) (a .lanes .now) (a .words .now)) (a .room)
 
--- src/putting.rt:31:30
 entry-at-requires : tie.Need-entry-at-requires Inv-loop μ-loop
-entry-at-requires c κs = ?
+entry-at-requires c κs = omega (arith, c .loop-test .taken, c .before .before .smallest .ensures)
 
--- src/putting.rt:31:13
 line-size-requires : tie.Need-line-size-requires Inv-loop μ-loop
-line-size-requires c κs = ?
+line-size-requires c κs = tt
 
--- src/putting.rt:33:13
 returns : tie.Need-returns Inv-loop μ-loop
-returns c = ?
+returns c =
+    measured-out (c .before .before .before .before .loop .inv) (omega (arith, c .before .before .before .loop-test .taken, c .before .before .before .before .before .smallest .ensures)) (c .before .before .entry-at .ensures) (c .before .line-size .ensures) (c .if1 .taken)
 
--- src/putting.rt:36:9
 add-i : tie.Need-add-i Inv-loop μ-loop
-add-i c = ?
+add-i c = omega (arith, c .before .before .before .loop-test .taken)
 
--- src/putting.rt:30:5
 loop-less : tie.Need-loop-less Inv-loop μ-loop
-loop-less c = ?
+loop-less c = omega (arith, c .before .before .before .loop-test .taken)
 
--- src/putting.rt:30:5
 loop-again : tie.Need-loop-again Inv-loop μ-loop
-loop-again c = ?
+loop-again c =
+    measured-next (c .before .before .before .before .loop .inv) (omega (arith, c .before .before .before .loop-test .taken, c .before .before .before .before .before .smallest .ensures)) (c .before .before .entry-at .ensures) (c .before .line-size .ensures) (c .if1 .left)
 
--- src/putting.rt:38:19
 sub-t10 : tie.Need-sub-t10 Inv-loop μ-loop
-sub-t10 c = ?
+sub-t10 c = c .before .loop .inv .less
 
--- src/putting.rt:17:1
 returns-2 : tie.Need-returns-2 Inv-loop μ-loop
-returns-2 c = ?
+returns-2 c = measured-all (c .before .loop .inv) (omega (arith, c .loop-test .left, c .before .before .smallest .ensures))
 
 pub judge-room-spec : {M : Type 1} → statement M
 judge-room-spec =

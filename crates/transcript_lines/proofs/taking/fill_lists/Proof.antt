@@ -5,8 +5,6 @@ use mathlib.Core.Path.{ap, _∙_}
 use lib.ListN.{length}
 use Rattle.listing.proofs.Turns.{part-front}
 use Rattle.transcript_bytes.specs.Lists.{lists}
-use Rattle.transcript_bytes.specs.declared.Entry.{Entry}
-use Rattle.transcript_lines.specs.Parts.{placed}
 use Rattle.transcript_lines.proofs.LineAfterLine.{is-good}
 use Rattle.transcript_lines.proofs.Turns.{other-front, good-lies}
 use Rattle.transcript_lines.proofs.Filling.{Filled, filled-start, still-long, place-there, filled-next, filled-all}
@@ -89,9 +87,7 @@ loop-again : tie.Need-loop-again Inv-loop μ-loop
 loop-again c =
     let l = c .before .before .before .before .before .before .before .before .before .before .before .before .before .before .before .before .before .before .before .loop in
     let front = part-front (c .before .before .before .before .before .before .before .before .before .before .before .before .before .before .before .before .before .before .before .before .before .before .before .before .before .args .text .now) (l .used) (c .before .before .before .before .before .before .before .before .before .before .before .before .before .before .before .before .before .front-line .ensures) in
-    let before = lists (l .kinds) (l .registers) (l .lanes) (l .words) in
-    filled-next (l .inv) (c .before .before .before .before .before .before .before .before .before .before .before .before .before .before .before .before .before .before .before .before .before .before .before .before .before .pre) (front ∙ c .before .before .before .before .before .before .before .before .before .before .before .before .before .before .before .line .given .1) _
-    (c .before .before .before .before .before .before .before .before .set-entry .ensures ∙ ap (λ (e : Entry). placed before (l .i) e) (c .before .before .before .before .before .before .before .before .before .entry-of .ensures))
+    filled-next (l .inv) (c .before .before .before .before .before .before .before .before .before .before .before .before .before .before .before .before .before .before .before .before .before .before .before .before .before .pre) (front ∙ c .before .before .before .before .before .before .before .before .before .before .before .before .before .before .before .line .given .1) (c .before .before .before .before .before .before .before .before .before .entry-of .ensures) (c .before .before .before .before .before .before .before .before .set-entry .ensures)
 
 pub fill-lists-spec : {M : Type 1} → statement M
 fill-lists-spec =
