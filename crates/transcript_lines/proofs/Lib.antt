@@ -7,3 +7,6 @@ pub mod Columns
 pub mod Filling
 pub mod LineBytes
 pub mod EntryByEntry
+pub mod PutAnswers
+pub mod TakeAnswers
+pub mod Outcomes

@@ -78,6 +78,11 @@ front-none : (t : List ℕ) → is-good (front-line t) ≡ false → NoGoodLine 
 front-none t h e v s is =
     true≢false (sym (ap is-good (ap front-line is ∙ good-front (access-of e) v (said-entry e s .0))) ∙ h)
 
+-- The empty text begins with none.
+pub nothing-there : NoGoodLine []
+unfolding front-line has-feed
+nothing-there = front-none [] refl
+
 -- Nothing is taken of such a text,
 stopped : (t : List ℕ) → is-good (front-line t) ≡ false → TextOf t (nothing t)
 unfolding lines-of

@@ -1,38 +1,36 @@
+-- `transcript_lines::putting::put_lines` meets its contract, by its answer.
+use Rattle.transcript_bytes.specs.Lists.{lists}
+use Rattle.transcript_lines.proofs.Outcomes.{refused-put, written-room, done-put}
 use borrow.Author.Needs.{needs}
 use Rattle.transcript_lines.proofs.putting.put_lines.Statement.{statement}
 use Rattle.transcript_lines.proofs.putting.put_lines.Tie as tie
-use Rattle.transcript_lines.proofs.putting.put_lines.Reads as reads
-use Rattle.transcript_lines.proofs.putting.put_lines.Lts as lts
-use Rattle.transcript_lines.proofs.putting.fill_text.Reads as fill-text-reads
-use Rattle.transcript_lines.proofs.putting.judge_entries.Reads as judge-entries-reads
-use Rattle.transcript_lines.proofs.putting.judge_room.Reads as judge-room-reads
 
--- src/putting.rt:90:9
 judge-room-requires : tie.Need-judge-room-requires
-judge-room-requires c κs = search needs
+judge-room-requires c κs = tt
 
--- src/putting.rt:91:9
 judge-entries-requires : tie.Need-judge-entries-requires
-judge-entries-requires c κs = search needs
+judge-entries-requires c κs = tt
 
 enum-told : tie.Need-enum-told
 enum-told c = search needs
 
--- src/putting.rt:93:9
 returns : tie.Need-returns
-returns c = ?
+returns c =
+    let a = c .before .before .before .before .before .before .before .before .args in
+    refused-put (lists (a .kinds .now) (a .registers .now) (a .lanes .now) (a .words .now)) (a .text .now) (c .before .before .judge-room .ensures) (c .before .judge-entries .ensures) (c .match .keys2)
 
--- src/putting.rt:95:5
 fill-text-requires : tie.Need-fill-text-requires
-fill-text-requires c κs = ?
+fill-text-requires c κs =
+    let a = c .before .before .before .before .before .before .before .before .before .before .args in
+    written-room (lists (a .kinds .now) (a .registers .now) (a .lanes .now) (a .words .now)) (a .text .now) (c .before .before .before .before .judge-room .ensures) (c .before .before .before .judge-entries .ensures) (c .before .enum-told .given .1)
 
--- src/putting.rt:80:1
 same-length : tie.Need-same-length
 same-length c = search needs
 
--- src/putting.rt:80:1
 returns-2 : tie.Need-returns-2
-returns-2 c = ?
+returns-2 c =
+    let a = c .before .before .before .before .before .before .before .before .before .before .before .before .before .args in
+    done-put (lists (a .kinds .now) (a .registers .now) (a .lanes .now) (a .words .now)) (a .text .now) (c .before .before .before .before .before .before .before .judge-room .ensures) (c .before .before .before .before .before .before .judge-entries .ensures) (c .before .before .before .before .enum-told .given .1) (c .before .before .fill-text .ensures)
 
 pub put-lines-spec : {M : Type 1} → statement M
 put-lines-spec =

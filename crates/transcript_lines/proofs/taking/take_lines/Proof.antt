@@ -1,50 +1,45 @@
+-- `transcript_lines::taking::take_lines` meets its contract, by its answer.
+use Rattle.transcript_bytes.specs.Lists.{lists}
+use Rattle.transcript_lines.proofs.Outcomes.{refused-take, taken-room, done-take}
 use borrow.Author.Needs.{needs}
 use Rattle.transcript_lines.proofs.taking.take_lines.Statement.{statement}
 use Rattle.transcript_lines.proofs.taking.take_lines.Tie as tie
-use Rattle.transcript_lines.proofs.taking.take_lines.Reads as reads
-use Rattle.transcript_lines.proofs.taking.take_lines.Lts as lts
-use Rattle.transcript_lines.proofs.lists.smallest.Reads as smallest-reads
-use Rattle.transcript_lines.proofs.taking.fill_lists.Reads as fill-lists-reads
-use Rattle.transcript_lines.proofs.taking.judge_lines.Reads as judge-lines-reads
 
--- src/taking.rt:72:9
 smallest-requires : tie.Need-smallest-requires
-smallest-requires c κs = search needs
+smallest-requires c κs = tt
 
--- src/taking.rt:73:9
 judge-lines-requires : tie.Need-judge-lines-requires
-judge-lines-requires c κs = search needs
+judge-lines-requires c κs = tt
 
 enum-told : tie.Need-enum-told
 enum-told c = search needs
 
--- src/taking.rt:75:9
 returns : tie.Need-returns
-returns c = ?
+returns c =
+    let a = c .before .before .before .before .before .before .before .before .args in
+    refused-take (a .text .now) (lists (a .kinds .now) (a .registers .now) (a .lanes .now) (a .words .now)) (c .before .before .smallest .ensures) (c .before .judge-lines .ensures) (c .match .keys2)
 
--- src/taking.rt:77:5
 fill-lists-requires : tie.Need-fill-lists-requires
-fill-lists-requires c κs = ?
+fill-lists-requires c κs =
+    let a = c .before .before .before .before .before .before .before .before .before .before .before .before .before .args in
+    taken-room (a .text .now) (lists (a .kinds .now) (a .registers .now) (a .lanes .now) (a .words .now)) (c .before .before .before .before .before .before .before .smallest .ensures) (c .before .before .before .before .before .before .judge-lines .ensures) (c .before .before .before .before .enum-told .given .1)
 
--- src/taking.rt:61:1
 same-length : tie.Need-same-length
 same-length c = search needs
 
--- src/taking.rt:61:1
 same-length-2 : tie.Need-same-length-2
 same-length-2 c = search needs
 
--- src/taking.rt:61:1
 same-length-3 : tie.Need-same-length-3
 same-length-3 c = search needs
 
--- src/taking.rt:61:1
 same-length-4 : tie.Need-same-length-4
 same-length-4 c = search needs
 
--- src/taking.rt:61:1
 returns-2 : tie.Need-returns-2
-returns-2 c = ?
+returns-2 c =
+    let a = c .before .before .before .before .before .before .before .before .before .before .before .before .before .before .before .before .before .before .before .before .before .before .args in
+    done-take (a .text .now) (lists (a .kinds .now) (a .registers .now) (a .lanes .now) (a .words .now)) (c .before .before .before .before .before .before .before .before .before .before .before .before .before .before .before .before .smallest .ensures) (c .before .before .before .before .before .before .before .before .before .before .before .before .before .before .before .judge-lines .ensures) (c .before .before .before .before .before .before .before .before .before .before .before .before .before .enum-told .given .1) (c .before .before .before .before .before .before .before .before .fill-lists .ensures)
 
 pub take-lines-spec : {M : Type 1} → statement M
 take-lines-spec =
