@@ -68,23 +68,25 @@ all-or-first (e ∷ rest) = go (either-way (unsayable e)) (all-or-first rest)
     go (inl f) r = inr (0, record { before = []; entry = e; after = rest; is = refl; count = refl; says = tt; not = f })
     go (inr f) (inl h) = inl (f, h)
     go (inr f) (inr (k, h)) =
-        inr
-        (suc k,
-        record {
-          before = e ∷ h .before;
-          entry = h .entry;
-          after = h .after;
-          is = ap (λ (l : List Entry). e ∷ l) (h .is);
-          count = ap suc (h .count);
-          says = (f, h .says);
-          not = h .not;
-        })
+        inr (
+          suc k,
+          record {
+            before = e ∷ h .before;
+            entry = h .entry;
+            after = h .after;
+            is = ap (λ (l : List Entry). e ∷ l) (h .is);
+            count = ap suc (h .count);
+            says = (f, h .says);
+            not = h .not;
+          },
+        )
 
 is-so : (es : List Entry) (room : ℕ) → PutMeans es room (put-answer es room)
 is-so es room = go (all-or-first es) (less-or-not room (length (text-of es)))
   where
     so : (o : LinesPut) → PutMeans es room o → PutMeans es room (put-answer es room)
     so o h = subst (PutMeans es room) (sym (answered es room o h)) h
+
     go : AllSayable es ⊎ ((k : ℕ) × FirstUnsayable es k) → (room < length (text-of es)) ⊎ (length (text-of es) ≤ room) →
         PutMeans es room (put-answer es room)
     go (inl h) (inl more) = so NoBytes (h, more)

@@ -55,6 +55,7 @@ sayable-when e = (to, from)
           word = ltb-false 65535 (e .word) (q .0);
           of-read = of-read-is (e .kind) (e .word) (r .1);
         }
+
     from : Says e → (ltb 65535 (e .word) || (ltb 1 (e .kind) || (eqb (e .kind) 0 && not (eqb (e .word) 0)))) ||
         (ltb 9 (e .register) || ltb 9 (e .lanes)) ≡ false
     from s =
@@ -72,18 +73,22 @@ sayable-when e = (to, from)
 -- What a line can ask for is an entry that a line can say, and the entry's access is what the line asks for.
 pub entry-said : (a : Access) → Sayable a → (unsayable (entry-of a) ≡ false) × (access-of (entry-of a) ≡ a)
 unfolding access-of
-entry-said (Read register lanes) h =
-    (sayable-when _ .1
-    (record { kind = omega arith; register = omega (arith, h .0); lanes = omega (arith, h .1); word = omega arith; of-read = λ z. refl }), refl)
-entry-said (Write register lanes w) h =
-    (sayable-when _ .1
-    (record {
-      kind = omega arith;
-      register = omega (arith, h .0);
-      lanes = omega (arith, h .1);
-      word = omega (arith, h .2);
-      of-read = λ z. absurd (omega (arith, z));
-    }), refl)
+entry-said (Read register lanes) h = (
+  sayable-when _ .1
+      (record { kind = omega arith; register = omega (arith, h .0); lanes = omega (arith, h .1); word = omega arith; of-read = λ z. refl }),
+  refl,
+)
+entry-said (Write register lanes w) h = (
+  sayable-when _ .1
+      (record {
+        kind = omega arith;
+        register = omega (arith, h .0);
+        lanes = omega (arith, h .1);
+        word = omega (arith, h .2);
+        of-read = λ z. absurd (omega (arith, z));
+      }),
+  refl,
+)
 
 -- an entry whose kind and word are these has all its parts
 same-entry : (e : Entry) (k w : ℕ) → e .kind ≡ k → e .word ≡ w →

@@ -70,8 +70,10 @@ is-so t room =
   where
     n : ℕ
     n = length (taking t .entries)
+
     so : (o : LinesTaken) → TakeMeans t room o → TakeMeans t room (take-answer t room)
     so o h = subst (TakeMeans t room) (sym (answered t room o h)) h
+
     lines : (u : List ℕ) → taking t .left ≡ u → GoodLines t n u
     lines u e =
         record {
@@ -80,6 +82,7 @@ is-so t room =
           says = text-taken t .says;
           count = refl;
         }
+
     go : (eqb (length (taking t .left)) 0 ≡ true) ⊎ (eqb (length (taking t .left)) 0 ≡ false) → (room < n) ⊎ (n ≤ room) →
         TakeMeans t room (take-answer t room)
     go (inl e) (inl more) = so NoPlaces (n, lines [] (empty (taking t .left) (eqb-true (length (taking t .left)) 0 e)), more)
