@@ -10,3 +10,7 @@ pub mod EntryByEntry
 pub mod PutAnswers
 pub mod TakeAnswers
 pub mod Outcomes
+pub mod One
+pub mod GoodEntries
+pub mod ThereAndBack
+pub mod Examples
