@@ -1,18 +1,18 @@
 -- A text begins with a good line exactly if that is the line of an access that a line can ask for: what stands before its first line
 -- feed is judged as a line, and no byte of such a line is a line feed.
-use Prim.Native.Nat.{ℕ, _+_, _≤_, _<_}
+use Prim.Native.Nat.{ℕ, _+_, _≤_}
 use native.Mathlib.Omega.{arith}
-use mathlib.Core.Path.{_≡_, refl, sym, ap, _∙_, subst}
+use mathlib.Core.Path.{_≡_, sym, ap, _∙_, subst}
 use mathlib.Core.List.{List, [], _∷_, _++_, append-assoc}
 use lib.ListN.{length, drop, length-append}
-use lib.Seq.{drop-append-add, drop-at}
+use lib.Seq.{drop-at}
 use Rattle.port.specs.declared.Access.{Access}
 use Rattle.listing.specs.Line.{with-length, front-line}
 use Rattle.listing.specs.Spelled.{line-text, Sayable}
 use Rattle.listing.specs.declared.Front.the-variants.{Good}
 use Rattle.listing.proofs.GoodLines.{says-it, only-it, no-feed-in}
 use Rattle.listing.proofs.FrontLine.{whole-line}
-use Rattle.listing.proofs.LineByLine.{Fronts, fronts, good-size}
+use Rattle.listing.proofs.LineByLine.{Fronts, fronts}
 
 -- with its line feed
 abbrev pub whole : Access → List ℕ

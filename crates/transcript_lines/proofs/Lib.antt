@@ -14,3 +14,4 @@ pub mod One
 pub mod GoodEntries
 pub mod ThereAndBack
 pub mod Examples
+pub mod Refused

@@ -1,16 +1,15 @@
 -- What is taken of a text goes from line to line: a good line at the front, and then what is taken of the text behind it. A text has no more
 -- lines than bytes, so its length is enough as a bound, and any larger number takes the same.
-use Prim.Native.Nat.{ℕ, zero, suc, _+_, _-_, _≤_, _<_}
+use Prim.Native.Nat.{ℕ, zero, suc, _≤_, _<_}
 use native.Mathlib.Omega.{arith}
-use mathlib.Core.Path.{_≡_, refl, sym, ap, _∙_, subst}
+use mathlib.Core.Path.{_≡_, refl, ap, _∙_}
 use mathlib.Core.Bool.{Bool, true, false, true≢false}
-use mathlib.Core.List.{List, [], _∷_, _++_}
+use mathlib.Core.List.{List, [], _∷_}
 use lib.ListN.{length, drop, length-drop}
 use Rattle.port.specs.declared.Access.{Access}
 use Rattle.listing.specs.Line.{has-feed, front-line}
 use Rattle.listing.specs.declared.Front.{Front}
 use Rattle.listing.specs.declared.Front.the-variants.{Good, Bad, Open}
-use Rattle.transcript_bytes.specs.declared.Entry.{Entry}
 use Rattle.transcript_lines.specs.Lines.{entry-of}
 use Rattle.transcript_lines.specs.Taking.{Taking, nothing, more, by-front, takes, taking}
 use Rattle.transcript_lines.proofs.FirstLine.{begins}

@@ -4,7 +4,7 @@ use Prim.Native.Nat.{ℕ, _≤_, _<_}
 use native.Mathlib.Omega.{arith}
 use mathlib.Core.Path.{_≡_, refl, sym, ap, _∙_, subst}
 use mathlib.Core.Bool.{true, false}
-use mathlib.Core.List.{List, [], _∷_, _++_, append-nil}
+use mathlib.Core.List.{List, [], _∷_, _++_}
 use mathlib.Core.Logic.{_⊎_, inl, inr, _↔_, _≢_}
 use lib.Dec.{eqb}
 use lib.ListN.{length}
@@ -15,7 +15,7 @@ use Rattle.transcript_lines.specs.Lines.{text-of, AllSayable}
 use Rattle.transcript_lines.specs.Taking.{Taking, taking, judged, take-answer}
 use Rattle.transcript_lines.specs.declared.LinesTaken.{LinesTaken}
 use Rattle.transcript_lines.specs.declared.LinesTaken.the-variants.{Taken, BadLine, NoPlaces}
-use Rattle.transcript_lines.proofs.TakenLines.{NoGoodLine, nothing-there, TextOf, text-taken, only-taken}
+use Rattle.transcript_lines.proofs.TakenLines.{NoGoodLine, nothing-there, text-taken, only-taken}
 
 -- A text of n good lines, and then `left`.
 pub record GoodLines (t : List ℕ) (n : ℕ) (left : List ℕ) : Type 0 where

@@ -2,8 +2,7 @@
 -- way there filled: the first places of the lists, the first bytes of the text.
 use Prim.Native.Nat.{ℕ, zero, suc, _≤_}
 use native.Mathlib.Omega.{arith}
-use mathlib.Core.Path.{_≡_, refl, sym, ap, _∙_}
-use mathlib.Core.Bool.{true}
+use mathlib.Core.Path.{_≡_, refl, sym, ap, _∙_, subst}
 use mathlib.Core.List.{List, [], _∷_, map, append-nil}
 use lib.ListN.{length, take, drop, length-map}
 use lib.Seq.{take-at}
@@ -11,13 +10,13 @@ use borrow.Author.Tests.{le-ltb}
 use Rattle.transcript_bytes.specs.Lists.{Lists, lists, size, entry-at, entries-from, entries-in, over, with-entries}
 use Rattle.transcript_bytes.specs.declared.Entry.{Entry}
 use Rattle.transcript_lines.specs.Lines.{text-of, AllSayable}
-use Rattle.transcript_lines.specs.Taking.{Taking, taking, judged, take-answer, is-taken, lists-after, TookLines}
-use Rattle.transcript_lines.specs.Putting.{put-answer, is-written, text-after, PutLines}
+use Rattle.transcript_lines.specs.Taking.{Taking, taking, judged, take-answer, lists-after, TookLines}
+use Rattle.transcript_lines.specs.Putting.{text-after, PutLines}
 use Rattle.transcript_lines.specs.declared.LinesTaken.{LinesTaken}
 use Rattle.transcript_lines.specs.declared.LinesTaken.the-variants.{Taken}
 use Rattle.transcript_lines.specs.declared.LinesPut.{LinesPut}
 use Rattle.transcript_lines.specs.declared.LinesPut.the-variants.{Written}
-use Rattle.transcript_lines.proofs.TakenLines.{taken-back, text-taken, nothing-there}
+use Rattle.transcript_lines.proofs.TakenLines.{taken-back, nothing-there}
 use Rattle.transcript_lines.proofs.TakeAnswers.{lines-taken, take-answers}
 use Rattle.transcript_lines.proofs.PutAnswers.{put-answers}
 
@@ -37,6 +36,7 @@ put-text {l} {out} {out′} {n} p =
     let done : out′ ≡ over (text-of es) out = p .text ∙ rw (sym (p .answer)) refl in
     ap (take n) done ∙ take-at (text-of es) (drop (length (text-of es)) out) n (sym (m .1))
 
+-- Taken again, they are the list.
 pub take-after-put : {l k k′ : Lists} {out out′ : List ℕ} {n : ℕ} {o : LinesTaken} →
     PutLines l out (Written n) out′ → TookLines (take n out′) k o k′ → size l ≤ size k →
     (o ≡ Taken (size l)) × (k′ ≡ with-entries (entries-in l) k)
@@ -84,25 +84,25 @@ first-entries es l {n} e =
     let long : size (columns es) ≡ length es = simp length-map (omega arith) in
     ap entries-in same ∙ ap (entries-from (columns es) 0) long ∙ rows es
 
--- The lists that were filled have what was taken of the text in their first places.
-pub took-entries : {t : List ℕ} {l l′ : Lists} {n : ℕ} → TookLines t l (Taken n) l′ → l′ ≡ with-entries (taking t .entries) l
+-- The first places of the lists that were filled hold entries whose lines are the text.
+pub took-text : {t : List ℕ} {l l′ : Lists} {n : ℕ} → TookLines t l (Taken n) l′ →
+    AllSayable (entries-in (first n l′)) × (text-of (entries-in (first n l′)) ≡ t)
 unfolding lists-after
-took-entries p = p .lists ∙ rw (sym (p .answer)) refl
+took-text {t} {l} {l′} {n} p =
+    let m = take-answers t (size l) (Taken n) .0 (sym (p .answer)) in
+    let es = m .0 .entries in
+    let done : l′ ≡ with-entries (taking t .entries) l = p .lists ∙ rw (sym (p .answer)) refl in
+    let filled : l′ ≡ with-entries es l = done ∙ ap (λ (x : Taking). with-entries (x .entries) l) (lines-taken (m .0) nothing-there) in
+    let same : entries-in (first n l′) ≡ es = ap (λ (k : Lists). entries-in (first n k)) filled ∙ first-entries es l (m .0 .count) in
+    (subst AllSayable (sym same) (m .0 .says), ap text-of same ∙ sym (m .0 .is ∙ append-nil (text-of es)))
 
+-- Put again, they are the text.
 pub put-after-take : {t : List ℕ} {l l′ : Lists} {n : ℕ} {out out′ : List ℕ} {o : LinesPut} →
     TookLines t l (Taken n) l′ → PutLines (first n l′) out o out′ → length t ≤ length out →
     (o ≡ Written (length t)) × (out′ ≡ over t out)
 unfolding text-after
-put-after-take {t} {l} {l′} {n} {out} {out′} p q room =
-    let m = take-answers t (size l) (Taken n) .0 (sym (p .answer)) in
-    let es = m .0 .entries in
-    let text : text-of es ≡ t = sym (m .0 .is ∙ append-nil (text-of es)) in
-    let filled : l′ ≡ with-entries es l =
-    took-entries p ∙ ap (λ (x : Taking). with-entries (x .entries) l) (lines-taken (m .0) nothing-there)
-    in
-    let same : entries-in (first n l′) ≡ es = ap (λ (k : Lists). entries-in (first n k)) filled ∙ first-entries es l (m .0 .count) in
-    let answer : put-answer (entries-in (first n l′)) (length out) ≡ Written (length t) =
-    ap (λ (x : List Entry). put-answer x (length out)) same ∙
-    put-answers es (length out) (Written (length t)) .1 (m .0 .says, ap length (sym text), room)
-    in
-    (q .answer ∙ answer, q .text ∙ rw answer (ap (λ (x : List Entry). over (text-of x) out) same ∙ ap (λ (u : List ℕ). over u out) text))
+put-after-take {t} {l′ = l′} {n = n} {out = out} p q room =
+    let es = entries-in (first n l′) in
+    let text = took-text p in
+    let answer = put-answers es (length out) (Written (length t)) .1 (text .0, ap length (sym (text .1)), room) in
+    (q .answer ∙ answer, q .text ∙ rw answer (ap (λ (u : List ℕ). over u out) (text .1)))

@@ -1,6 +1,5 @@
 -- `transcript_lines::lines::entry_of` meets its contract, by cases on reading and writing.
 use mathlib.Core.Path.{refl}
-use Rattle.transcript_lines.specs.Lines.{entry-of}
 use borrow.Author.Needs.{needs}
 use Rattle.transcript_lines.proofs.lines.entry_of.Statement.{statement}
 use Rattle.transcript_lines.proofs.lines.entry_of.Tie as tie

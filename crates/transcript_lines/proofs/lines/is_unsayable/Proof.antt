@@ -2,7 +2,6 @@
 use mathlib.Core.Path.{refl}
 use Rattle.transcript_bytes.specs.Writing.{no-record}
 use Rattle.transcript_lines.specs.Lines.{unsayable}
-use borrow.Author.Needs.{needs}
 use Rattle.transcript_lines.proofs.lines.is_unsayable.Statement.{statement}
 use Rattle.transcript_lines.proofs.lines.is_unsayable.Tie as tie
 

@@ -1,6 +1,6 @@
 -- `transcript_lines::lines::put_line` meets its contract: a read's line at once, a write's in two parts, one behind the other.
 use native.Mathlib.Omega.{arith}
-use mathlib.Core.Path.{sym, ap}
+use mathlib.Core.Path.{ap}
 use lib.ListN.{length}
 use Rattle.listing.proofs.Laying.{put-behind, put-length}
 use Rattle.transcript_lines.proofs.Sayable.{sayable-when}
