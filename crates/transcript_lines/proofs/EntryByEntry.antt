@@ -27,17 +27,17 @@ module _ (l : Lists) where
   all-follow : following 0 ≡ entries-in l
   all-follow = ap (entries-from l 0) (sub-zero (size l))
 
-  one-follows : (i : ℕ) {e : Entry} → i < size l → e ≡ entry-at l i → following i ≡ e ∷ following (i + 1)
+  one-follows : {i n : ℕ} {e : Entry} → n ≡ size l → i < n → e ≡ entry-at l i → following i ≡ e ∷ following (i + 1)
   unfolding entries-from
-  one-follows i h is =
+  one-follows {i} s h is =
       let more : size l - i ≡ suc (size l - (i + 1)) = omega arith in
       ap (entries-from l i) more ∙
       ap (λ (j : ℕ). entry-at l i ∷ entries-from l j (size l - (i + 1))) (sym (add-one i)) ∙
       ap (λ (e : Entry). e ∷ following (i + 1)) (sym is)
 
-  none-follows : (i : ℕ) → size l ≤ i → following i ≡ []
+  none-follows : {i n : ℕ} → n ≡ size l → n ≤ i → following i ≡ []
   unfolding entries-from
-  none-follows i h =
+  none-follows {i} s h =
       let none : size l - i ≡ 0 = omega arith in
       ap (entries-from l i) none
 
@@ -52,15 +52,15 @@ pub judged-start : (l : Lists) (done : LinesPut) → Judged l done 0
 judged-start l done = record { most = omega arith; come = ap (λ (es : List Entry). first-unsayable 0 es done) (sym (all-follow l)) }
 
 module _ {l : Lists} {done : LinesPut} {i : ℕ} (k : Judged l done i) where
-  module _ {e : Entry} (h : i < size l) (is : e ≡ entry-at l i) where
+  module _ {n : ℕ} {e : Entry} (s : n ≡ size l) (h : i < n) (is : e ≡ entry-at l i) where
     here : first-unsayable 0 (entries-in l) done ≡ first-unsayable i (e ∷ following l (i + 1)) done
-    here = k .come ∙ ap (λ (es : List Entry). first-unsayable i es done) (one-follows l i h is)
+    here = k .come ∙ ap (λ (es : List Entry). first-unsayable i es done) (one-follows l s h is)
 
     pub judged-next : unsayable e ≡ false → Judged l done (i + 1)
     unfolding first-unsayable
     judged-next f =
         record {
-          most = omega (arith, h);
+          most = omega (arith, s, h);
           come = here ∙ rw f (ap (λ (j : ℕ). first-unsayable j (following l (i + 1)) done) (sym (add-one i)));
         }
 
@@ -68,9 +68,9 @@ module _ {l : Lists} {done : LinesPut} {i : ℕ} (k : Judged l done i) where
     unfolding first-unsayable
     judged-unsayable f = sym (here ∙ rw f refl)
 
-  pub judged-all : size l ≤ i → done ≡ first-unsayable 0 (entries-in l) done
+  pub judged-all : {n : ℕ} → n ≡ size l → n ≤ i → done ≡ first-unsayable 0 (entries-in l) done
   unfolding first-unsayable
-  judged-all h = sym (k .come ∙ ap (λ (es : List Entry). first-unsayable i es done) (none-follows l i h))
+  judged-all s h = sym (k .come ∙ ap (λ (es : List Entry). first-unsayable i es done) (none-follows l s h))
 
 -- ---- their lines have so many bytes
 
@@ -87,28 +87,28 @@ pub measured-start : (l : Lists) (room : ℕ) → Measured l room room 0
 measured-start l room =
     record { most = omega arith; less = omega arith; come = ap (λ (es : List Entry). room + bytes es) (sym (all-follow l)) }
 
-one-line : (l : Lists) {i : ℕ} {e : Entry} → i < size l → e ≡ entry-at l i →
+one-line : (l : Lists) {i n : ℕ} {e : Entry} → n ≡ size l → i < n → e ≡ entry-at l i →
     bytes (following l i) ≡ length (line e) + bytes (following l (i + 1))
 unfolding lines-of
-one-line l {i} {e} h is = ap bytes (one-follows l i h is) ∙ length-append (line e) (text-of (following l (i + 1)))
+one-line l {i} {e = e} s h is = ap bytes (one-follows l s h is) ∙ length-append (line e) (text-of (following l (i + 1)))
 
 module _ {l : Lists} {room left i : ℕ} (k : Measured l room left i) where
-  module _ {e : Entry} {n : ℕ} (h : i < size l) (is : e ≡ entry-at l i) (long : n ≡ length (line e)) where
-    pub measured-next : n ≤ left → Measured l room (left - n) (i + 1)
+  module _ {n bytes-here : ℕ} {e : Entry} (s : n ≡ size l) (h : i < n) (is : e ≡ entry-at l i) (long : bytes-here ≡ length (line e)) where
+    pub measured-next : bytes-here ≤ left → Measured l room (left - bytes-here) (i + 1)
     measured-next fits =
         record {
-          most = omega (arith, h);
+          most = omega (arith, s, h);
           less = omega (arith, k .less);
-          come = omega (arith, k .come, one-line l h is, long, fits);
+          come = omega (arith, k .come, one-line l s h is, long, fits);
         }
 
-    pub measured-out : left < n → NoBytes ≡ fitting (bytes (entries-in l)) room
-    measured-out more = rw (lt-ltb room (bytes (entries-in l)) (omega (arith, k .come, k .less, one-line l h is, long, more))) refl
+    pub measured-out : left < bytes-here → NoBytes ≡ fitting (bytes (entries-in l)) room
+    measured-out more = rw (lt-ltb room (bytes (entries-in l)) (omega (arith, k .come, k .less, one-line l s h is, long, more))) refl
 
-  pub measured-all : size l ≤ i → Written (room - left) ≡ fitting (bytes (entries-in l)) room
+  pub measured-all : {n : ℕ} → n ≡ size l → n ≤ i → Written (room - left) ≡ fitting (bytes (entries-in l)) room
   unfolding lines-of
-  measured-all h =
-      let none : bytes (following l i) ≡ 0 = ap bytes (none-follows l i h) in
+  measured-all s h =
+      let none : bytes (following l i) ≡ 0 = ap bytes (none-follows l s h) in
       let all : room - left ≡ bytes (entries-in l) = omega (arith, k .come, k .less, none) in
       rw (le-ltb room (bytes (entries-in l)) (omega (arith, all))) (ap Written all)
 
@@ -142,24 +142,24 @@ module _ {l : Lists} {out₀ out : List ℕ} {at i : ℕ} (k : Laid l out₀ out
   pub laid-length : length out ≡ length out₀
   laid-length = ap length (k .there) ∙ over-length (k .text) out₀ (omega (arith, whole, room))
 
-  module _ {e : Entry} (h : i < size l) (is : e ≡ entry-at l i) where
+  module _ {n : ℕ} {e : Entry} (s : n ≡ size l) (h : i < n) (is : e ≡ entry-at l i) where
     -- The next line has its place,
     room-there : length (k .text) + length (line e) ≤ length out₀
-    room-there = omega (arith, whole, room, one-line l h is)
+    room-there = omega (arith, whole, room, one-line l s h is)
 
     pub laid-room : (at + length (line e) ≤ length out) × (unsayable e ≡ false)
-    laid-room = (omega (arith, room-there, k .end, laid-length), subst AllSayable (one-follows l i h is) (k .says) .0)
+    laid-room = (omega (arith, room-there, k .end, laid-length), subst AllSayable (one-follows l s h is) (k .says) .0)
 
     -- and stands there.
     pub laid-next : {end : ℕ} {out′ : List ℕ} → Put out at (line e) end out′ → Laid l out₀ out′ end (i + 1)
     unfolding lines-of
     laid-next x =
         record {
-          most = omega (arith, h);
+          most = omega (arith, s, h);
           text = k .text ++ line e;
           come =
               k .come ∙
-              ap (λ (es : List Entry). k .text ++ text-of es) (one-follows l i h is) ∙
+              ap (λ (es : List Entry). k .text ++ text-of es) (one-follows l s h is) ∙
               sym (append-assoc (k .text) (line e) (text-of (following l (i + 1))));
           there =
               x .output ∙
@@ -167,13 +167,13 @@ module _ {l : Lists} {out₀ out : List ℕ} {at i : ℕ} (k : Laid l out₀ out
               ap (λ (n : ℕ). laid (over (k .text) out₀) n (line e)) (k .end) ∙
               with-more out₀ (k .text) (line e) room-there;
           end = x .end ∙ ap (λ (n : ℕ). n + length (line e)) (k .end) ∙ sym (length-append (k .text) (line e));
-          says = subst AllSayable (one-follows l i h is) (k .says) .1;
+          says = subst AllSayable (one-follows l s h is) (k .says) .1;
         }
 
-  pub laid-all : size l ≤ i → out ≡ over (text-of (entries-in l)) out₀
+  pub laid-all : {n : ℕ} → n ≡ size l → n ≤ i → out ≡ over (text-of (entries-in l)) out₀
   unfolding lines-of
-  laid-all h =
+  laid-all s h =
       let all : text-of (entries-in l) ≡ k .text =
-      k .come ∙ ap (λ (es : List Entry). k .text ++ text-of es) (none-follows l i h) ∙ append-nil (k .text)
+      k .come ∙ ap (λ (es : List Entry). k .text ++ text-of es) (none-follows l s h) ∙ append-nil (k .text)
       in
       k .there ∙ ap (λ (t : List ℕ). over t out₀) (sym all)

@@ -22,7 +22,13 @@ either-requires-4 c κs = tt
 
 returns : tie.Need-returns
 unfolding unsayable no-record
-returns c = rw (c .either4 .ensures, c .before .before .before .before .either2 .ensures, c .before .before .before .before .before .either .ensures, c .before .before .before .before .before .before .both .ensures, c .before .either3 .ensures) refl
+returns c =
+    let at-either2 = c .before .before .before .before in
+    let at-either = at-either2 .before in
+    let at-both = at-either .before in
+    rw
+    (c .either4 .ensures, at-either2 .either2 .ensures, at-either .either .ensures, at-both .both .ensures, c .before .either3 .ensures)
+    refl
 
 pub is-unsayable-spec : {M : Type 1} → statement M
 is-unsayable-spec =

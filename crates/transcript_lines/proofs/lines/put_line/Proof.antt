@@ -21,41 +21,53 @@ cast-lanes c =
 
 put-head-requires : tie.Need-put-head-requires
 put-head-requires c κs =
-    let says = sayable-when (c .before .before .before .before .before .before .args .e) .0 (c .before .before .before .before .before .before .pre .1) in
-    let long = ap length (read-line (c .before .before .before .before .before .before .args .e) (c .before .if1 .taken)) in
-    (omega (arith, long, c .before .before .before .before .before .before .pre .0), says .register, says .lanes)
+    let start = c .before .before .before .before .before .before in
+    let says = sayable-when (start .args .e) .0 (start .pre .1) in
+    let long = ap length (read-line (start .args .e) (c .before .if1 .taken)) in
+    (omega (arith, long, start .pre .0), says .register, says .lanes)
 
 same-length : tie.Need-same-length
 same-length c = search needs
 
 returns : tie.Need-returns
-returns c = rw (read-line (c .before .before .before .before .before .before .before .before .before .args .e) (c .before .before .before .before .if1 .taken)) (c .before .before .put-head .ensures)
+returns c =
+    let at-if1 = c .before .before .before .before in
+    let start = at-if1 .before .before .before .before .before in
+    rw (read-line (start .args .e) (at-if1 .if1 .taken)) (c .before .before .put-head .ensures)
 
 cast-word : tie.Need-cast-word
 cast-word c =
-    let says = sayable-when (c .before .before .before .before .before .before .args .e) .0 (c .before .before .before .before .before .before .pre .1) in
+    let start = c .before .before .before .before .before .before in
+    let says = sayable-when (start .args .e) .0 (start .pre .1) in
     record { fits = omega (arith, says .word) }
 
 put-head-requires-2 : tie.Need-put-head-requires-2
 put-head-requires-2 c κs =
-    let says = sayable-when (c .before .before .before .before .before .before .before .args .e) .0 (c .before .before .before .before .before .before .before .pre .1) in
-    let long = ap length (write-line (c .before .before .before .before .before .before .before .args .e) (c .before .before .if1 .left)) in
-    (omega (arith, long, c .before .before .before .before .before .before .before .pre .0), says .register, says .lanes)
+    let start = c .before .before .before .before .before .before .before in
+    let says = sayable-when (start .args .e) .0 (start .pre .1) in
+    let long = ap length (write-line (start .args .e) (c .before .before .if1 .left)) in
+    (omega (arith, long, start .pre .0), says .register, says .lanes)
 
 put-word-requires : tie.Need-put-word-requires
 put-word-requires c κs =
-    let long = ap length (write-line (c .before .before .before .before .before .before .before .before .before .before .before .args .e) (c .before .before .before .before .before .before .if1 .left)) in
-    let room = put-length (omega (arith, long, c .before .before .before .before .before .before .before .before .before .before .before .pre .0)) (c .before .before .before .put-head2 .ensures) in
-    omega (arith, long, c .before .before .before .before .before .before .before .before .before .before .before .pre .0, room, c .before .before .before .put-head2 .ensures .end)
+    let at-put-head2 = c .before .before .before in
+    let at-if1 = at-put-head2 .before .before .before in
+    let start = at-if1 .before .before .before .before .before in
+    let long = ap length (write-line (start .args .e) (at-if1 .if1 .left)) in
+    let room = put-length (omega (arith, long, start .pre .0)) (at-put-head2 .put-head2 .ensures) in
+    omega (arith, long, start .pre .0, room, at-put-head2 .put-head2 .ensures .end)
 
 same-length-2 : tie.Need-same-length-2
 same-length-2 c = search needs
 
 returns-2 : tie.Need-returns-2
 returns-2 c =
-    let is = write-line (c .before .before .before .before .before .before .before .before .before .before .before .before .before .before .args .e) (c .before .before .before .before .before .before .before .before .before .if1 .left) in
+    let at-put-head2 = c .before .before .before .before .before .before in
+    let at-if1 = at-put-head2 .before .before .before in
+    let start = at-if1 .before .before .before .before .before in
+    let is = write-line (start .args .e) (at-if1 .if1 .left) in
     let long = ap length is in
-    rw is (put-behind (omega (arith, long, c .before .before .before .before .before .before .before .before .before .before .before .before .before .before .pre .0)) (c .before .before .before .before .before .before .put-head2 .ensures) (c .before .before .put-word .ensures))
+    rw is (put-behind (omega (arith, long, start .pre .0)) (at-put-head2 .put-head2 .ensures) (c .before .before .put-word .ensures))
 
 pub put-line-spec : {M : Type 1} → statement M
 put-line-spec =

@@ -54,11 +54,14 @@ same-length c = search needs
 
 returns : tie.Need-returns
 returns c =
+    let at-digit-for = c .before .before .before in
+    let start = at-digit-for .before .before in
     record {
       end = refl;
       output =
-          rw (c .before .before .before .digit-for .ensures, c .before .before .digit-for2 .ensures, c .before .digit-for3 .ensures, c .digit-for4 .ensures)
-          (five-laid (c .before .before .before .before .before .args .text .now) (c .before .before .before .before .before .args .at) _ _ _ _ _ (c .before .before .before .before .before .pre));
+          rw
+          (at-digit-for .digit-for .ensures, c .before .before .digit-for2 .ensures, c .before .digit-for3 .ensures, c .digit-for4 .ensures)
+          (five-laid (start .args .text .now) (start .args .at) _ _ _ _ _ (start .pre));
     }
 
 pub put-word-spec : {M : Type 1} → statement M

@@ -19,15 +19,19 @@ smallest-requires c κs = tt
 
 loop-holds : tie.Need-loop-holds Inv-loop μ-loop
 loop-holds c =
-    let a = c .before .before .before .before .before .before .args in
-    laid-start (lists (a .kinds .now) (a .registers .now) (a .lanes .now) (a .words .now)) (a .text .now) (c .before .before .before .before .before .before .pre .0)
+    let start = c .before .before .before .before .before .before in
+    let a = start .args in
+    laid-start (lists (a .kinds .now) (a .registers .now) (a .lanes .now) (a .words .now)) (a .text .now) (start .pre .0)
 
 entry-at-requires : tie.Need-entry-at-requires Inv-loop μ-loop
 entry-at-requires c κs = omega (arith, c .before .loop-test .taken, c .before .before .before .smallest .ensures)
 
 put-line-requires : tie.Need-put-line-requires Inv-loop μ-loop
 put-line-requires c κs =
-    laid-room (c .before .before .before .loop .inv) (c .before .before .before .before .before .before .before .before .before .before .pre .1) (omega (arith, c .before .before .loop-test .taken, c .before .before .before .before .smallest .ensures)) (c .entry-at .ensures)
+    let l = c .before .before .before in
+    let at-smallest = l .before in
+    let start = at-smallest .before .before .before .before .before .before in
+    laid-room (l .loop .inv) (start .pre .1) (at-smallest .smallest .ensures) (c .before .before .loop-test .taken) (c .entry-at .ensures)
 
 add-i : tie.Need-add-i Inv-loop μ-loop
 add-i c = omega (arith, c .before .before .before .before .before .loop-test .taken)
@@ -37,13 +41,23 @@ loop-less c = omega (arith, c .before .before .before .before .before .loop-test
 
 loop-again : tie.Need-loop-again Inv-loop μ-loop
 loop-again c =
-    laid-next (c .before .before .before .before .before .before .loop .inv) (c .before .before .before .before .before .before .before .before .before .before .before .before .before .pre .1) (omega (arith, c .before .before .before .before .before .loop-test .taken, c .before .before .before .before .before .before .before .smallest .ensures)) (c .before .before .before .entry-at .ensures) (c .before .before .put-line .ensures)
+    let at-entry-at = c .before .before .before in
+    let at-loop-test = at-entry-at .before .before in
+    let l = at-loop-test .before in
+    let at-smallest = l .before in
+    let start = at-smallest .before .before .before .before .before .before in
+    laid-next (l .loop .inv) (start .pre .1) (at-smallest .smallest .ensures)
+    (at-loop-test .loop-test .taken) (at-entry-at .entry-at .ensures) (c .before .before .put-line .ensures)
 
 same-length : tie.Need-same-length Inv-loop μ-loop
-same-length c = laid-length (c .before .loop .inv) (c .before .before .before .before .before .before .before .before .pre .1)
+same-length c =
+    let start = c .before .before .before .before .before .before .before .before in
+    laid-length (c .before .loop .inv) (start .pre .1)
 
 returns : tie.Need-returns Inv-loop μ-loop
-returns c = laid-all (c .before .loop .inv) (c .before .before .before .before .before .before .before .before .pre .1) (omega (arith, c .loop-test .left, c .before .before .smallest .ensures))
+returns c =
+    let start = c .before .before .before .before .before .before .before .before in
+    laid-all (c .before .loop .inv) (start .pre .1) (c .before .before .smallest .ensures) (c .loop-test .left)
 
 pub fill-text-spec : {M : Type 1} → statement M
 fill-text-spec =

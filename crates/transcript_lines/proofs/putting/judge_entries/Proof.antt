@@ -31,7 +31,11 @@ is-unsayable-requires c κs = tt
 
 returns : tie.Need-returns Inv-loop μ-loop
 returns c =
-    judged-unsayable (c .before .before .before .before .loop .inv) (omega (arith, c .before .before .before .loop-test .taken, c .before .before .before .before .before .smallest .ensures)) (c .before .before .entry-at .ensures) (sym (c .before .is-unsayable .ensures) ∙ c .if1 .taken)
+    let at-loop-test = c .before .before .before in
+    let l = at-loop-test .before in
+    let at-smallest = l .before in
+    judged-unsayable (l .loop .inv) (at-smallest .smallest .ensures) (at-loop-test .loop-test .taken) (c .before .before .entry-at .ensures)
+    (sym (c .before .is-unsayable .ensures) ∙ c .if1 .taken)
 
 add-i : tie.Need-add-i Inv-loop μ-loop
 add-i c = omega (arith, c .before .before .before .loop-test .taken)
@@ -41,10 +45,14 @@ loop-less c = omega (arith, c .before .before .before .loop-test .taken)
 
 loop-again : tie.Need-loop-again Inv-loop μ-loop
 loop-again c =
-    judged-next (c .before .before .before .before .loop .inv) (omega (arith, c .before .before .before .loop-test .taken, c .before .before .before .before .before .smallest .ensures)) (c .before .before .entry-at .ensures) (sym (c .before .is-unsayable .ensures) ∙ c .if1 .left)
+    let at-loop-test = c .before .before .before in
+    let l = at-loop-test .before in
+    let at-smallest = l .before in
+    judged-next (l .loop .inv) (at-smallest .smallest .ensures) (at-loop-test .loop-test .taken) (c .before .before .entry-at .ensures)
+    (sym (c .before .is-unsayable .ensures) ∙ c .if1 .left)
 
 returns-2 : tie.Need-returns-2 Inv-loop μ-loop
-returns-2 c = judged-all (c .before .loop .inv) (omega (arith, c .loop-test .left, c .before .before .smallest .ensures))
+returns-2 c = judged-all (c .before .loop .inv) (c .before .before .smallest .ensures) (c .loop-test .left)
 
 pub judge-entries-spec : {M : Type 1} → statement M
 judge-entries-spec =

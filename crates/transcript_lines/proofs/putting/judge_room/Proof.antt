@@ -30,7 +30,11 @@ line-size-requires c κs = tt
 
 returns : tie.Need-returns Inv-loop μ-loop
 returns c =
-    measured-out (c .before .before .before .before .loop .inv) (omega (arith, c .before .before .before .loop-test .taken, c .before .before .before .before .before .smallest .ensures)) (c .before .before .entry-at .ensures) (c .before .line-size .ensures) (c .if1 .taken)
+    let at-loop-test = c .before .before .before in
+    let l = at-loop-test .before in
+    let at-smallest = l .before in
+    measured-out (l .loop .inv) (at-smallest .smallest .ensures) (at-loop-test .loop-test .taken) (c .before .before .entry-at .ensures)
+    (c .before .line-size .ensures) (c .if1 .taken)
 
 add-i : tie.Need-add-i Inv-loop μ-loop
 add-i c = omega (arith, c .before .before .before .loop-test .taken)
@@ -40,13 +44,17 @@ loop-less c = omega (arith, c .before .before .before .loop-test .taken)
 
 loop-again : tie.Need-loop-again Inv-loop μ-loop
 loop-again c =
-    measured-next (c .before .before .before .before .loop .inv) (omega (arith, c .before .before .before .loop-test .taken, c .before .before .before .before .before .smallest .ensures)) (c .before .before .entry-at .ensures) (c .before .line-size .ensures) (c .if1 .left)
+    let at-loop-test = c .before .before .before in
+    let l = at-loop-test .before in
+    let at-smallest = l .before in
+    measured-next (l .loop .inv) (at-smallest .smallest .ensures) (at-loop-test .loop-test .taken) (c .before .before .entry-at .ensures)
+    (c .before .line-size .ensures) (c .if1 .left)
 
 sub-t10 : tie.Need-sub-t10 Inv-loop μ-loop
 sub-t10 c = c .before .loop .inv .less
 
 returns-2 : tie.Need-returns-2 Inv-loop μ-loop
-returns-2 c = measured-all (c .before .loop .inv) (omega (arith, c .loop-test .left, c .before .before .smallest .ensures))
+returns-2 c = measured-all (c .before .loop .inv) (c .before .before .smallest .ensures) (c .loop-test .left)
 
 pub judge-room-spec : {M : Type 1} → statement M
 judge-room-spec =

@@ -16,21 +16,34 @@ enum-told c = search needs
 
 returns : tie.Need-returns
 returns c =
-    let a = c .before .before .before .before .before .before .before .before .args in
-    refused-put (lists (a .kinds .now) (a .registers .now) (a .lanes .now) (a .words .now)) (a .text .now) (c .before .before .judge-room .ensures) (c .before .judge-entries .ensures) (c .match .keys2)
+    let start = c .before .before .before .before .before .before .before .before in
+    let a = start .args in
+    let l = lists (a .kinds .now) (a .registers .now) (a .lanes .now) (a .words .now) in
+    refused-put l (a .text .now) (c .before .before .judge-room .ensures) (c .before .judge-entries .ensures) (c .match .keys2)
 
 fill-text-requires : tie.Need-fill-text-requires
 fill-text-requires c κs =
-    let a = c .before .before .before .before .before .before .before .before .before .before .args in
-    written-room (lists (a .kinds .now) (a .registers .now) (a .lanes .now) (a .words .now)) (a .text .now) (c .before .before .before .before .judge-room .ensures) (c .before .before .before .judge-entries .ensures) (c .before .enum-told .given .1)
+    let at-judge-entries = c .before .before .before in
+    let at-judge-room = at-judge-entries .before in
+    let start = at-judge-room .before .before .before .before .before .before in
+    let a = start .args in
+    let l = lists (a .kinds .now) (a .registers .now) (a .lanes .now) (a .words .now) in
+    written-room l (a .text .now) (at-judge-room .judge-room .ensures) (at-judge-entries .judge-entries .ensures)
+    (c .before .enum-told .given .1)
 
 same-length : tie.Need-same-length
 same-length c = search needs
 
 returns-2 : tie.Need-returns-2
 returns-2 c =
-    let a = c .before .before .before .before .before .before .before .before .before .before .before .before .before .args in
-    done-put (lists (a .kinds .now) (a .registers .now) (a .lanes .now) (a .words .now)) (a .text .now) (c .before .before .before .before .before .before .before .judge-room .ensures) (c .before .before .before .before .before .before .judge-entries .ensures) (c .before .before .before .before .enum-told .given .1) (c .before .before .fill-text .ensures)
+    let at-enum-told = c .before .before .before .before in
+    let at-judge-entries = at-enum-told .before .before in
+    let at-judge-room = at-judge-entries .before in
+    let start = at-judge-room .before .before .before .before .before .before in
+    let a = start .args in
+    let l = lists (a .kinds .now) (a .registers .now) (a .lanes .now) (a .words .now) in
+    done-put l (a .text .now) (at-judge-room .judge-room .ensures) (at-judge-entries .judge-entries .ensures)
+    (at-enum-told .enum-told .given .1) (c .before .before .fill-text .ensures)
 
 pub put-lines-spec : {M : Type 1} → statement M
 put-lines-spec =

@@ -1,12 +1,9 @@
 -- `transcript_lines::taking::fill_lists` meets its contract: each turn is one of those of `Filling`.
 use Prim.Native.Nat.{_-_}
 use native.Mathlib.Omega.{arith}
-use mathlib.Core.Path.{ap, _∙_}
 use lib.ListN.{length}
-use Rattle.listing.proofs.Turns.{part-front}
 use Rattle.transcript_bytes.specs.Lists.{lists}
-use Rattle.transcript_lines.proofs.LineAfterLine.{is-good}
-use Rattle.transcript_lines.proofs.Turns.{other-front, good-lies}
+use Rattle.transcript_lines.proofs.Turns.{good-lies}
 use Rattle.transcript_lines.proofs.Filling.{Filled, filled-start, still-long, place-there, filled-next, filled-all}
 use borrow.Author.Needs.{needs}
 use Rattle.transcript_lines.proofs.taking.fill_lists.Statement.{statement}
@@ -40,54 +37,81 @@ enum-known-line : tie.Need-enum-known-line Inv-loop μ-loop
 enum-known-line c = search needs
 
 same-length : tie.Need-same-length Inv-loop μ-loop
-same-length c = still-long (c .before .before .before .loop .inv) (c .before .before .before .before .before .before .before .before .before .pre) .kinds
+same-length c =
+    let l = c .before .before .before in
+    let start = l .before .before .before .before .before .before in
+    still-long (l .loop .inv) (start .pre) .kinds
 
 same-length-2 : tie.Need-same-length-2 Inv-loop μ-loop
-same-length-2 c = still-long (c .before .before .before .loop .inv) (c .before .before .before .before .before .before .before .before .before .pre) .registers
+same-length-2 c =
+    let l = c .before .before .before in
+    let start = l .before .before .before .before .before .before in
+    still-long (l .loop .inv) (start .pre) .registers
 
 same-length-3 : tie.Need-same-length-3 Inv-loop μ-loop
-same-length-3 c = still-long (c .before .before .before .loop .inv) (c .before .before .before .before .before .before .before .before .before .pre) .lanes
+same-length-3 c =
+    let l = c .before .before .before in
+    let start = l .before .before .before .before .before .before in
+    still-long (l .loop .inv) (start .pre) .lanes
 
 same-length-4 : tie.Need-same-length-4 Inv-loop μ-loop
-same-length-4 c = still-long (c .before .before .before .loop .inv) (c .before .before .before .before .before .before .before .before .before .pre) .words
+same-length-4 c =
+    let l = c .before .before .before in
+    let start = l .before .before .before .before .before .before in
+    still-long (l .loop .inv) (start .pre) .words
 
 returns : tie.Need-returns Inv-loop μ-loop
 returns c =
-    let l = c .before .before .before .loop in
-    let front = part-front (c .before .before .before .before .before .before .before .before .before .args .text .now) (l .used) (c .before .front-line .ensures) in
-    filled-all (l .inv) (c .before .before .before .before .before .before .before .before .before .pre) (ap is-good front ∙ other-front (c .before .front-line .result) (c .match .keys2))
+    let l = c .before .before .before in
+    let start = l .before .before .before .before .before .before in
+    filled-all (l .loop .inv) (start .pre) (c .before .front-line .ensures) (c .match .keys2)
 
 entry-of-requires : tie.Need-entry-of-requires Inv-loop μ-loop
 entry-of-requires c κs = tt
 
 set-entry-requires : tie.Need-set-entry-requires Inv-loop μ-loop
 set-entry-requires c κs =
-    let l = c .before .before .before .before .before .before .before .before .before .before .loop in
-    let front = part-front (c .before .before .before .before .before .before .before .before .before .before .before .before .before .before .before .before .args .text .now) (l .used) (c .before .before .before .before .before .before .before .before .front-line .ensures) in
-    place-there (l .inv) (c .before .before .before .before .before .before .before .before .before .before .before .before .before .before .before .before .pre) (front ∙ c .before .before .before .before .before .before .line .given .1)
+    let at-line = c .before .before .before .before .before .before in
+    let at-front-line = at-line .before .before in
+    let l = at-front-line .before .before in
+    let start = l .before .before .before .before .before .before in
+    place-there (l .loop .inv) (start .pre) (at-front-line .front-line .ensures) (at-line .line .given .1)
 
 add-used : tie.Need-add-used Inv-loop μ-loop
 add-used c =
-    let l = c .before .before .before .before .before .before .before .before .before .before .before .before .before .before .before .before .before .before .before .loop in
-    let front = part-front (c .before .before .before .before .before .before .before .before .before .before .before .before .before .before .before .before .before .before .before .before .before .before .before .before .before .args .text .now) (l .used) (c .before .before .before .before .before .before .before .before .before .before .before .before .before .before .before .before .before .front-line .ensures) in
-    let lies = good-lies (l .inv .come) (front ∙ c .before .before .before .before .before .before .before .before .before .before .before .before .before .before .before .line .given .1) in
-    omega (arith, lies .1)
+    let at-set-entry = c .before .before .before .before .before .before .before .before in
+    let at-line = at-set-entry .before .before .before .before .before .before .before in
+    let at-front-line = at-line .before .before in
+    let l = at-front-line .before .before in
+    let start = l .before .before .before .before .before .before in
+    let lies = good-lies (l .loop .inv .come) (at-front-line .front-line .ensures) (at-line .line .given .1) in
+    omega (arith, lies .1, start .good)
 
 add-i : tie.Need-add-i Inv-loop μ-loop
-add-i c = omega (arith, c .before .before .before .before .before .before .before .before .before .before .before .before .before .before .before .before .before .before .before .loop .inv .come .few)
+add-i c =
+    let at-set-entry = c .before .before .before .before .before .before .before .before in
+    let l = at-set-entry .before .before .before .before .before .before .before .before .before .before .before in
+    omega (arith, l .loop .inv .come .few)
 
 loop-less : tie.Need-loop-less Inv-loop μ-loop
 loop-less c =
-    let l = c .before .before .before .before .before .before .before .before .before .before .before .before .before .before .before .before .before .before .before .loop in
-    let front = part-front (c .before .before .before .before .before .before .before .before .before .before .before .before .before .before .before .before .before .before .before .before .before .before .before .before .before .args .text .now) (l .used) (c .before .before .before .before .before .before .before .before .before .before .before .before .before .before .before .before .before .front-line .ensures) in
-    let lies = good-lies (l .inv .come) (front ∙ c .before .before .before .before .before .before .before .before .before .before .before .before .before .before .before .line .given .1) in
+    let at-set-entry = c .before .before .before .before .before .before .before .before in
+    let at-line = at-set-entry .before .before .before .before .before .before .before in
+    let at-front-line = at-line .before .before in
+    let l = at-front-line .before .before in
+    let lies = good-lies (l .loop .inv .come) (at-front-line .front-line .ensures) (at-line .line .given .1) in
     omega (arith, lies .0, lies .1)
 
 loop-again : tie.Need-loop-again Inv-loop μ-loop
 loop-again c =
-    let l = c .before .before .before .before .before .before .before .before .before .before .before .before .before .before .before .before .before .before .before .loop in
-    let front = part-front (c .before .before .before .before .before .before .before .before .before .before .before .before .before .before .before .before .before .before .before .before .before .before .before .before .before .args .text .now) (l .used) (c .before .before .before .before .before .before .before .before .before .before .before .before .before .before .before .before .before .front-line .ensures) in
-    filled-next (l .inv) (c .before .before .before .before .before .before .before .before .before .before .before .before .before .before .before .before .before .before .before .before .before .before .before .before .before .pre) (front ∙ c .before .before .before .before .before .before .before .before .before .before .before .before .before .before .before .line .given .1) (c .before .before .before .before .before .before .before .before .before .entry-of .ensures) (c .before .before .before .before .before .before .before .before .set-entry .ensures)
+    let at-set-entry = c .before .before .before .before .before .before .before .before in
+    let at-entry-of = at-set-entry .before in
+    let at-line = at-entry-of .before .before .before .before .before .before in
+    let at-front-line = at-line .before .before in
+    let l = at-front-line .before .before in
+    let start = l .before .before .before .before .before .before in
+    filled-next (l .loop .inv) (start .pre) (at-front-line .front-line .ensures) (at-line .line .given .1)
+    (at-entry-of .entry-of .ensures) (at-set-entry .set-entry .ensures)
 
 pub fill-lists-spec : {M : Type 1} → statement M
 fill-lists-spec =

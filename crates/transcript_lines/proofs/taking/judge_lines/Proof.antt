@@ -4,9 +4,7 @@ use native.Mathlib.Omega.{arith}
 use mathlib.Core.Path.{sym, _∙_, ap}
 use lib.ListN.{length}
 use borrow.Author.Tests.{lt-ltb, le-ltb}
-use Rattle.listing.proofs.Turns.{part-front}
-use Rattle.transcript_lines.proofs.LineAfterLine.{is-good}
-use Rattle.transcript_lines.proofs.Turns.{Come, at-start, other-front, good-lies, one-more, ends-bad, ends-even}
+use Rattle.transcript_lines.proofs.Turns.{Come, at-start, good-lies, one-more, ends-bad, ends-even}
 use borrow.Author.Needs.{needs}
 use Rattle.transcript_lines.proofs.taking.judge_lines.Statement.{statement}
 use Rattle.transcript_lines.proofs.taking.judge_lines.Tie as tie
@@ -37,17 +35,16 @@ enum-known-line c = search needs
 
 returns : tie.Need-returns Inv-loop μ-loop
 returns c =
-    let l = c .before .before .before .before .loop in
-    let t = c .before .before .before .before .before .before .args .text .now in
-    let front = part-front t (l .used) (c .before .front-line .ensures) in
-    ends-bad (l .inv) (c .before .before .before .before .before .before .args .room) (c .before .before .before .loop-test .taken) (ap is-good front ∙ other-front (c .before .front-line .result) (c .match .keys2))
+    let at-loop-test = c .before .before .before in
+    let l = at-loop-test .before in
+    let start = l .before .before in
+    ends-bad (l .loop .inv) (c .before .front-line .ensures) (start .args .room) (at-loop-test .loop-test .taken) (c .match .keys2)
 
 add-used : tie.Need-add-used Inv-loop μ-loop
 add-used c =
-    let l = c .before .before .before .before .before .before .loop in
-    let t = c .before .before .before .before .before .before .before .before .args .text .now in
-    let front = part-front t (l .used) (c .before .before .before .front-line .ensures) in
-    let lies = good-lies (l .inv) (front ∙ c .before .line .given .1) in
+    let at-front-line = c .before .before .before in
+    let l = at-front-line .before .before .before in
+    let lies = good-lies (l .loop .inv) (at-front-line .front-line .ensures) (c .before .line .given .1) in
     omega (arith, lies .1)
 
 add-count : tie.Need-add-count Inv-loop μ-loop
@@ -55,24 +52,26 @@ add-count c = omega arith
 
 loop-less : tie.Need-loop-less Inv-loop μ-loop
 loop-less c =
-    let l = c .before .before .before .before .before .before .loop in
-    let t = c .before .before .before .before .before .before .before .before .args .text .now in
-    let front = part-front t (l .used) (c .before .before .before .front-line .ensures) in
-    let lies = good-lies (l .inv) (front ∙ c .before .line .given .1) in
+    let at-front-line = c .before .before .before in
+    let l = at-front-line .before .before .before in
+    let lies = good-lies (l .loop .inv) (at-front-line .front-line .ensures) (c .before .line .given .1) in
     omega (arith, lies .0, lies .1)
 
 loop-again : tie.Need-loop-again Inv-loop μ-loop
 loop-again c =
-    let l = c .before .before .before .before .before .before .loop in
-    let t = c .before .before .before .before .before .before .before .before .args .text .now in
-    let front = part-front t (l .used) (c .before .before .before .front-line .ensures) in
-    one-more (l .inv) (front ∙ c .before .line .given .1)
+    let at-front-line = c .before .before .before in
+    let l = at-front-line .before .before .before in
+    one-more (l .loop .inv) (at-front-line .front-line .ensures) (c .before .line .given .1)
 
 returns-2 : tie.Need-returns-2 Inv-loop μ-loop
-returns-2 c = rw (sym (ends-even (c .before .before .loop .inv) (c .before .before .before .before .args .room) (c .before .loop-test .left)), lt-ltb _ _ (c .if1 .taken))
+returns-2 c =
+    let start = c .before .before .before .before in
+    rw (sym (ends-even (c .before .before .loop .inv) (start .args .room) (c .before .loop-test .left)), lt-ltb _ _ (c .if1 .taken))
 
 returns-3 : tie.Need-returns-3 Inv-loop μ-loop
-returns-3 c = rw (sym (ends-even (c .before .before .loop .inv) (c .before .before .before .before .args .room) (c .before .loop-test .left)), le-ltb _ _ (c .if1 .left))
+returns-3 c =
+    let start = c .before .before .before .before in
+    rw (sym (ends-even (c .before .before .loop .inv) (start .args .room) (c .before .loop-test .left)), le-ltb _ _ (c .if1 .left))
 
 pub judge-lines-spec : {M : Type 1} → statement M
 judge-lines-spec =

@@ -16,13 +16,21 @@ enum-told c = search needs
 
 returns : tie.Need-returns
 returns c =
-    let a = c .before .before .before .before .before .before .before .before .args in
-    refused-take (a .text .now) (lists (a .kinds .now) (a .registers .now) (a .lanes .now) (a .words .now)) (c .before .before .smallest .ensures) (c .before .judge-lines .ensures) (c .match .keys2)
+    let start = c .before .before .before .before .before .before .before .before in
+    let a = start .args in
+    let l = lists (a .kinds .now) (a .registers .now) (a .lanes .now) (a .words .now) in
+    refused-take (a .text .now) l (c .before .before .smallest .ensures) (c .before .judge-lines .ensures) (c .match .keys2)
 
 fill-lists-requires : tie.Need-fill-lists-requires
 fill-lists-requires c κs =
-    let a = c .before .before .before .before .before .before .before .before .before .before .before .before .before .args in
-    taken-room (a .text .now) (lists (a .kinds .now) (a .registers .now) (a .lanes .now) (a .words .now)) (c .before .before .before .before .before .before .before .smallest .ensures) (c .before .before .before .before .before .before .judge-lines .ensures) (c .before .before .before .before .enum-told .given .1)
+    let at-enum-told = c .before .before .before .before in
+    let at-judge-lines = at-enum-told .before .before in
+    let at-smallest = at-judge-lines .before in
+    let start = at-smallest .before .before .before .before .before .before in
+    let a = start .args in
+    let l = lists (a .kinds .now) (a .registers .now) (a .lanes .now) (a .words .now) in
+    taken-room (a .text .now) l (at-smallest .smallest .ensures) (at-judge-lines .judge-lines .ensures)
+    (at-enum-told .enum-told .given .1)
 
 same-length : tie.Need-same-length
 same-length c = search needs
@@ -38,8 +46,15 @@ same-length-4 c = search needs
 
 returns-2 : tie.Need-returns-2
 returns-2 c =
-    let a = c .before .before .before .before .before .before .before .before .before .before .before .before .before .before .before .before .before .before .before .before .before .before .args in
-    done-take (a .text .now) (lists (a .kinds .now) (a .registers .now) (a .lanes .now) (a .words .now)) (c .before .before .before .before .before .before .before .before .before .before .before .before .before .before .before .before .smallest .ensures) (c .before .before .before .before .before .before .before .before .before .before .before .before .before .before .before .judge-lines .ensures) (c .before .before .before .before .before .before .before .before .before .before .before .before .before .enum-told .given .1) (c .before .before .before .before .before .before .before .before .fill-lists .ensures)
+    let at-fill-lists = c .before .before .before .before .before .before .before .before in
+    let at-enum-told = at-fill-lists .before .before .before .before .before in
+    let at-judge-lines = at-enum-told .before .before in
+    let at-smallest = at-judge-lines .before in
+    let start = at-smallest .before .before .before .before .before .before in
+    let a = start .args in
+    let l = lists (a .kinds .now) (a .registers .now) (a .lanes .now) (a .words .now) in
+    done-take (a .text .now) l (at-smallest .smallest .ensures) (at-judge-lines .judge-lines .ensures)
+    (at-enum-told .enum-told .given .1) (at-fill-lists .fill-lists .ensures)
 
 pub take-lines-spec : {M : Type 1} → statement M
 take-lines-spec =
