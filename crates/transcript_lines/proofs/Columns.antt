@@ -1,4 +1,5 @@
--- The four lists with entries in their first places: each is a column of them, over what stood there. One law over the column serves the four.
+-- The four lists with entries in their first places: each is a column of them, over what stood there. One law over the column serves
+-- the four.
 use Prim.Native.Nat.{ℕ, suc, _≤_, _<_}
 use native.Mathlib.Omega.{arith}
 use native.Mathlib.Numerals.{add-one}

@@ -47,7 +47,8 @@ pub put-answered : (put-answer two 17 ≡ Written 17) × (put-answer two 16 ≡ 
 unfolding put-answer first-unsayable unsayable no-record lines-of access-of
 put-answered = (refl, refl)
 
--- A kind over 1, a register over 9, lanes over 9, a word over 65,535, a read's word that is not 0: here behind an entry that a line can say.
+-- A kind over 1, a register over 9, lanes over 9, a word over 65,535, a read's word that is not 0: each behind an entry that a line can
+-- say.
 abbrev second : Entry → LinesPut
 second e = put-answer (entry 1 9 9 65535 ∷ e ∷ []) 100
 

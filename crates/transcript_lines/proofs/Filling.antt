@@ -3,7 +3,7 @@ use Prim.Native.Nat.{ℕ, _+_, _-_, _≤_, _<_}
 use native.Mathlib.Omega.{arith}
 use mathlib.Core.Path.{_≡_, refl, sym, ap, _∙_, subst}
 use mathlib.Core.List.{List}
-use lib.ListN.{length, take, drop, length-append}
+use lib.ListN.{length, take, drop}
 use Rattle.port.specs.declared.Access.{Access}
 use Rattle.listing.specs.Line.{front-line}
 use Rattle.listing.specs.declared.Front.{Front}
@@ -14,8 +14,9 @@ use Rattle.transcript_lines.specs.Lines.{entry-of}
 use Rattle.transcript_lines.specs.Taking.{Taking, taking}
 use Rattle.transcript_lines.specs.Parts.{placed}
 use Rattle.transcript_lines.proofs.Columns.{AsLong, as-long, placed-next}
-use Rattle.transcript_lines.proofs.Turns.{NotGood, Come, at-start, one-more, no-more}
+use Rattle.transcript_lines.proofs.Turns.{NotGood, Come, at-start, among, one-more, no-more}
 
+-- So many lines are taken, and their entries stand in the lists.
 pub record Filled (t : List ℕ) (l₀ l : Lists) (used i : ℕ) : Type 0 where
   pub come : Come t used i
   pub lists : l ≡ with-entries (come .got) l₀
@@ -29,9 +30,7 @@ module _ {t : List ℕ} {l₀ l : Lists} {used i : ℕ} (k : Filled t l₀ l use
   got = k .come .got
 
   has-places : length got ≤ size l₀
-  has-places =
-      let all = ap (λ (x : Taking). length (x .entries)) (k .come .come) ∙ length-append got (taking (drop used t) .entries) in
-      omega (arith, all, room)
+  has-places = omega (arith, among (k .come), room)
 
   -- The lists are as long as they were.
   pub still-long : AsLong l₀ l
@@ -42,8 +41,7 @@ module _ {t : List ℕ} {l₀ l : Lists} {used i : ℕ} (k : Filled t l₀ l use
       next-place : length got < size l₀
       next-place =
           let next = one-more (k .come) lent e in
-          let all = ap (λ (y : Taking). length (y .entries)) (next .come) ∙ length-append (next .got) (taking (drop (used + n) t) .entries) in
-          omega (arith, all, next .count, k .come .count, room)
+          omega (arith, among next, next .count, k .come .count, room)
 
       -- A good line's entry has its place,
       pub place-there : i < size l

@@ -1,5 +1,5 @@
--- What is taken of a text goes from line to line: a good line at the front, and then what is taken of the text behind it. A text has no more
--- lines than bytes, so its length is enough as a bound, and any larger number takes the same.
+-- What is taken of a text goes from line to line: a good line at the front, and then what is taken of the text behind it. A text has no
+-- more lines than bytes, so its length is enough as a bound, and any larger number takes the same.
 use Prim.Native.Nat.{ℕ, zero, suc, _≤_, _<_}
 use native.Mathlib.Omega.{arith}
 use mathlib.Core.Path.{_≡_, refl, ap, _∙_}
@@ -44,16 +44,17 @@ first-taken [] = refl
 first-taken (b ∷ t) =
     same-front (takes (length t)) taking (b ∷ t) (λ u l. enough (length t) (length u) u (omega (arith, l)) (omega arith))
 
--- A good line at the front is taken, and then what is taken behind it;
+-- A good line at the front is taken, and then what is taken behind it.
 pub good-taken : (t : List ℕ) {a : Access} {n : ℕ} → front-line t ≡ Good a n → taking t ≡ more (entry-of a) (taking (drop n t))
 good-taken t e = first-taken t ∙ ap (by-front taking t) e
 
--- where the front is not good, nothing is.
+-- the front is a good line
 abbrev pub is-good : Front → Bool
 is-good (Good a n) = true
 is-good Bad = false
 is-good Open = false
 
+-- Where it is not, nothing is taken.
 pub nothing-taken : (t : List ℕ) → is-good (front-line t) ≡ false → taking t ≡ nothing t
 nothing-taken t h = first-taken t ∙ go (front-line t) h
   where

@@ -18,7 +18,7 @@ use Rattle.transcript_lines.specs.declared.LinesPut.the-variants.{Writte
 use Rattle.transcript_lines.proofs.LinesTaken.{the-type as taken-type}
 use Rattle.transcript_lines.proofs.LinesPut.{the-type as put-type}
 use Rattle.transcript_lines.proofs.TakenLines.{nothing-there}
-use Rattle.transcript_lines.proofs.TakeAnswers.{lines-taken, take-answers}
+use Rattle.transcript_lines.proofs.TakeAnswers.{then-taken, take-answers}
 use Rattle.transcript_lines.proofs.PutAnswers.{put-answers}
 
 -- ---- lines are taken
@@ -43,7 +43,7 @@ module _ (t : List ℕ) (l : Lists) {room : ℕ} {o : LinesTaken} (r : room ≡ 
     pub taken-room : length (taking t .entries) ≤ size l
     taken-room =
         let m = take-answers t (size l) (Taken n) .0 (sym take-is ∙ e) in
-        let all = ap (λ (x : Taking). length (x .entries)) (lines-taken (m .0) nothing-there) in
+        let all = ap (λ (x : Taking). length (x .entries)) (then-taken (m .0) nothing-there) in
         omega (arith, all, m .0 .count, m .1)
 
     -- and take them.

@@ -1,4 +1,5 @@
--- Each answer of `put_lines` is given when and only when what it says is so: of every list one of the three is so, and no two answers are one.
+-- Each answer of `put_lines` is given when and only when what it says is so: of every list one of the three is so, and the answer to it
+-- is told by the definition.
 use Prim.Native.Nat.{ℕ, suc, _+_, _≤_, _<_}
 use native.Mathlib.Omega.{arith}
 use mathlib.Core.Path.{_≡_, refl, sym, ap, _∙_, subst}

@@ -1,5 +1,5 @@
--- Each answer of `take_lines` is given when and only when what it says is so: a text is good lines and then something that begins with no good
--- line, in one way only.
+-- Each answer of `take_lines` is given when and only when what it says is so: a text is good lines and then something that begins with
+-- no good line, in one way only.
 use Prim.Native.Nat.{ℕ, _≤_, _<_}
 use native.Mathlib.Omega.{arith}
 use mathlib.Core.Path.{_≡_, refl, sym, ap, _∙_, subst}
@@ -18,7 +18,7 @@ use Rattle.transcript_lines.specs.declared.LinesTaken.the-variants.{Take
 use Rattle.transcript_lines.proofs.TakenLines.{NoGoodLine, nothing-there, text-taken, only-taken}
 
 -- A text of n good lines, and then `left`.
-pub record GoodLines (t : List ℕ) (n : ℕ) (left : List ℕ) : Type 0 where
+pub record LinesThen (t : List ℕ) (n : ℕ) (left : List ℕ) : Type 0 where
   pub entries : List Entry
   pub is : t ≡ text-of entries ++ left
   pub says : AllSayable entries
@@ -27,29 +27,29 @@ pub record GoodLines (t : List ℕ) (n : ℕ) (left : List ℕ) : Type 0 where
 -- A text whose first bad line stands behind n good ones.
 pub record BadLineAt (t : List ℕ) (n : ℕ) : Type 0 where
   pub left : List ℕ
-  pub good : GoodLines t n left
+  pub good : LinesThen t n left
   pub some : left ≢ []
   pub bad : NoGoodLine left
 
 -- What each answer says of a text and of the places for its entries.
 abbrev pub TakeMeans : List ℕ → ℕ → LinesTaken → Type 0
-TakeMeans t room (Taken n) = GoodLines t n [] × (n ≤ room)
+TakeMeans t room (Taken n) = LinesThen t n [] × (n ≤ room)
 TakeMeans t room (BadLine n) = BadLineAt t n
-TakeMeans t room NoPlaces = (n : ℕ) × GoodLines t n [] × (room < n)
+TakeMeans t room NoPlaces = (n : ℕ) × LinesThen t n [] × (room < n)
 
 -- ---- what is so is answered
 
 -- Such lines are what is taken.
-pub lines-taken : {t : List ℕ} {n : ℕ} {left : List ℕ} (g : GoodLines t n left) → NoGoodLine left →
+pub then-taken : {t : List ℕ} {n : ℕ} {left : List ℕ} (g : LinesThen t n left) → NoGoodLine left →
     taking t ≡ record { entries = g .entries; left = left }
-lines-taken {t} {n} {left} g bad =
+then-taken {t} {n} {left} g bad =
     let x : Taking = record { entries = g .entries; left = left } in
     only-taken t x (record { is = g .is; says = g .says; stops = bad })
 
-judged-is : {t : List ℕ} {n : ℕ} {left : List ℕ} (room : ℕ) (g : GoodLines t n left) → NoGoodLine left →
+judged-is : {t : List ℕ} {n : ℕ} {left : List ℕ} (room : ℕ) (g : LinesThen t n left) → NoGoodLine left →
     take-answer t room ≡ judged (record { entries = g .entries; left = left }) room
 unfolding take-answer
-judged-is room g bad = ap (λ (x : Taking). judged x room) (lines-taken g bad)
+judged-is room g bad = ap (λ (x : Taking). judged x room) (then-taken g bad)
 
 empty : (u : List ℕ) → length u ≡ 0 → u ≡ []
 empty [] e = refl
@@ -74,7 +74,7 @@ is-so t room =
     so : (o : LinesTaken) → TakeMeans t room o → TakeMeans t room (take-answer t room)
     so o h = subst (TakeMeans t room) (sym (answered t room o h)) h
 
-    lines : (u : List ℕ) → taking t .left ≡ u → GoodLines t n u
+    lines : (u : List ℕ) → taking t .left ≡ u → LinesThen t n u
     lines u e =
         record {
           entries = taking t .entries;

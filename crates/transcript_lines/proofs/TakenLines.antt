@@ -53,10 +53,11 @@ taken-back es h =
 
 -- ---- a text, taken
 
--- no line that says an entry stands at the beginning
+-- a text that begins with no line that says an entry
 abbrev pub NoGoodLine : List ℕ → Type 0
 NoGoodLine t = (e : Entry) (v : List ℕ) → unsayable e ≡ false → t ≢ line e ++ v
 
+-- A text is the lines of the entries taken, and what is left, which begins with no good line.
 pub record TextOf (t : List ℕ) (x : Taking) : Type 0 where
   pub is : t ≡ text-of (x .entries) ++ x .left
   pub says : AllSayable (x .entries)
@@ -89,7 +90,8 @@ unfolding lines-of
 stopped t h = record { is = refl; says = tt; stops = front-none t h }
 
 -- and of another its first line is, if shorter texts go right.
-by-line : (f : List ℕ → Taking) (t : List ℕ) → ((u : List ℕ) → length u < length t → TextOf u (f u)) → TextOf t (by-front f t (front-line t))
+by-line : (f : List ℕ → Taking) (t : List ℕ) → ((u : List ℕ) → length u < length t → TextOf u (f u)) →
+    TextOf t (by-front f t (front-line t))
 unfolding lines-of
 by-line f t shorter = go (front-line t) refl
   where
@@ -117,11 +119,11 @@ text-by zero [] h = stopped [] refl
 text-by zero (b ∷ t) h = absurd (omega (arith, h))
 text-by (suc n) t h = by-line (takes n) t (λ u l. text-by n u (omega (arith, l, h)))
 
--- A text is the lines of the entries taken of it, and what is left, which begins with no good line.
+-- What is taken of a text is so.
 pub text-taken : (t : List ℕ) → TextOf t (taking t)
 text-taken t = text-by (length t) t (omega arith)
 
--- Whatever else is so is what is taken.
+-- And nothing else is so.
 pub only-taken : (t : List ℕ) (x : Taking) → TextOf t x → taking t ≡ x
 only-taken t x h =
     ap taking (h .is) ∙

@@ -1,5 +1,5 @@
--- Lines that were taken, put again, are the text; entries that were put, taken again, are the list. What is lent for the way back is what the
--- way there filled: the first places of the lists, the first bytes of the text.
+-- Lines that were taken, put again, are the text; entries that were put, taken again, are the list. What is lent for the way back is
+-- what the way there filled: the first places of the lists, the first bytes of the text.
 use Prim.Native.Nat.{ℕ, zero, suc, _≤_}
 use native.Mathlib.Omega.{arith}
 use mathlib.Core.Path.{_≡_, refl, sym, ap, _∙_, subst}
@@ -17,7 +17,7 @@ use Rattle.transcript_lines.specs.declared.LinesTaken.the-variants.{Take
 use Rattle.transcript_lines.specs.declared.LinesPut.{LinesPut}
 use Rattle.transcript_lines.specs.declared.LinesPut.the-variants.{Written}
 use Rattle.transcript_lines.proofs.TakenLines.{taken-back, nothing-there}
-use Rattle.transcript_lines.proofs.TakeAnswers.{lines-taken, take-answers}
+use Rattle.transcript_lines.proofs.TakeAnswers.{then-taken, take-answers}
 use Rattle.transcript_lines.proofs.PutAnswers.{put-answers}
 
 -- ---- entries that were put
@@ -92,7 +92,7 @@ took-text {t} {l} {l′} {n} p =
     let m = take-answers t (size l) (Taken n) .0 (sym (p .answer)) in
     let es = m .0 .entries in
     let done : l′ ≡ with-entries (taking t .entries) l = p .lists ∙ rw (sym (p .answer)) refl in
-    let filled : l′ ≡ with-entries es l = done ∙ ap (λ (x : Taking). with-entries (x .entries) l) (lines-taken (m .0) nothing-there) in
+    let filled : l′ ≡ with-entries es l = done ∙ ap (λ (x : Taking). with-entries (x .entries) l) (then-taken (m .0) nothing-there) in
     let same : entries-in (first n l′) ≡ es = ap (λ (k : Lists). entries-in (first n k)) filled ∙ first-entries es l (m .0 .count) in
     (subst AllSayable (sym same) (m .0 .says), ap text-of same ∙ sym (m .0 .is ∙ append-nil (text-of es)))
 

@@ -45,6 +45,12 @@ unfoldable pub at-start : (t : List ℕ) → Come t 0 0
 at-start t = record { got = []; come = refl; count = refl; few = omega arith; most = omega arith }
 
 module _ {t : List ℕ} {used lines : ℕ} (k : Come t used lines) where
+  -- These entries are among all.
+  pub among : length (k .got) ≤ length (taking t .entries)
+  among =
+      let all = ap (λ (x : Taking). length (x .entries)) (k .come) ∙ length-append (k .got) (taking (drop used t) .entries) in
+      omega (arith, all)
+
   -- x: the line that the rest begins with, as it is lent
   module _ {x : Front} (lent : x ≡ front-line (take (length t - used) (drop used t))) where
     pub front : front-line (drop used t) ≡ x
@@ -96,6 +102,8 @@ module _ {t : List ℕ} {used lines : ℕ} (k : Come t used lines) where
   ends-even room h =
       let none : drop used t ≡ [] = drop-of-length-le t h in
       let all : taking t ≡ record { entries = k .got; left = [] } =
-      k .come ∙ ap (λ (u : List ℕ). behind (k .got) (taking u)) none ∙ ap (λ (l : List Entry). record { entries = l; left = [] }) (append-nil (k .got))
+      k .come ∙
+      ap (λ (u : List ℕ). behind (k .got) (taking u)) none ∙
+      ap (λ (l : List Entry). record { entries = l; left = [] }) (append-nil (k .got))
       in
       ap (λ (n : ℕ). fitting n room) (k .count) ∙ sym (ap (λ (y : Taking). judged y room) all)
