@@ -3,6 +3,7 @@ pub mod Sayable
 pub mod GoodEntries
 pub mod TakenLines
 pub mod TakeAnswers
+pub mod BadLines
 pub mod PutAnswers
 pub mod Refused
 pub mod ThereAndBack

@@ -2,7 +2,7 @@
 use Prim.Native.Nat.{ℕ, _≤_}
 use native.Mathlib.Omega.{arith}
 use mathlib.Core.Path.{_≡_, refl, sym, ap, _∙_}
-use mathlib.Core.Bool.{Bool, true, false, cond, not, _&&_, _||_}
+use mathlib.Core.Bool.{Bool, true, false, true≢false, cond, not, _&&_, _||_}
 use mathlib.Core.Logic.{_⊎_, inl, inr, _↔_}
 use lib.Dec.{eqb, ltb}
 use borrow.Author.Tests.{eqb-true, eqb-false, eq-eqb, ltb-false, le-ltb}
@@ -67,6 +67,14 @@ sayable-when e = (to, from)
           le-ltb 9 (e .lanes) (s .lanes),
         )
         refl
+
+-- And none can exactly if it has not.
+pub unsayable-when : (e : Entry) → unsayable e ≡ true ↔ (Says e → ⊥)
+unsayable-when e = (λ h s. true≢false (sym h ∙ sayable-when e .1 s), go (either-way (unsayable e)))
+  where
+    go : (unsayable e ≡ true) ⊎ (unsayable e ≡ false) → (Says e → ⊥) → unsayable e ≡ true
+    go (inl h) none = h
+    go (inr h) none = absurd (none (sayable-when e .0 h))
 
 -- ---- an entry and its access
 

@@ -75,7 +75,7 @@ none-front t h = go (front-line t) refl
     go Bad e = refl
     go Open e = refl
 
-front-none : (t : List ℕ) → is-good (front-line t) ≡ false → NoGoodLine t
+pub front-none : (t : List ℕ) → is-good (front-line t) ≡ false → NoGoodLine t
 front-none t h e v s is =
     true≢false (sym (ap is-good (ap front-line is ∙ good-front (access-of e) v (said-entry e s .0))) ∙ h)
 
