@@ -1,0 +1,179 @@
+-- The three loops over the entries of a list: what holds at each turn, and what it says at the end. Each goes by the entries that follow.
+use Prim.Native.Nat.{ℕ, suc, _+_, _-_, _≤_, _<_}
+use native.Mathlib.Nat.{sub-zero}
+use native.Mathlib.Omega.{arith}
+use native.Mathlib.Numerals.{add-one}
+use mathlib.Core.Path.{_≡_, refl, sym, ap, _∙_, subst}
+use mathlib.Core.Bool.{true, false}
+use mathlib.Core.List.{List, [], _∷_, _++_, append-assoc, append-nil}
+use lib.ListN.{length, length-append}
+use borrow.Author.Tests.{lt-ltb, le-ltb}
+use Rattle.listing.specs.Spelled.{lines-of}
+use Rattle.listing.specs.Parts.{laid, Put}
+use Rattle.listing.proofs.Laying.{with-more}
+use Rattle.transcript_bytes.specs.Lists.{Lists, size, entry-at, entries-from, entries-in, over}
+use Rattle.transcript_bytes.specs.declared.Entry.{Entry}
+use Rattle.transcript_lines.specs.Lines.{unsayable, line, text-of, AllSayable}
+use Rattle.transcript_lines.specs.Putting.{first-unsayable, fitting}
+use Rattle.transcript_lines.specs.declared.LinesPut.{LinesPut}
+use Rattle.transcript_lines.specs.declared.LinesPut.the-variants.{Written, Unsayable, NoBytes}
+use Rattle.transcript_lines.proofs.Columns.{over-length}
+
+module _ (l : Lists) where
+  -- the entries from a place on
+  abbrev pub following : ℕ → List Entry
+  following i = entries-from l i (size l - i)
+
+  all-follow : following 0 ≡ entries-in l
+  all-follow = ap (entries-from l 0) (sub-zero (size l))
+
+  one-follows : {i n : ℕ} {e : Entry} → n ≡ size l → i < n → e ≡ entry-at l i → following i ≡ e ∷ following (i + 1)
+  unfolding entries-from
+  one-follows {i} s h is =
+      let more : size l - i ≡ suc (size l - (i + 1)) = omega arith in
+      ap (entries-from l i) more ∙
+      ap (λ (j : ℕ). entry-at l i ∷ entries-from l j (size l - (i + 1))) (sym (add-one i)) ∙
+      ap (λ (e : Entry). e ∷ following (i + 1)) (sym is)
+
+  none-follows : {i n : ℕ} → n ≡ size l → n ≤ i → following i ≡ []
+  unfolding entries-from
+  none-follows {i} s h =
+      let none : size l - i ≡ 0 = omega arith in
+      ap (entries-from l i) none
+
+-- ---- each is judged
+
+-- A line can say each entry so far.
+pub record Judged (l : Lists) (done : LinesPut) (i : ℕ) : Type 0 where
+  pub most : i ≤ size l
+  pub come : first-unsayable 0 (entries-in l) done ≡ first-unsayable i (following l i) done
+
+pub judged-start : (l : Lists) (done : LinesPut) → Judged l done 0
+judged-start l done = record { most = omega arith; come = ap (λ (es : List Entry). first-unsayable 0 es done) (sym (all-follow l)) }
+
+module _ {l : Lists} {done : LinesPut} {i : ℕ} (k : Judged l done i) where
+  module _ {n : ℕ} {e : Entry} (s : n ≡ size l) (h : i < n) (is : e ≡ entry-at l i) where
+    here : first-unsayable 0 (entries-in l) done ≡ first-unsayable i (e ∷ following l (i + 1)) done
+    here = k .come ∙ ap (λ (es : List Entry). first-unsayable i es done) (one-follows l s h is)
+
+    pub judged-next : unsayable e ≡ false → Judged l done (i + 1)
+    unfolding first-unsayable
+    judged-next f =
+        record {
+          most = omega (arith, s, h);
+          come = here ∙ rw f (ap (λ (j : ℕ). first-unsayable j (following l (i + 1)) done) (sym (add-one i)));
+        }
+
+    pub judged-unsayable : unsayable e ≡ true → Unsayable i ≡ first-unsayable 0 (entries-in l) done
+    unfolding first-unsayable
+    judged-unsayable f = sym (here ∙ rw f refl)
+
+  pub judged-all : {n : ℕ} → n ≡ size l → n ≤ i → done ≡ first-unsayable 0 (entries-in l) done
+  unfolding first-unsayable
+  judged-all s h = sym (k .come ∙ ap (λ (es : List Entry). first-unsayable i es done) (none-follows l s h))
+
+-- ---- their lines have so many bytes
+
+abbrev bytes : List Entry → ℕ
+bytes es = length (text-of es)
+
+-- The lines so far fit, and leave so many bytes.
+pub record Measured (l : Lists) (room left i : ℕ) : Type 0 where
+  pub most : i ≤ size l
+  pub less : left ≤ room
+  pub come : left + bytes (entries-in l) ≡ room + bytes (following l i)
+
+pub measured-start : (l : Lists) (room : ℕ) → Measured l room room 0
+measured-start l room =
+    record { most = omega arith; less = omega arith; come = ap (λ (es : List Entry). room + bytes es) (sym (all-follow l)) }
+
+one-line : (l : Lists) {i n : ℕ} {e : Entry} → n ≡ size l → i < n → e ≡ entry-at l i →
+    bytes (following l i) ≡ length (line e) + bytes (following l (i + 1))
+unfolding lines-of
+one-line l {i} {e = e} s h is = ap bytes (one-follows l s h is) ∙ length-append (line e) (text-of (following l (i + 1)))
+
+module _ {l : Lists} {room left i : ℕ} (k : Measured l room left i) where
+  module _ {n bytes-here : ℕ} {e : Entry} (s : n ≡ size l) (h : i < n) (is : e ≡ entry-at l i) (long : bytes-here ≡ length (line e)) where
+    pub measured-next : bytes-here ≤ left → Measured l room (left - bytes-here) (i + 1)
+    measured-next fits =
+        record {
+          most = omega (arith, s, h);
+          less = omega (arith, k .less);
+          come = omega (arith, k .come, one-line l s h is, long, fits);
+        }
+
+    pub measured-out : left < bytes-here → NoBytes ≡ fitting (bytes (entries-in l)) room
+    measured-out more = rw (lt-ltb room (bytes (entries-in l)) (omega (arith, k .come, k .less, one-line l s h is, long, more))) refl
+
+  pub measured-all : {n : ℕ} → n ≡ size l → n ≤ i → Written (room - left) ≡ fitting (bytes (entries-in l)) room
+  unfolding lines-of
+  measured-all s h =
+      let none : bytes (following l i) ≡ 0 = ap bytes (none-follows l s h) in
+      let all : room - left ≡ bytes (entries-in l) = omega (arith, k .come, k .less, none) in
+      rw (le-ltb room (bytes (entries-in l)) (omega (arith, all))) (ap Written all)
+
+-- ---- their lines are laid
+
+-- The lines so far stand at the text's beginning.
+pub record Laid (l : Lists) (out₀ out : List ℕ) (at i : ℕ) : Type 0 where
+  pub most : i ≤ size l
+  pub text : List ℕ
+  pub come : text-of (entries-in l) ≡ text ++ text-of (following l i)
+  pub there : out ≡ over text out₀
+  pub end : at ≡ length text
+  pub says : AllSayable (following l i)
+
+pub laid-start : (l : Lists) (out : List ℕ) → AllSayable (entries-in l) → Laid l out out 0 0
+laid-start l out says =
+    record {
+      most = omega arith;
+      text = [];
+      come = ap text-of (sym (all-follow l));
+      there = refl;
+      end = refl;
+      says = subst AllSayable (sym (all-follow l)) says;
+    }
+
+module _ {l : Lists} {out₀ out : List ℕ} {at i : ℕ} (k : Laid l out₀ out at i) (room : bytes (entries-in l) ≤ length out₀) where
+  whole : bytes (entries-in l) ≡ length (k .text) + bytes (following l i)
+  whole = ap length (k .come) ∙ length-append (k .text) (text-of (following l i))
+
+  -- The text is as long as it was.
+  pub laid-length : length out ≡ length out₀
+  laid-length = ap length (k .there) ∙ over-length (k .text) out₀ (omega (arith, whole, room))
+
+  module _ {n : ℕ} {e : Entry} (s : n ≡ size l) (h : i < n) (is : e ≡ entry-at l i) where
+    -- The next line has its place,
+    room-there : length (k .text) + length (line e) ≤ length out₀
+    room-there = omega (arith, whole, room, one-line l s h is)
+
+    pub laid-room : (at + length (line e) ≤ length out) × (unsayable e ≡ false)
+    laid-room = (omega (arith, room-there, k .end, laid-length), subst AllSayable (one-follows l s h is) (k .says) .0)
+
+    -- and stands there.
+    pub laid-next : {end : ℕ} {out′ : List ℕ} → Put out at (line e) end out′ → Laid l out₀ out′ end (i + 1)
+    unfolding lines-of
+    laid-next x =
+        record {
+          most = omega (arith, s, h);
+          text = k .text ++ line e;
+          come =
+              k .come ∙
+              ap (λ (es : List Entry). k .text ++ text-of es) (one-follows l s h is) ∙
+              sym (append-assoc (k .text) (line e) (text-of (following l (i + 1))));
+          there =
+              x .output ∙
+              ap (λ (o : List ℕ). laid o at (line e)) (k .there) ∙
+              ap (λ (n : ℕ). laid (over (k .text) out₀) n (line e)) (k .end) ∙
+              with-more out₀ (k .text) (line e) room-there;
+          end = x .end ∙ ap (λ (n : ℕ). n + length (line e)) (k .end) ∙ sym (length-append (k .text) (line e));
+          says = subst AllSayable (one-follows l s h is) (k .says) .1;
+        }
+
+  pub laid-all : {n : ℕ} → n ≡ size l → n ≤ i → out ≡ over (text-of (entries-in l)) out₀
+  unfolding lines-of
+  laid-all s h =
+      let all : text-of (entries-in l) ≡ k .text =
+      k .come ∙ ap (λ (es : List Entry). k .text ++ text-of es) (none-follows l s h) ∙ append-nil (k .text)
+      in
+      k .there ∙ ap (λ (t : List ℕ). over t out₀) (sym all)

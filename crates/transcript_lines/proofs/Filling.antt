@@ -1,0 +1,68 @@
+-- The loop that fills the lists: the entries of the lines that are taken stand in the first places.
+use Prim.Native.Nat.{ℕ, _+_, _-_, _≤_, _<_}
+use native.Mathlib.Omega.{arith}
+use mathlib.Core.Path.{_≡_, refl, sym, ap, _∙_, subst}
+use mathlib.Core.List.{List}
+use lib.ListN.{length, take, drop}
+use Rattle.port.specs.declared.Access.{Access}
+use Rattle.listing.specs.Line.{front-line}
+use Rattle.listing.specs.declared.Front.{Front}
+use Rattle.listing.specs.declared.Front.the-variants.{Good}
+use Rattle.transcript_bytes.specs.Lists.{Lists, size, with-entries}
+use Rattle.transcript_bytes.specs.declared.Entry.{Entry}
+use Rattle.transcript_lines.specs.Lines.{entry-of}
+use Rattle.transcript_lines.specs.Taking.{Taking, taking}
+use Rattle.transcript_lines.specs.Parts.{placed}
+use Rattle.transcript_lines.proofs.Columns.{AsLong, as-long, placed-next}
+use Rattle.transcript_lines.proofs.Turns.{NotGood, Come, at-start, among, one-more, no-more}
+
+-- So many lines are taken, and their entries stand in the lists.
+pub record Filled (t : List ℕ) (l₀ l : Lists) (used i : ℕ) : Type 0 where
+  pub come : Come t used i
+  pub lists : l ≡ with-entries (come .got) l₀
+
+pub filled-start : (t : List ℕ) (l : Lists) → Filled t l l 0 0
+unfolding at-start
+filled-start t l = record { come = at-start t; lists = refl }
+
+module _ {t : List ℕ} {l₀ l : Lists} {used i : ℕ} (k : Filled t l₀ l used i) (room : length (taking t .entries) ≤ size l₀) where
+  abbrev got : List Entry
+  got = k .come .got
+
+  has-places : length got ≤ size l₀
+  has-places = omega (arith, among (k .come), room)
+
+  -- The lists are as long as they were.
+  pub still-long : AsLong l₀ l
+  still-long = subst (AsLong l₀) (sym (k .lists)) (as-long got l₀ has-places)
+
+  module _ {x : Front} (lent : x ≡ front-line (take (length t - used) (drop used t))) where
+    module _ {a : Access} {n : ℕ} (e : x ≡ Good a n) where
+      next-place : length got < size l₀
+      next-place =
+          let next = one-more (k .come) lent e in
+          omega (arith, among next, next .count, k .come .count, room)
+
+      -- A good line's entry has its place,
+      pub place-there : i < size l
+      place-there =
+          let s = still-long in
+          omega (arith, next-place, k .come .count, s .kinds, s .registers, s .lanes, s .words)
+
+      -- and stands there.
+      pub filled-next : {y : Entry} {l′ : Lists} → y ≡ entry-of a → l′ ≡ placed l i y → Filled t l₀ l′ (used + n) (i + 1)
+      unfolding one-more
+      filled-next is p =
+          record {
+            come = one-more (k .come) lent e;
+            lists =
+                p ∙
+                ap (placed l i) is ∙
+                ap (λ (y : Lists). placed y i (entry-of a)) (k .lists) ∙
+                ap (λ (j : ℕ). placed (with-entries got l₀) j (entry-of a)) (k .come .count) ∙
+                placed-next got l₀ (entry-of a) next-place;
+          }
+
+    -- Where no good line follows, all entries that are taken stand in the lists.
+    pub filled-all : NotGood x → l ≡ with-entries (taking t .entries) l₀
+    filled-all tag = k .lists ∙ ap (λ (y : Taking). with-entries (y .entries) l₀) (sym (no-more (k .come) lent tag))

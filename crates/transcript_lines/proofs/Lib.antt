@@ -1,0 +1,20 @@
+-- what the definitions mean
+pub mod Sayable
+pub mod GoodEntries
+pub mod TakenLines
+pub mod TakeAnswers
+pub mod BadLines
+pub mod PutAnswers
+pub mod Refused
+pub mod ThereAndBack
+pub mod Examples
+pub mod One
+-- what the functions' proofs rest on
+pub mod FirstLine
+pub mod LineAfterLine
+pub mod Turns
+pub mod Columns
+pub mod Filling
+pub mod LineBytes
+pub mod EntryByEntry
+pub mod Outcomes

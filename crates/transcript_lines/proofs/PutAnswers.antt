@@ -1,0 +1,99 @@
+-- Each answer of `put_lines` is given when and only when what it says is so: of every list one of the three is so, and the answer to it
+-- is told by the definition.
+use Prim.Native.Nat.{ℕ, suc, _+_, _≤_, _<_}
+use native.Mathlib.Omega.{arith}
+use mathlib.Core.Path.{_≡_, refl, sym, ap, _∙_, subst}
+use mathlib.Core.Bool.{true, false}
+use mathlib.Core.List.{List, [], _∷_, _++_}
+use mathlib.Core.Logic.{_⊎_, inl, inr, _↔_}
+use lib.ListN.{length}
+use borrow.Author.Tests.{lt-ltb, le-ltb}
+use Rattle.words.proofs.Choices.{either-way, less-or-not}
+use Rattle.transcript_bytes.specs.declared.Entry.{Entry}
+use Rattle.transcript_lines.specs.Lines.{unsayable, text-of, AllSayable}
+use Rattle.transcript_lines.specs.Putting.{first-unsayable, fitting, put-answer}
+use Rattle.transcript_lines.specs.declared.LinesPut.{LinesPut}
+use Rattle.transcript_lines.specs.declared.LinesPut.the-variants.{Written, Unsayable, NoBytes}
+
+-- Entry k is the first that no line can say.
+pub record FirstUnsayable (es : List Entry) (k : ℕ) : Type 0 where
+  pub before : List Entry
+  pub entry : Entry
+  pub after : List Entry
+  pub is : es ≡ before ++ entry ∷ after
+  pub count : length before ≡ k
+  pub says : AllSayable before
+  pub not : unsayable entry ≡ true
+
+-- What each answer says of a list and of the room for its lines.
+abbrev pub PutMeans : List Entry → ℕ → LinesPut → Type 0
+PutMeans es room (Written n) = AllSayable es × (n ≡ length (text-of es)) × (n ≤ room)
+PutMeans es room (Unsayable k) = FirstUnsayable es k
+PutMeans es room NoBytes = AllSayable es × (room < length (text-of es))
+
+-- ---- what is so is answered
+
+none-unsayable : (k : ℕ) (es : List Entry) (done : LinesPut) → AllSayable es → first-unsayable k es done ≡ done
+unfolding first-unsayable
+none-unsayable k [] done h = refl
+none-unsayable k (e ∷ rest) done h = rw (h .0) (none-unsayable (suc k) rest done (h .1))
+
+one-unsayable : (k : ℕ) (before : List Entry) (e : Entry) (after : List Entry) (done : LinesPut) → AllSayable before → unsayable e ≡ true →
+    first-unsayable k (before ++ e ∷ after) done ≡ Unsayable (k + length before)
+unfolding first-unsayable
+one-unsayable k [] e after done h f = rw f (ap Unsayable (omega arith))
+one-unsayable k (x ∷ before) e after done h f =
+    rw (h .0) (one-unsayable (suc k) before e after done (h .1) f ∙ ap Unsayable (omega arith))
+
+answered : (es : List Entry) (room : ℕ) (o : LinesPut) → PutMeans es room o → put-answer es room ≡ o
+unfolding put-answer
+answered es room (Written n) h =
+    none-unsayable 0 es (fitting (length (text-of es)) room) (h .0) ∙
+    rw (sym (h .1), le-ltb room n (h .2)) refl
+answered es room (Unsayable k) h =
+    ap (λ (l : List Entry). first-unsayable 0 l (fitting (length (text-of es)) room)) (h .is) ∙
+    one-unsayable 0 (h .before) (h .entry) (h .after) (fitting (length (text-of es)) room) (h .says) (h .not) ∙
+    ap Unsayable (omega (arith, h .count))
+answered es room NoBytes h =
+    none-unsayable 0 es (fitting (length (text-of es)) room) (h .0) ∙
+    rw (lt-ltb room (length (text-of es)) (h .1)) refl
+
+-- ---- one of them is so
+
+all-or-first : (es : List Entry) → AllSayable es ⊎ ((k : ℕ) × FirstUnsayable es k)
+all-or-first [] = inl tt
+all-or-first (e ∷ rest) = go (either-way (unsayable e)) (all-or-first rest)
+  where
+    go : (unsayable e ≡ true) ⊎ (unsayable e ≡ false) → AllSayable rest ⊎ ((k : ℕ) × FirstUnsayable rest k) →
+        AllSayable (e ∷ rest) ⊎ ((k : ℕ) × FirstUnsayable (e ∷ rest) k)
+    go (inl f) r = inr (0, record { before = []; entry = e; after = rest; is = refl; count = refl; says = tt; not = f })
+    go (inr f) (inl h) = inl (f, h)
+    go (inr f) (inr (k, h)) =
+        inr (
+          suc k,
+          record {
+            before = e ∷ h .before;
+            entry = h .entry;
+            after = h .after;
+            is = ap (λ (l : List Entry). e ∷ l) (h .is);
+            count = ap suc (h .count);
+            says = (f, h .says);
+            not = h .not;
+          },
+        )
+
+is-so : (es : List Entry) (room : ℕ) → PutMeans es room (put-answer es room)
+is-so es room = go (all-or-first es) (less-or-not room (length (text-of es)))
+  where
+    so : (o : LinesPut) → PutMeans es room o → PutMeans es room (put-answer es room)
+    so o h = subst (PutMeans es room) (sym (answered es room o h)) h
+
+    go : AllSayable es ⊎ ((k : ℕ) × FirstUnsayable es k) → (room < length (text-of es)) ⊎ (length (text-of es) ≤ room) →
+        PutMeans es room (put-answer es room)
+    go (inl h) (inl more) = so NoBytes (h, more)
+    go (inl h) (inr fits) = so (Written (length (text-of es))) (h, refl, fits)
+    go (inr (k, h)) m = so (Unsayable k) h
+
+-- An answer is given exactly if what it says is so.
+pub put-answers : (es : List Entry) (room : ℕ) (o : LinesPut) → put-answer es room ≡ o ↔ PutMeans es room o
+put-answers es room o = (λ e. subst (PutMeans es room) e (is-so es room), answered es room o)

@@ -1,0 +1,101 @@
+-- Each answer of `take_lines` is given when and only when what it says is so: a text is good lines and then something that begins with
+-- no good line, in one way only.
+use Prim.Native.Nat.{ℕ, _≤_, _<_}
+use native.Mathlib.Omega.{arith}
+use mathlib.Core.Path.{_≡_, refl, sym, ap, _∙_, subst}
+use mathlib.Core.Bool.{true, false}
+use mathlib.Core.List.{List, [], _∷_, _++_}
+use mathlib.Core.Logic.{_⊎_, inl, inr, _↔_, _≢_}
+use lib.Dec.{eqb}
+use lib.ListN.{length}
+use borrow.Author.Tests.{eqb-true, eqb-false, ne-eqb, lt-ltb, le-ltb}
+use Rattle.words.proofs.Choices.{either-way, less-or-not}
+use Rattle.transcript_bytes.specs.declared.Entry.{Entry}
+use Rattle.transcript_lines.specs.Lines.{text-of, AllSayable}
+use Rattle.transcript_lines.specs.Taking.{Taking, taking, judged, take-answer}
+use Rattle.transcript_lines.specs.declared.LinesTaken.{LinesTaken}
+use Rattle.transcript_lines.specs.declared.LinesTaken.the-variants.{Taken, BadLine, NoPlaces}
+use Rattle.transcript_lines.proofs.TakenLines.{NoGoodLine, nothing-there, text-taken, only-taken}
+
+-- A text of n good lines, and then `left`.
+pub record LinesThen (t : List ℕ) (n : ℕ) (left : List ℕ) : Type 0 where
+  pub entries : List Entry
+  pub is : t ≡ text-of entries ++ left
+  pub says : AllSayable entries
+  pub count : length entries ≡ n
+
+-- A text whose first bad line stands behind n good ones.
+pub record BadLineAt (t : List ℕ) (n : ℕ) : Type 0 where
+  pub left : List ℕ
+  pub good : LinesThen t n left
+  pub some : left ≢ []
+  pub bad : NoGoodLine left
+
+-- What each answer says of a text and of the places for its entries.
+abbrev pub TakeMeans : List ℕ → ℕ → LinesTaken → Type 0
+TakeMeans t room (Taken n) = LinesThen t n [] × (n ≤ room)
+TakeMeans t room (BadLine n) = BadLineAt t n
+TakeMeans t room NoPlaces = (n : ℕ) × LinesThen t n [] × (room < n)
+
+-- ---- what is so is answered
+
+-- Such lines are what is taken.
+pub then-taken : {t : List ℕ} {n : ℕ} {left : List ℕ} (g : LinesThen t n left) → NoGoodLine left →
+    taking t ≡ record { entries = g .entries; left = left }
+then-taken {t} {n} {left} g bad =
+    let x : Taking = record { entries = g .entries; left = left } in
+    only-taken t x (record { is = g .is; says = g .says; stops = bad })
+
+judged-is : {t : List ℕ} {n : ℕ} {left : List ℕ} (room : ℕ) (g : LinesThen t n left) → NoGoodLine left →
+    take-answer t room ≡ judged (record { entries = g .entries; left = left }) room
+unfolding take-answer
+judged-is room g bad = ap (λ (x : Taking). judged x room) (then-taken g bad)
+
+empty : (u : List ℕ) → length u ≡ 0 → u ≡ []
+empty [] e = refl
+empty (b ∷ u) e = absurd (omega (arith, e))
+
+answered : (t : List ℕ) (room : ℕ) (o : LinesTaken) → TakeMeans t room o → take-answer t room ≡ o
+answered t room (Taken n) h = judged-is room (h .0) nothing-there ∙ rw (h .0 .count, le-ltb room n (h .1)) refl
+answered t room (BadLine n) h =
+    let some : length (h .left) ≢ 0 = λ e. h .some (empty (h .left) e) in
+    judged-is room (h .good) (h .bad) ∙ rw (ne-eqb (length (h .left)) 0 some, h .good .count) refl
+answered t room NoPlaces h = judged-is room (h .1) nothing-there ∙ rw (h .1 .count, lt-ltb room (h .0) (h .2)) refl
+
+-- ---- one of them is so
+
+is-so : (t : List ℕ) (room : ℕ) → TakeMeans t room (take-answer t room)
+is-so t room =
+    go (either-way (eqb (length (taking t .left)) 0)) (less-or-not room (length (taking t .entries)))
+  where
+    n : ℕ
+    n = length (taking t .entries)
+
+    so : (o : LinesTaken) → TakeMeans t room o → TakeMeans t room (take-answer t room)
+    so o h = subst (TakeMeans t room) (sym (answered t room o h)) h
+
+    lines : (u : List ℕ) → taking t .left ≡ u → LinesThen t n u
+    lines u e =
+        record {
+          entries = taking t .entries;
+          is = text-taken t .is ∙ ap (λ (v : List ℕ). text-of (taking t .entries) ++ v) e;
+          says = text-taken t .says;
+          count = refl;
+        }
+
+    go : (eqb (length (taking t .left)) 0 ≡ true) ⊎ (eqb (length (taking t .left)) 0 ≡ false) → (room < n) ⊎ (n ≤ room) →
+        TakeMeans t room (take-answer t room)
+    go (inl e) (inl more) = so NoPlaces (n, lines [] (empty (taking t .left) (eqb-true (length (taking t .left)) 0 e)), more)
+    go (inl e) (inr fits) = so (Taken n) (lines [] (empty (taking t .left) (eqb-true (length (taking t .left)) 0 e)), fits)
+    go (inr e) m =
+        so (BadLine n)
+        (record {
+          left = taking t .left;
+          good = lines (taking t .left) refl;
+          some = λ z. eqb-false (length (taking t .left)) 0 e (ap length z);
+          bad = text-taken t .stops;
+        })
+
+-- An answer is given exactly if what it says is so.
+pub take-answers : (t : List ℕ) (room : ℕ) (o : LinesTaken) → take-answer t room ≡ o ↔ TakeMeans t room o
+take-answers t room o = (λ e. subst (TakeMeans t room) e (is-so t room), answered t room o)
