@@ -1,6 +1,5 @@
 -- Laws that the code is proved by. Proofs of single functions are in the folders beside them.
 -- ---- the writer
-pub mod EntriesLeft
 pub mod Judging
 pub mod Putting
 pub mod Written

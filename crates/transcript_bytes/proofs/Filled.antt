@@ -12,7 +12,7 @@ use Rattle.transcript_bytes.specs.declared.Entry.{Entry}
 -- ---- one column
 
 -- A list whose first places are taken is as long as before.
-over-length : (new old : List ℕ) → length new ≤ length old → length (over new old) ≡ length old
+pub over-length : (new old : List ℕ) → length new ≤ length old → length (over new old) ≡ length old
 over-length new old h = simp (length-append, length-drop) (omega arith)
 
 -- One number more is a store at the next place.

@@ -17,6 +17,7 @@ pub mod WrittenExactly
 pub mod OneEncoding
 pub mod RoundTrips
 -- ---- the lists, the contracts, worked examples
+pub mod EntriesLeft
 pub mod Columns
 pub mod Filled
 pub mod Promised

@@ -1,6 +1,5 @@
 -- The three loops over the entries of a list: what holds at each turn, and what it says at the end. Each goes by the entries that follow.
-use Prim.Native.Nat.{ℕ, suc, _+_, _-_, _≤_, _<_}
-use native.Mathlib.Nat.{sub-zero}
+use Prim.Native.Nat.{ℕ, _+_, _-_, _≤_, _<_}
 use native.Mathlib.Omega.{arith}
 use native.Mathlib.Numerals.{add-one}
 use mathlib.Core.Path.{_≡_, refl, sym, ap, _∙_, subst}
@@ -11,35 +10,29 @@ use borrow.Author.Tests.{lt-ltb, le-ltb}
 use Rattle.listing.specs.Spelled.{lines-of}
 use Rattle.listing.specs.Parts.{laid, Put}
 use Rattle.listing.proofs.Laying.{with-more}
-use Rattle.transcript_bytes.specs.Lists.{Lists, size, entry-at, entries-from, entries-in, over}
+use Rattle.transcript_bytes.specs.Lists.{Lists, size, entry-at, entries-in, over}
 use Rattle.transcript_bytes.specs.declared.Entry.{Entry}
+use Rattle.transcript_bytes.proofs.EntriesLeft.{left, all-left, next-left, none-left}
+use Rattle.transcript_bytes.proofs.Filled.{over-length}
 use Rattle.transcript_lines.specs.Lines.{unsayable, line, text-of, AllSayable}
 use Rattle.transcript_lines.specs.Putting.{first-unsayable, fitting}
 use Rattle.transcript_lines.specs.declared.LinesPut.{LinesPut}
 use Rattle.transcript_lines.specs.declared.LinesPut.the-variants.{Written, Unsayable, NoBytes}
-use Rattle.transcript_lines.proofs.Columns.{over-length}
 
 module _ (l : Lists) where
   -- the entries from a place on
   abbrev pub following : ℕ → List Entry
-  following i = entries-from l i (size l - i)
+  following i = left l (size l) i
 
   all-follow : following 0 ≡ entries-in l
-  all-follow = ap (entries-from l 0) (sub-zero (size l))
+  all-follow = all-left l (size l)
 
   one-follows : {i n : ℕ} {e : Entry} → n ≡ size l → i < n → e ≡ entry-at l i → following i ≡ e ∷ following (i + 1)
-  unfolding entries-from
   one-follows {i} s h is =
-      let more : size l - i ≡ suc (size l - (i + 1)) = omega arith in
-      ap (entries-from l i) more ∙
-      ap (λ (j : ℕ). entry-at l i ∷ entries-from l j (size l - (i + 1))) (sym (add-one i)) ∙
-      ap (λ (e : Entry). e ∷ following (i + 1)) (sym is)
+      next-left l (size l) i (omega arith) ∙ ap (λ (e : Entry). e ∷ following (i + 1)) (sym is)
 
   none-follows : {i n : ℕ} → n ≡ size l → n ≤ i → following i ≡ []
-  unfolding entries-from
-  none-follows {i} s h =
-      let none : size l - i ≡ 0 = omega arith in
-      ap (entries-from l i) none
+  none-follows {i} s h = none-left l (size l) i (omega arith)
 
 -- ---- each is judged
 

@@ -8,12 +8,11 @@ use Rattle.port.specs.declared.Access.{Access}
 use Rattle.listing.specs.Line.{front-line}
 use Rattle.listing.specs.declared.Front.{Front}
 use Rattle.listing.specs.declared.Front.the-variants.{Good}
-use Rattle.transcript_bytes.specs.Lists.{Lists, size, with-entries}
+use Rattle.transcript_bytes.specs.Lists.{Lists, size, with-entries, with-entry}
 use Rattle.transcript_bytes.specs.declared.Entry.{Entry}
+use Rattle.transcript_bytes.proofs.Filled.{SameLengths, lengths-stay, entry-more}
 use Rattle.transcript_lines.specs.Lines.{entry-of}
 use Rattle.transcript_lines.specs.Taking.{Taking, taking}
-use Rattle.transcript_lines.specs.Parts.{placed}
-use Rattle.transcript_lines.proofs.Columns.{AsLong, as-long, placed-next}
 use Rattle.transcript_lines.proofs.Turns.{NotGood, Come, at-start, among, one-more, no-more}
 
 -- So many lines are taken, and their entries stand in the lists.
@@ -33,8 +32,8 @@ module _ {t : List ℕ} {l₀ l : Lists} {used i : ℕ} (k : Filled t l₀ l use
   has-places = omega (arith, among (k .come), room)
 
   -- The lists are as long as they were.
-  pub still-long : AsLong l₀ l
-  still-long = subst (AsLong l₀) (sym (k .lists)) (as-long got l₀ has-places)
+  pub still-long : SameLengths l₀ l
+  still-long = subst (SameLengths l₀) (sym (k .lists)) (lengths-stay got l₀ has-places)
 
   module _ {x : Front} (lent : x ≡ front-line (take (length t - used) (drop used t))) where
     module _ {a : Access} {n : ℕ} (e : x ≡ Good a n) where
@@ -43,24 +42,18 @@ module _ {t : List ℕ} {l₀ l : Lists} {used i : ℕ} (k : Filled t l₀ l use
           let next = one-more (k .come) lent e in
           omega (arith, among next, next .count, k .come .count, room)
 
-      -- A good line's entry has its place,
-      pub place-there : i < size l
-      place-there =
-          let s = still-long in
-          omega (arith, next-place, k .come .count, s .kinds, s .registers, s .lanes, s .words)
-
-      -- and stands there.
-      pub filled-next : {y : Entry} {l′ : Lists} → y ≡ entry-of a → l′ ≡ placed l i y → Filled t l₀ l′ (used + n) (i + 1)
+      -- A good line's entry stands at the next place.
+      pub filled-next : {y : Entry} {l′ : Lists} → y ≡ entry-of a → l′ ≡ with-entry l i y → Filled t l₀ l′ (used + n) (i + 1)
       unfolding one-more
       filled-next is p =
           record {
             come = one-more (k .come) lent e;
             lists =
                 p ∙
-                ap (placed l i) is ∙
-                ap (λ (y : Lists). placed y i (entry-of a)) (k .lists) ∙
-                ap (λ (j : ℕ). placed (with-entries got l₀) j (entry-of a)) (k .come .count) ∙
-                placed-next got l₀ (entry-of a) next-place;
+                ap (with-entry l i) is ∙
+                ap (λ (y : Lists). with-entry y i (entry-of a)) (k .lists) ∙
+                ap (λ (j : ℕ). with-entry (with-entries got l₀) j (entry-of a)) (k .come .count) ∙
+                entry-more got l₀ (entry-of a) next-place;
           }
 
     -- Where no good line follows, all entries that are taken stand in the lists.

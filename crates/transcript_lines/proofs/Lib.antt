@@ -13,7 +13,6 @@ pub mod One
 pub mod FirstLine
 pub mod LineAfterLine
 pub mod Turns
-pub mod Columns
 pub mod Filling
 pub mod LineBytes
 pub mod EntryByEntry

@@ -1,22 +1,9 @@
 -- What the private functions state, besides what the contracts of the two calls cite.
---   placed      the four lists when an entry stands at a place
 --   head-text   the first six bytes of a line: its letter, its register, its lanes, and the byte after them
 --   word-text   the last five of a write's line
 use Prim.Native.Nat.{ℕ, _+_, _/_}
 use mathlib.Core.List.{List, [], _∷_}
-use lib.ListN.{set}
 use Rattle.digits.specs.Digits.{digit-for}
-use Rattle.transcript_bytes.specs.Lists.{Lists}
-use Rattle.transcript_bytes.specs.declared.Entry.{Entry}
-
-abbrev pub placed : Lists → ℕ → Entry → Lists
-placed l i e =
-    record {
-      kinds = set (l .kinds) i (e .kind);
-      registers = set (l .registers) i (e .register);
-      lanes = set (l .lanes) i (e .lanes);
-      words = set (l .words) i (e .word);
-    }
 
 abbrev pub head-text : ℕ → ℕ → ℕ → ℕ → List ℕ
 head-text letter register lanes last = letter ∷ 32 ∷ (48 + register) ∷ 32 ∷ (48 + lanes) ∷ last ∷ []

@@ -1,7 +1,6 @@
 // The lines of `portlist` to a list of entries of a transcript, and back: each entry has one line, `R reg lanes` for a read and
 // `W reg lanes hhhh` for a write. It is the text side of the program `transcript`.
 mod lines;
-mod lists;
 mod putting;
 mod taking;
 

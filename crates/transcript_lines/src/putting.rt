@@ -9,8 +9,8 @@ use crate::LinesPut;
 use crate::lines::is_unsayable;
 use crate::lines::line_size;
 use crate::lines::put_line;
-use crate::lists::entry_at;
-use crate::lists::smallest;
+use transcript_lists::entry_at;
+use transcript_lists::shortest;
 
 // What is answered where a line can say each entry: the lines fit the room, or they do not. What is left of the room is
 // counted, and not the bytes: no sum can wrap.
@@ -24,7 +24,7 @@ fn judge_room(
     ensures { λ o. ⌜ o ≡ fitting (length (text-of (entries-in
         (lists (now (kinds .entry)) (now (registers .entry)) (now (lanes .entry)) (now (words .entry)))))) room ⌝ }
 {
-    let n = smallest(kinds.len(), registers.len(), lanes.len(), words.len());
+    let n = shortest(kinds.len(), registers.len(), lanes.len(), words.len());
     let mut left = room;
     let mut i: usize = 0;
     while i < n {
@@ -49,7 +49,7 @@ fn judge_entries(
     ensures { λ o. ⌜ o ≡ first-unsayable 0 (entries-in
         (lists (now (kinds .entry)) (now (registers .entry)) (now (lanes .entry)) (now (words .entry)))) done ⌝ }
 {
-    let n = smallest(kinds.len(), registers.len(), lanes.len(), words.len());
+    let n = shortest(kinds.len(), registers.len(), lanes.len(), words.len());
     let mut i: usize = 0;
     while i < n {
         if is_unsayable(entry_at(kinds, registers, lanes, words, i)) {
@@ -67,7 +67,7 @@ fn fill_text(kinds: &[u32], registers: &[u32], lanes: &[u32], words: &[u32], tex
     ensures { λ _. ⌜ now (text .exit) ≡ over (text-of (entries-in
         (lists (now (kinds .entry)) (now (registers .entry)) (now (lanes .entry)) (now (words .entry))))) (now (text .entry)) ⌝ }
 {
-    let n = smallest(kinds.len(), registers.len(), lanes.len(), words.len());
+    let n = shortest(kinds.len(), registers.len(), lanes.len(), words.len());
     let mut at: usize = 0;
     let mut i: usize = 0;
     while i < n {

@@ -6,10 +6,10 @@ ghost use Rattle.transcript_bytes.specs.Lists.{lists, size, with-entries};
 ghost use Rattle.transcript_lines.specs.Taking.{taking, take-answer, TookLines};
 use crate::LinesTaken;
 use crate::lines::entry_of;
-use crate::lists::set_entry;
-use crate::lists::smallest;
 use listing::Front;
 use listing::front_line;
+use transcript_lists::put_entry;
+use transcript_lists::shortest;
 
 // What is answered of a text, where the lists have places for so many entries.
 fn judge_lines(text: &[u8], room: usize) -> LinesTaken
@@ -51,7 +51,7 @@ fn fill_lists(
         let Front::Good(a, size) = line else {
             return;
         };
-        set_entry(kinds, registers, lanes, words, i, entry_of(a));
+        put_entry(kinds, registers, lanes, words, i, entry_of(a));
         used += size;
         i += 1;
     }
@@ -69,7 +69,7 @@ pub fn take_lines(
         (lists (now (kinds .entry)) (now (registers .entry)) (now (lanes .entry)) (now (words .entry)))
         o (lists (now (kinds .exit)) (now (registers .exit)) (now (lanes .exit)) (now (words .exit))) ⌝ }
 {
-    let room = smallest(kinds.len(), registers.len(), lanes.len(), words.len());
+    let room = shortest(kinds.len(), registers.len(), lanes.len(), words.len());
     let answer = judge_lines(text, room);
     let LinesTaken::Taken(_) = answer else {
         return answer;

@@ -12,7 +12,7 @@ use Rattle.transcript_bytes.specs.Lists.{Lists, lists, entry-at, entries-from}
 use Rattle.transcript_bytes.specs.Writing.{entry-refusal}
 use Rattle.transcript_bytes.specs.declared.Entry.{Entry}
 use Rattle.transcript.specs.WriterParts.{judged}
-use Rattle.transcript.proofs.EntriesLeft.{left, all-left, next-left, none-left}
+use Rattle.transcript_bytes.proofs.EntriesLeft.{left, all-left, next-left, none-left}
 use Rattle.transcript.proofs.Judging.{found, good-one, bad-one}
 use Rattle.transcript_bytes.proofs.RecordBytes.{short}
 use Rattle.transcript_bytes.proofs.WrittenExactly.{passes-good}

@@ -10,7 +10,7 @@ use Rattle.transcript_bytes.specs.InPlainWords.{AllGood}
 use Rattle.transcript_bytes.specs.Lists.{Lists, lists, entry-at, entries-from, over}
 use Rattle.transcript_bytes.specs.declared.Entry.{Entry}
 use Rattle.transcript.specs.WriterParts.{Put, Writable}
-use Rattle.transcript.proofs.EntriesLeft.{left, all-left, next-left, none-left}
+use Rattle.transcript_bytes.proofs.EntriesLeft.{left, all-left, next-left, none-left}
 use Rattle.transcript.proofs.Putting.{sets-behind, put-length, put-front}
 use Rattle.transcript.proofs.writing.put_records.Statement.{statement}
 use Rattle.transcript.proofs.writing.put_records.Tie as tie

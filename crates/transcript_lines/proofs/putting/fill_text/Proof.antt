@@ -14,8 +14,8 @@ abbrev μ-loop : tie.MeasureT-loop
 μ-loop kinds registers lanes words text₀ n at₀ i₀ text at i =
     n - i
 
-smallest-requires : tie.Need-smallest-requires Inv-loop μ-loop
-smallest-requires c κs = tt
+shortest-requires : tie.Need-shortest-requires Inv-loop μ-loop
+shortest-requires c κs = tt
 
 loop-holds : tie.Need-loop-holds Inv-loop μ-loop
 loop-holds c =
@@ -24,14 +24,14 @@ loop-holds c =
     laid-start (lists (a .kinds .now) (a .registers .now) (a .lanes .now) (a .words .now)) (a .text .now) (start .pre .0)
 
 entry-at-requires : tie.Need-entry-at-requires Inv-loop μ-loop
-entry-at-requires c κs = omega (arith, c .before .loop-test .taken, c .before .before .before .smallest .ensures)
+entry-at-requires c κs = tt
 
 put-line-requires : tie.Need-put-line-requires Inv-loop μ-loop
 put-line-requires c κs =
     let l = c .before .before .before in
-    let at-smallest = l .before in
-    let start = at-smallest .before .before .before .before .before .before in
-    laid-room (l .loop .inv) (start .pre .1) (at-smallest .smallest .ensures) (c .before .before .loop-test .taken) (c .entry-at .ensures)
+    let at-shortest = l .before in
+    let start = at-shortest .before .before .before .before .before .before in
+    laid-room (l .loop .inv) (start .pre .1) (at-shortest .shortest .ensures) (c .before .before .loop-test .taken) (c .entry-at .ensures)
 
 add-i : tie.Need-add-i Inv-loop μ-loop
 add-i c = omega (arith, c .before .before .before .before .before .loop-test .taken)
@@ -44,9 +44,9 @@ loop-again c =
     let at-entry-at = c .before .before .before in
     let at-loop-test = at-entry-at .before .before in
     let l = at-loop-test .before in
-    let at-smallest = l .before in
-    let start = at-smallest .before .before .before .before .before .before in
-    laid-next (l .loop .inv) (start .pre .1) (at-smallest .smallest .ensures)
+    let at-shortest = l .before in
+    let start = at-shortest .before .before .before .before .before .before in
+    laid-next (l .loop .inv) (start .pre .1) (at-shortest .shortest .ensures)
     (at-loop-test .loop-test .taken) (at-entry-at .entry-at .ensures) (c .before .before .put-line .ensures)
 
 same-length : tie.Need-same-length Inv-loop μ-loop
@@ -57,7 +57,7 @@ same-length c =
 returns : tie.Need-returns Inv-loop μ-loop
 returns c =
     let start = c .before .before .before .before .before .before .before .before in
-    laid-all (c .before .loop .inv) (start .pre .1) (c .before .before .smallest .ensures) (c .loop-test .left)
+    laid-all (c .before .loop .inv) (start .pre .1) (c .before .before .shortest .ensures) (c .loop-test .left)
 
 pub fill-text-spec : {M : Type 1} → statement M
 fill-text-spec =
@@ -65,7 +65,7 @@ fill-text-spec =
     (tie.spec
     Inv-loop
     μ-loop
-    smallest-requires
+    shortest-requires
     loop-holds
     entry-at-requires
     put-line-requires

@@ -15,8 +15,8 @@ abbrev μ-loop : tie.MeasureT-loop
 μ-loop kinds registers lanes words done n i₀ i =
     n - i
 
-smallest-requires : tie.Need-smallest-requires Inv-loop μ-loop
-smallest-requires c κs = tt
+shortest-requires : tie.Need-shortest-requires Inv-loop μ-loop
+shortest-requires c κs = tt
 
 loop-holds : tie.Need-loop-holds Inv-loop μ-loop
 loop-holds c =
@@ -24,7 +24,7 @@ loop-holds c =
     judged-start (lists (a .kinds .now) (a .registers .now) (a .lanes .now) (a .words .now)) (a .done)
 
 entry-at-requires : tie.Need-entry-at-requires Inv-loop μ-loop
-entry-at-requires c κs = omega (arith, c .loop-test .taken, c .before .before .smallest .ensures)
+entry-at-requires c κs = tt
 
 is-unsayable-requires : tie.Need-is-unsayable-requires Inv-loop μ-loop
 is-unsayable-requires c κs = tt
@@ -33,8 +33,8 @@ returns : tie.Need-returns Inv-loop μ-loop
 returns c =
     let at-loop-test = c .before .before .before in
     let l = at-loop-test .before in
-    let at-smallest = l .before in
-    judged-unsayable (l .loop .inv) (at-smallest .smallest .ensures) (at-loop-test .loop-test .taken) (c .before .before .entry-at .ensures)
+    let at-shortest = l .before in
+    judged-unsayable (l .loop .inv) (at-shortest .shortest .ensures) (at-loop-test .loop-test .taken) (c .before .before .entry-at .ensures)
     (sym (c .before .is-unsayable .ensures) ∙ c .if1 .taken)
 
 add-i : tie.Need-add-i Inv-loop μ-loop
@@ -47,12 +47,12 @@ loop-again : tie.Need-loop-again Inv-loop μ-loop
 loop-again c =
     let at-loop-test = c .before .before .before in
     let l = at-loop-test .before in
-    let at-smallest = l .before in
-    judged-next (l .loop .inv) (at-smallest .smallest .ensures) (at-loop-test .loop-test .taken) (c .before .before .entry-at .ensures)
+    let at-shortest = l .before in
+    judged-next (l .loop .inv) (at-shortest .shortest .ensures) (at-loop-test .loop-test .taken) (c .before .before .entry-at .ensures)
     (sym (c .before .is-unsayable .ensures) ∙ c .if1 .left)
 
 returns-2 : tie.Need-returns-2 Inv-loop μ-loop
-returns-2 c = judged-all (c .before .loop .inv) (c .before .before .smallest .ensures) (c .loop-test .left)
+returns-2 c = judged-all (c .before .loop .inv) (c .before .before .shortest .ensures) (c .loop-test .left)
 
 pub judge-entries-spec : {M : Type 1} → statement M
 judge-entries-spec =
@@ -60,7 +60,7 @@ judge-entries-spec =
     (tie.spec
     Inv-loop
     μ-loop
-    smallest-requires
+    shortest-requires
     loop-holds
     entry-at-requires
     is-unsayable-requires

@@ -14,8 +14,8 @@ abbrev μ-loop : tie.MeasureT-loop
 μ-loop kinds registers lanes words room n left₀ i₀ left i =
     n - i
 
-smallest-requires : tie.Need-smallest-requires Inv-loop μ-loop
-smallest-requires c κs = tt
+shortest-requires : tie.Need-shortest-requires Inv-loop μ-loop
+shortest-requires c κs = tt
 
 loop-holds : tie.Need-loop-holds Inv-loop μ-loop
 loop-holds c =
@@ -23,7 +23,7 @@ loop-holds c =
     measured-start (lists (a .kinds .now) (a .registers .now) (a .lanes .now) (a .words .now)) (a .room)
 
 entry-at-requires : tie.Need-entry-at-requires Inv-loop μ-loop
-entry-at-requires c κs = omega (arith, c .loop-test .taken, c .before .before .smallest .ensures)
+entry-at-requires c κs = tt
 
 line-size-requires : tie.Need-line-size-requires Inv-loop μ-loop
 line-size-requires c κs = tt
@@ -32,8 +32,8 @@ returns : tie.Need-returns Inv-loop μ-loop
 returns c =
     let at-loop-test = c .before .before .before in
     let l = at-loop-test .before in
-    let at-smallest = l .before in
-    measured-out (l .loop .inv) (at-smallest .smallest .ensures) (at-loop-test .loop-test .taken) (c .before .before .entry-at .ensures)
+    let at-shortest = l .before in
+    measured-out (l .loop .inv) (at-shortest .shortest .ensures) (at-loop-test .loop-test .taken) (c .before .before .entry-at .ensures)
     (c .before .line-size .ensures) (c .if1 .taken)
 
 add-i : tie.Need-add-i Inv-loop μ-loop
@@ -46,15 +46,15 @@ loop-again : tie.Need-loop-again Inv-loop μ-loop
 loop-again c =
     let at-loop-test = c .before .before .before in
     let l = at-loop-test .before in
-    let at-smallest = l .before in
-    measured-next (l .loop .inv) (at-smallest .smallest .ensures) (at-loop-test .loop-test .taken) (c .before .before .entry-at .ensures)
+    let at-shortest = l .before in
+    measured-next (l .loop .inv) (at-shortest .shortest .ensures) (at-loop-test .loop-test .taken) (c .before .before .entry-at .ensures)
     (c .before .line-size .ensures) (c .if1 .left)
 
 sub-t10 : tie.Need-sub-t10 Inv-loop μ-loop
 sub-t10 c = c .before .loop .inv .less
 
 returns-2 : tie.Need-returns-2 Inv-loop μ-loop
-returns-2 c = measured-all (c .before .loop .inv) (c .before .before .smallest .ensures) (c .loop-test .left)
+returns-2 c = measured-all (c .before .loop .inv) (c .before .before .shortest .ensures) (c .loop-test .left)
 
 pub judge-room-spec : {M : Type 1} → statement M
 judge-room-spec =
@@ -62,7 +62,7 @@ judge-room-spec =
     (tie.spec
     Inv-loop
     μ-loop
-    smallest-requires
+    shortest-requires
     loop-holds
     entry-at-requires
     line-size-requires

@@ -4,7 +4,7 @@ use native.Mathlib.Omega.{arith}
 use lib.ListN.{length}
 use Rattle.transcript_bytes.specs.Lists.{lists}
 use Rattle.transcript_lines.proofs.Turns.{good-lies}
-use Rattle.transcript_lines.proofs.Filling.{Filled, filled-start, still-long, place-there, filled-next, filled-all}
+use Rattle.transcript_lines.proofs.Filling.{Filled, filled-start, still-long, filled-next, filled-all}
 use borrow.Author.Needs.{needs}
 use Rattle.transcript_lines.proofs.taking.fill_lists.Statement.{statement}
 use Rattle.transcript_lines.proofs.taking.fill_lists.Tie as tie
@@ -69,18 +69,13 @@ returns c =
 entry-of-requires : tie.Need-entry-of-requires Inv-loop μ-loop
 entry-of-requires c κs = tt
 
-set-entry-requires : tie.Need-set-entry-requires Inv-loop μ-loop
-set-entry-requires c κs =
-    let at-line = c .before .before .before .before .before .before in
-    let at-front-line = at-line .before .before in
-    let l = at-front-line .before .before in
-    let start = l .before .before .before .before .before .before in
-    place-there (l .loop .inv) (start .pre) (at-front-line .front-line .ensures) (at-line .line .given .1)
+put-entry-requires : tie.Need-put-entry-requires Inv-loop μ-loop
+put-entry-requires c κs = tt
 
 add-used : tie.Need-add-used Inv-loop μ-loop
 add-used c =
-    let at-set-entry = c .before .before .before .before .before .before .before .before in
-    let at-line = at-set-entry .before .before .before .before .before .before .before in
+    let at-put-entry = c .before .before .before .before .before .before .before .before in
+    let at-line = at-put-entry .before .before .before .before .before .before .before in
     let at-front-line = at-line .before .before in
     let l = at-front-line .before .before in
     let start = l .before .before .before .before .before .before in
@@ -89,14 +84,14 @@ add-used c =
 
 add-i : tie.Need-add-i Inv-loop μ-loop
 add-i c =
-    let at-set-entry = c .before .before .before .before .before .before .before .before in
-    let l = at-set-entry .before .before .before .before .before .before .before .before .before .before .before in
+    let at-put-entry = c .before .before .before .before .before .before .before .before in
+    let l = at-put-entry .before .before .before .before .before .before .before .before .before .before .before in
     omega (arith, l .loop .inv .come .few)
 
 loop-less : tie.Need-loop-less Inv-loop μ-loop
 loop-less c =
-    let at-set-entry = c .before .before .before .before .before .before .before .before in
-    let at-line = at-set-entry .before .before .before .before .before .before .before in
+    let at-put-entry = c .before .before .before .before .before .before .before .before in
+    let at-line = at-put-entry .before .before .before .before .before .before .before in
     let at-front-line = at-line .before .before in
     let l = at-front-line .before .before in
     let lies = good-lies (l .loop .inv .come) (at-front-line .front-line .ensures) (at-line .line .given .1) in
@@ -104,14 +99,14 @@ loop-less c =
 
 loop-again : tie.Need-loop-again Inv-loop μ-loop
 loop-again c =
-    let at-set-entry = c .before .before .before .before .before .before .before .before in
-    let at-entry-of = at-set-entry .before in
+    let at-put-entry = c .before .before .before .before .before .before .before .before in
+    let at-entry-of = at-put-entry .before in
     let at-line = at-entry-of .before .before .before .before .before .before in
     let at-front-line = at-line .before .before in
     let l = at-front-line .before .before in
     let start = l .before .before .before .before .before .before in
     filled-next (l .loop .inv) (start .pre) (at-front-line .front-line .ensures) (at-line .line .given .1)
-    (at-entry-of .entry-of .ensures) (at-set-entry .set-entry .ensures)
+    (at-entry-of .entry-of .ensures) (at-put-entry .put-entry .ensures)
 
 pub fill-lists-spec : {M : Type 1} → statement M
 fill-lists-spec =
@@ -131,7 +126,7 @@ fill-lists-spec =
     same-length-4
     returns
     entry-of-requires
-    set-entry-requires
+    put-entry-requires
     add-used
     add-i
     loop-less

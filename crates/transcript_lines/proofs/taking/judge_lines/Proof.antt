@@ -1,7 +1,7 @@
 -- `transcript_lines::taking::judge_lines` meets its contract: each turn is one of those of `Turns`.
 use Prim.Native.Nat.{_-_}
 use native.Mathlib.Omega.{arith}
-use mathlib.Core.Path.{sym, _∙_, ap}
+use mathlib.Core.Path.{sym}
 use lib.ListN.{length}
 use borrow.Author.Tests.{lt-ltb, le-ltb}
 use Rattle.transcript_lines.proofs.Turns.{Come, at-start, good-lies, one-more, ends-bad, ends-even}

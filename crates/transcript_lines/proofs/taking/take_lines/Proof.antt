@@ -5,8 +5,8 @@ use borrow.Author.Needs.{needs}
 use Rattle.transcript_lines.proofs.taking.take_lines.Statement.{statement}
 use Rattle.transcript_lines.proofs.taking.take_lines.Tie as tie
 
-smallest-requires : tie.Need-smallest-requires
-smallest-requires c κs = tt
+shortest-requires : tie.Need-shortest-requires
+shortest-requires c κs = tt
 
 judge-lines-requires : tie.Need-judge-lines-requires
 judge-lines-requires c κs = tt
@@ -19,17 +19,17 @@ returns c =
     let start = c .before .before .before .before .before .before .before .before in
     let a = start .args in
     let l = lists (a .kinds .now) (a .registers .now) (a .lanes .now) (a .words .now) in
-    refused-take (a .text .now) l (c .before .before .smallest .ensures) (c .before .judge-lines .ensures) (c .match .keys2)
+    refused-take (a .text .now) l (c .before .before .shortest .ensures) (c .before .judge-lines .ensures) (c .match .keys2)
 
 fill-lists-requires : tie.Need-fill-lists-requires
 fill-lists-requires c κs =
     let at-enum-told = c .before .before .before .before in
     let at-judge-lines = at-enum-told .before .before in
-    let at-smallest = at-judge-lines .before in
-    let start = at-smallest .before .before .before .before .before .before in
+    let at-shortest = at-judge-lines .before in
+    let start = at-shortest .before .before .before .before .before .before in
     let a = start .args in
     let l = lists (a .kinds .now) (a .registers .now) (a .lanes .now) (a .words .now) in
-    taken-room (a .text .now) l (at-smallest .smallest .ensures) (at-judge-lines .judge-lines .ensures)
+    taken-room (a .text .now) l (at-shortest .shortest .ensures) (at-judge-lines .judge-lines .ensures)
     (at-enum-told .enum-told .given .1)
 
 same-length : tie.Need-same-length
@@ -49,18 +49,18 @@ returns-2 c =
     let at-fill-lists = c .before .before .before .before .before .before .before .before in
     let at-enum-told = at-fill-lists .before .before .before .before .before in
     let at-judge-lines = at-enum-told .before .before in
-    let at-smallest = at-judge-lines .before in
-    let start = at-smallest .before .before .before .before .before .before in
+    let at-shortest = at-judge-lines .before in
+    let start = at-shortest .before .before .before .before .before .before in
     let a = start .args in
     let l = lists (a .kinds .now) (a .registers .now) (a .lanes .now) (a .words .now) in
-    done-take (a .text .now) l (at-smallest .smallest .ensures) (at-judge-lines .judge-lines .ensures)
+    done-take (a .text .now) l (at-shortest .shortest .ensures) (at-judge-lines .judge-lines .ensures)
     (at-enum-told .enum-told .given .1) (at-fill-lists .fill-lists .ensures)
 
 pub take-lines-spec : {M : Type 1} → statement M
 take-lines-spec =
     tie.close
     (tie.spec
-    smallest-requires
+    shortest-requires
     judge-lines-requires
     enum-told
     returns
