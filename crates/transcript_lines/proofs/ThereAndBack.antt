@@ -55,16 +55,25 @@ first-entries es l e =
     ap entries-in (first-are-columns es l) ∙
     entries-columns es
 
--- The first places of the lists that were filled hold entries whose lines are the text.
+-- The first places of the lists that were filled hold what was taken of the text, and they are there.
+pub took-entries : {t : List ℕ} {l l′ : Lists} {n : ℕ} → TookLines t l (Taken n) l′ →
+    (n ≤ size l) × (entries-in (first-places n l′) ≡ taking t .entries)
+unfolding lists-after
+took-entries {t} {l} {l′} {n} p =
+    let m = take-answers t (size l) (Taken n) .0 (sym (p .answer)) in
+    let all = then-taken (m .0) nothing-there in
+    let count : length (taking t .entries) ≡ n = ap (λ (x : Taking). length (x .entries)) all ∙ m .0 .count in
+    let done : l′ ≡ with-entries (taking t .entries) l = p .lists ∙ rw (sym (p .answer)) refl in
+    (m .1, ap (λ (k : Lists). entries-in (first-places n k)) done ∙ first-entries (taking t .entries) l count)
+
+-- Lines can say these entries, and are the text.
 pub took-text : {t : List ℕ} {l l′ : Lists} {n : ℕ} → TookLines t l (Taken n) l′ →
     AllSayable (entries-in (first-places n l′)) × (text-of (entries-in (first-places n l′)) ≡ t)
-unfolding lists-after
 took-text {t} {l} {l′} {n} p =
     let m = take-answers t (size l) (Taken n) .0 (sym (p .answer)) in
     let es = m .0 .entries in
-    let done : l′ ≡ with-entries (taking t .entries) l = p .lists ∙ rw (sym (p .answer)) refl in
-    let filled : l′ ≡ with-entries es l = done ∙ ap (λ (x : Taking). with-entries (x .entries) l) (then-taken (m .0) nothing-there) in
-    let same : entries-in (first-places n l′) ≡ es = ap (λ (k : Lists). entries-in (first-places n k)) filled ∙ first-entries es l (m .0 .count) in
+    let same : entries-in (first-places n l′) ≡ es =
+    took-entries p .1 ∙ ap (λ (x : Taking). x .entries) (then-taken (m .0) nothing-there) in
     (subst AllSayable (sym same) (m .0 .says), ap text-of same ∙ sym (m .0 .is ∙ append-nil (text-of es)))
 
 -- Put again, they are the text.

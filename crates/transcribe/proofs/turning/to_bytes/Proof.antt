@@ -1,0 +1,106 @@
+-- `transcribe::turning::to_bytes` meets its contract: by what is taken of the text, its transcript is written or nothing is.
+use native.Mathlib.Omega.{arith}
+use Rattle.transcript_lines.proofs.ThereAndBack.{took-entries}
+use Rattle.transcribe.proofs.Outcomes.{bytes-done, bad-line, no-places}
+use borrow.Author.Needs.{needs}
+use Rattle.transcribe.proofs.turning.to_bytes.Statement.{statement}
+use Rattle.transcribe.proofs.turning.to_bytes.Tie as tie
+
+take-lines-requires : tie.Need-take-lines-requires
+take-lines-requires c κs = search needs
+
+enum-known-taken : tie.Need-enum-known-taken
+enum-known-taken c = search needs
+
+write-first-requires : tie.Need-write-first-requires
+write-first-requires c κs =
+    let took = c .before .before .before .before .before .before .before .before .before .before .before .before .before .before .before .before .take-lines in
+    let four = took .kept .1 in
+    omega (arith, took-entries (rw (c .before .before .before .before .before .before .taken .given .1) at (took .ensures)) .0, four .0, four .1 .0, four .1 .1 .0, four .1 .1 .1 .0)
+
+judge-requires : tie.Need-judge-requires
+judge-requires c κs = search needs
+
+enum-known-taken-2 : tie.Need-enum-known-taken-2
+enum-known-taken-2 c = search needs
+
+enum-told : tie.Need-enum-told
+enum-told c = search needs
+
+same-length : tie.Need-same-length
+same-length c = search needs
+
+same-length-2 : tie.Need-same-length-2
+same-length-2 c = search needs
+
+same-length-3 : tie.Need-same-length-3
+same-length-3 c = search needs
+
+same-length-4 : tie.Need-same-length-4
+same-length-4 c = search needs
+
+same-length-5 : tie.Need-same-length-5
+same-length-5 c = search needs
+
+returns : tie.Need-returns
+returns c =
+    rw (c .judge .ensures) (bytes-done (rw (c .before .before .before .before .before .before .before .before .before .before .taken .given .1) at (c .before .before .before .before .before .before .before .before .before .before .before .before .before .before .before .before .before .before .before .before .take-lines .ensures)) (c .before .before .before .write-first .ensures))
+
+same-length-6 : tie.Need-same-length-6
+same-length-6 c = search needs
+
+same-length-7 : tie.Need-same-length-7
+same-length-7 c = search needs
+
+same-length-8 : tie.Need-same-length-8
+same-length-8 c = search needs
+
+same-length-9 : tie.Need-same-length-9
+same-length-9 c = search needs
+
+returns-2 : tie.Need-returns-2
+returns-2 c =
+    bad-line _ (rw (c .before .taken2 .given .1) at (c .before .before .before .before .before .before .before .before .before .before .before .take-lines .ensures))
+
+same-length-10 : tie.Need-same-length-10
+same-length-10 c = search needs
+
+same-length-11 : tie.Need-same-length-11
+same-length-11 c = search needs
+
+same-length-12 : tie.Need-same-length-12
+same-length-12 c = search needs
+
+same-length-13 : tie.Need-same-length-13
+same-length-13 c = search needs
+
+returns-3 : tie.Need-returns-3
+returns-3 c =
+    no-places _ (rw (c .enum-told .given .1) at (c .before .before .before .before .before .before .before .before .before .before .take-lines .ensures))
+
+pub to-bytes-spec : {M : Type 1} → statement M
+to-bytes-spec =
+    tie.close
+    (tie.spec
+    take-lines-requires
+    enum-known-taken
+    write-first-requires
+    judge-requires
+    enum-known-taken-2
+    enum-told
+    same-length
+    same-length-2
+    same-length-3
+    same-length-4
+    same-length-5
+    returns
+    same-length-6
+    same-length-7
+    same-length-8
+    same-length-9
+    returns-2
+    same-length-10
+    same-length-11
+    same-length-12
+    same-length-13
+    returns-3)

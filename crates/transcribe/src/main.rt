@@ -1,0 +1,4 @@
+mod turning;
+
+fn main() {
+}
