@@ -39,7 +39,7 @@ pub answer-refused : (o : Transcribed) (x y : Turned) → o .number ≢ 0 → by
 unfolding by-answer
 answer-refused o x y d = rw (ne-eqb (o .number) 0 d)
 
-refused-not-done : (o : Transcribed) (x : Turned) → o .number ≢ 0 → is-done (by-answer o x) ≡ false
+pub refused-not-done : (o : Transcribed) (x : Turned) → o .number ≢ 0 → is-done (by-answer o x) ≡ false
 unfolding by-answer
 refused-not-done o x d =
     rw (ne-eqb (o .number) 0 d) (either (eqb (o .number) 24))

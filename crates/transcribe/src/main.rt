@@ -1,4 +1,105 @@
+// The program `transcript`: it turns the lines of `portlist` into a transcript, and a transcript into lines. Document 02, request (ii).
+// What comes out is named by its one argument:
+//
+//   bytes   lines are read, and their transcript is written
+//   lines   a transcript is read, and its lines are written
+//
+// All of the input is read and judged before anything is written. If something is wrong with it, standard output stays empty, and a line on
+// standard error says what and where.
+//
+// There is room for 32,768 accesses: as lines they have at most 360,448 bytes, and as a transcript at most 131,072.
+mod messages;
 mod turning;
 
+use messages::say;
+use turning::Turned;
+use turning::to_bytes;
+use turning::to_lines;
+
+// Lines in, a transcript out. Input that fills its buffer may have more behind it, and is too long.
+fn write_bytes(
+    text: &mut [u8],
+    kinds: &mut [u32],
+    registers: &mut [u32],
+    lanes: &mut [u32],
+    words: &mut [u32],
+    bytes: &mut [u8],
+) {
+    let n = io::read_full(0, text);
+    if n == text.len() {
+        io::write_all(2, b"transcript: input too long\n");
+        return;
+    }
+    let turned = to_bytes(&text[..n], kinds, registers, lanes, words, bytes);
+    match turned {
+        Turned::Done(k) => {
+            let start = 0;
+            io::write_all(1, &bytes[start..k]);
+        }
+        _ => say(turned, b"line ", 1),
+    }
+}
+
+// A transcript in, lines out.
+fn write_lines(
+    bytes: &mut [u8],
+    kinds: &mut [u32],
+    registers: &mut [u32],
+    lanes: &mut [u32],
+    words: &mut [u32],
+    text: &mut [u8],
+) {
+    let n = io::read_full(0, bytes);
+    if n == bytes.len() {
+        io::write_all(2, b"transcript: input too long\n");
+        return;
+    }
+    let turned = to_lines(&bytes[..n], kinds, registers, lanes, words, text);
+    match turned {
+        Turned::Done(k) => {
+            let start = 0;
+            io::write_all(1, &text[start..k]);
+        }
+        _ => say(turned, b"byte ", 0),
+    }
+}
+
+// One way or the other, as the argument says.
+fn turn(
+    text: &mut [u8],
+    bytes: &mut [u8],
+    kinds: &mut [u32],
+    registers: &mut [u32],
+    lanes: &mut [u32],
+    words: &mut [u32],
+) {
+    let mut argument = [0u8; 8];
+    let n = os::arg(1, &mut argument);
+    if check::same(&argument[..n], b"bytes") {
+        write_bytes(text, kinds, registers, lanes, words, bytes);
+        return;
+    }
+    if check::same(&argument[..n], b"lines") {
+        write_lines(bytes, kinds, registers, lanes, words, text);
+        return;
+    }
+    io::write_all(2, b"transcript: say bytes or lines\n");
+}
+
+// Each buffer has a byte more than the most that it may be filled with.
 fn main() {
+    let mut text = [0u8; 360449];
+    let mut bytes = [0u8; 131073];
+    let mut kinds = [0u32; 32768];
+    let mut registers = [0u32; 32768];
+    let mut lanes = [0u32; 32768];
+    let mut words = [0u32; 32768];
+    turn(
+        &mut text,
+        &mut bytes,
+        &mut kinds,
+        &mut registers,
+        &mut lanes,
+        &mut words,
+    );
 }

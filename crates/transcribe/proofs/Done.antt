@@ -1,0 +1,90 @@
+-- What is known of an input that is turned: how it was turned, and that it fits.
+use Prim.Native.Nat.{ℕ, _≤_}
+use native.Mathlib.Omega.{arith}
+use mathlib.Core.Path.{_≡_, refl, sym, ap, _∙_}
+use mathlib.Core.Bool.{Bool, true, false, cond}
+use mathlib.Core.List.{List}
+use mathlib.Core.Logic.{⊎-elim}
+use lib.Dec.{eqb}
+use lib.ListN.{length}
+use borrow.Author.Tests.{ne-eqb}
+use Rattle.words.proofs.Choices.{same-or-not}
+use Rattle.transcript_bytes.specs.Format.{transcript-of}
+use Rattle.transcript_bytes.specs.InPlainWords.{AllGood, Written}
+use Rattle.transcript_bytes.specs.InPlainWords as plain
+use Rattle.transcript_bytes.specs.Lists.{Lists, size}
+use Rattle.transcript_bytes.specs.Reading.{entries-read, read-answer}
+use Rattle.transcript_bytes.specs.Writing.{write-answer}
+use Rattle.transcript_bytes.specs.declared.Entry.{Entry}
+use Rattle.transcript_bytes.specs.declared.Transcribed.{Transcribed}
+use Rattle.transcript_bytes.proofs.WrittenExactly.{bad-number, writes-exactly}
+use Rattle.transcript_lines.specs.Putting.{put-answer}
+use Rattle.transcript_lines.specs.Taking.{taking, take-answer}
+use Rattle.transcript_lines.specs.declared.LinesPut.{LinesPut}
+use Rattle.transcript_lines.specs.declared.LinesPut.the-variants as put
+use Rattle.transcript_lines.specs.declared.LinesTaken.{LinesTaken}
+use Rattle.transcript_lines.specs.declared.LinesTaken.the-variants as taken
+use Rattle.transcript_lines.proofs.PutAnswers.{put-answers}
+use Rattle.transcribe.specs.Turning.{by-answer, by-taken, by-put, written, bytes-turned, lines-turned, is-done, ToBytes, ToLines}
+use Rattle.transcribe.specs.declared.turning.Turned.{Turned}
+use Rattle.transcribe.specs.declared.turning.Turned.the-variants.{Done}
+use Rattle.transcribe.proofs.Outcomes.{answer-done, refused-not-done}
+
+-- ---- an answer that means that it is turned refuses nothing
+none-refused : (o : Transcribed) (x : Turned) (k : ℕ) → by-answer o x ≡ Done k → (o .number ≡ 0) × (x ≡ Done k)
+none-refused o x k e =
+    ⊎-elim
+    (λ z. (z, sym (answer-done o x z) ∙ e))
+    (λ d.
+    let never : true ≡ false = sym (ap is-done e) ∙ refused-not-done o x d in
+    let no : _≡_ {A = ℕ} 0 1 = cc in
+    absurd (omega arith))
+    (same-or-not (o .number) 0)
+
+-- ---- lines to bytes
+pub record BytesDone (t : List ℕ) (room out k : ℕ) : Type 0 where
+  pub lines : ℕ
+  pub taken : take-answer t room ≡ taken.Taken lines
+  pub good : AllGood (taking t .entries)
+  pub count : k ≡ length (transcript-of (taking t .entries))
+  pub fits : k ≤ out
+
+accepted-all : (es : List Entry) (out : ℕ) {a : Transcribed} → Written es out a → a .number ≡ 0 →
+    AllGood es × (a .count ≡ length (transcript-of es)) × (a .count ≤ out)
+accepted-all es out (plain.Written.done g h) z = (g, refl, h)
+accepted-all es out (plain.Written.too-small g h) z = absurd (omega arith)
+accepted-all es out (plain.Written.bad-entry xs ys {e} {n} q g b) z = absurd (bad-number e n b z)
+
+of-taken : (x : LinesTaken) (w : Turned) (k : ℕ) → by-taken x w ≡ Done k → ((n : ℕ) × (x ≡ taken.Taken n)) × (w ≡ Done k)
+of-taken (taken.Taken n) w k e = ((n, refl), e)
+of-taken (taken.BadLine j) w k e = let no : _≡_ {A = ℕ} 0 1 = cc in absurd (omega arith)
+of-taken taken.NoPlaces w k e = let no : _≡_ {A = ℕ} 0 1 = cc in absurd (omega arith)
+
+pub bytes-are-done : {t : List ℕ} {room out k : ℕ} → bytes-turned t room out ≡ Done k → BytesDone t room out k
+unfolding bytes-turned
+bytes-are-done {t} {room} {out} {k} e =
+    let es = taking t .entries in
+    let a = write-answer es out in
+    let x = of-taken (take-answer t room) (written es out) k e in
+    let y = none-refused a (Done (a .count)) k (x .1) in
+    let z = accepted-all es out (writes-exactly es out a .0 refl) (y .0) in
+    let c : a .count ≡ k = cc in
+    record { lines = x .0 .0; taken = x .0 .1; good = z .0; count = sym c ∙ z .1; fits = omega arith }
+
+-- ---- bytes to lines
+pub record LinesDone (s : List ℕ) (room out k : ℕ) : Type 0 where
+  pub read : read-answer s room .number ≡ 0
+  pub put : put-answer (entries-read s) out ≡ put.Written k
+  pub fits : k ≤ out
+
+of-put : (x : LinesPut) (k : ℕ) → by-put x ≡ Done k → x ≡ put.Written k
+of-put (put.Written n) k e = cc
+of-put (put.Unsayable j) k e = let no : _≡_ {A = ℕ} 0 1 = cc in absurd (omega arith)
+of-put put.NoBytes k e = let no : _≡_ {A = ℕ} 0 1 = cc in absurd (omega arith)
+
+pub lines-are-done : {s : List ℕ} {room out k : ℕ} → lines-turned s room out ≡ Done k → LinesDone s room out k
+unfolding lines-turned
+lines-are-done {s} {room} {out} {k} e =
+    let x = none-refused (read-answer s room) (by-put (put-answer (entries-read s) out)) k e in
+    let y = of-put (put-answer (entries-read s) out) k (x .1) in
+    record { read = x .0; put = y; fits = put-answers (entries-read s) out (put.Written k) .0 y .2 }
