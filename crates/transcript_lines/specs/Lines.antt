@@ -24,7 +24,7 @@ entry-of (Write register lanes w) = record { kind = 1; register = register; lane
 unfoldable pub access-of : Entry → Access
 access-of e = cond (eqb (e .kind) 0) (Read (e .register) (e .lanes)) (Write (e .register) (e .lanes) (e .word))
 
--- it has no record in a transcript either; or its register or its lanes have more than one digit
+-- its kind or its word is wrong (it has no record in a transcript either), or its register or its lanes have more than one digit
 unfoldable pub unsayable : Entry → Bool
 unsayable e = no-record e || (ltb 9 (e .register) || ltb 9 (e .lanes))
 

@@ -3,6 +3,7 @@
 --                               `done` where a line can say each
 --   fitting n room              that answer: n bytes, and room for so many
 --   put-answer es room          what the call answers of a list, lent so many bytes
+--   is-written o                the answer of a call that is done
 --   text-after es out           the lent bytes afterwards
 --   PutLines                    these, as the contract of the call
 use Prim.Native.Nat.{ℕ, suc}

@@ -1,11 +1,13 @@
 -- The lines of a text, taken into lists.
 --   Taking               what is taken of a text: the entries of its good lines, up to the first bad one, and the text that is left
 --   nothing, more        nothing is taken; one entry more, the first
+--   by-front             what is taken of a text that begins so, by what is taken of the rest
 --   takes n t            at most n lines of the text t
 --   taking t             all of them: a text has no more lines than bytes
 --   fitting n room       the answer where nothing is left: n entries, and places for so many
 --   judged x room        the answer where so much is taken, and there are places for so many entries
 --   take-answer t room   what the call answers of a text, lent lists for so many entries
+--   is-taken o           the answer of a call that is done
 --   lists-after t l      the lent lists afterwards
 --   TookLines            these, as the contract of the call
 use Prim.Native.Nat.{ℕ, zero, suc}

@@ -43,7 +43,7 @@ pub(crate) fn is_unsayable(e: Entry) -> bool
     either(
         either(
             65535 < e.word,
-            either(1 < e.kind, both(e.kind == 0, !(e.word == 0))),
+            either(1 < e.kind, both(e.kind == 0, e.word != 0)),
         ),
         either(9 < e.register, 9 < e.lanes),
     )
@@ -83,7 +83,7 @@ fn put_word(text: &mut [u8], at: usize, word: u16) -> usize
     at + 5
 }
 
-// Puts the entry's line into a text from a place on, and answers the place after it.
+// Puts the entry's line into a text from a place on, and answers the place after it. `R` is 82, `W` is 87.
 pub(crate) fn put_line(text: &mut [u8], at: usize, e: Entry) -> usize
     requires { ⌜ (at + length (line e) ≤ length (now text)) × (unsayable e ≡ false) ⌝ }
     ensures { λ r. ⌜ Put (now (text .entry)) at (line e) r (now (text .exit)) ⌝ }

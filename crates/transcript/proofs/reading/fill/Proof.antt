@@ -113,9 +113,11 @@ loop-again-2 c =
     let at-fresh = put .before .before .before .before .before in
     let taken = at-fresh .before .before .before .before in
     let test = taken .before .before in
+    let last = put .put-entry .last in
+    let filled = lists (last .0) (last .1 .0) (last .1 .1 .0) (last .1 .1 .1 .0) in
     rw (at-fresh .fresh-part2 .ensures)
     (one-put (test .before .loop .inv) (test .loop-test .taken)
-    (sym (taken .take-byte .ensures) ∙ at-fresh .before .before .step2 .given .1) (put .put-entry .ensures))
+    (sym (taken .take-byte .ensures) ∙ at-fresh .before .before .step2 .given .1) {l′ = filled} (put .put-entry .ensures))
 
 enum-told : tie.Need-enum-told Inv-loop μ-loop
 enum-told c = search needs

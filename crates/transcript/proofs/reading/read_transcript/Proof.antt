@@ -48,7 +48,9 @@ returns-2 : tie.Need-returns-2
 returns-2 c =
     let filled = c .before .before .before .before .before .before .before .before in
     let passed = filled .before .before .before .before .before in
-    all-put _ _ (right (passed .before .before)) (passed .if1 .left) (filled .fill .ensures)
+    let last = filled .fill .last .1 in
+    all-put _ _ (right (passed .before .before)) {l′ = lists (last .0) (last .1 .0) (last .1 .1 .0) (last .1 .1 .1 .0)} (passed .if1 .left)
+    (filled .fill .ensures)
 
 pub read-transcript-spec : {M : Type 1} → statement M
 read-transcript-spec =

@@ -105,8 +105,10 @@ loop-again c =
     let at-front-line = at-line .before .before in
     let l = at-front-line .before .before in
     let start = l .before .before .before .before .before .before in
+    let last = at-put-entry .put-entry .last in
+    let placed = lists (last .0) (last .1 .0) (last .1 .1 .0) (last .1 .1 .1 .0) in
     filled-next (l .loop .inv) (start .pre) (at-front-line .front-line .ensures) (at-line .line .given .1)
-    (at-entry-of .entry-of .ensures) (at-put-entry .put-entry .ensures)
+    {l′ = placed} (at-entry-of .entry-of .ensures) (at-put-entry .put-entry .ensures)
 
 pub fill-lists-spec : {M : Type 1} → statement M
 fill-lists-spec =

@@ -53,8 +53,10 @@ returns-2 c =
     let start = at-shortest .before .before .before .before .before .before in
     let a = start .args in
     let l = lists (a .kinds .now) (a .registers .now) (a .lanes .now) (a .words .now) in
+    let last = at-fill-lists .fill-lists .last .1 in
+    let filled = lists (last .0) (last .1 .0) (last .1 .1 .0) (last .1 .1 .1 .0) in
     done-take (a .text .now) l (at-shortest .shortest .ensures) (at-judge-lines .judge-lines .ensures)
-    (at-enum-told .enum-told .given .1) (at-fill-lists .fill-lists .ensures)
+    (at-enum-told .enum-told .given .1) {l′ = filled} (at-fill-lists .fill-lists .ensures)
 
 pub take-lines-spec : {M : Type 1} → statement M
 take-lines-spec =
