@@ -2,17 +2,15 @@
 use Prim.Native.Nat.{ℕ, _≤_}
 use native.Mathlib.Omega.{arith}
 use mathlib.Core.Path.{_≡_, refl, sym, ap, _∙_}
-use mathlib.Core.Bool.{Bool, true, false, cond}
+use mathlib.Core.Bool.{true, false}
 use mathlib.Core.List.{List}
 use mathlib.Core.Logic.{⊎-elim}
-use lib.Dec.{eqb}
 use lib.ListN.{length}
-use borrow.Author.Tests.{ne-eqb}
 use Rattle.words.proofs.Choices.{same-or-not}
 use Rattle.transcript_bytes.specs.Format.{transcript-of}
 use Rattle.transcript_bytes.specs.InPlainWords.{AllGood, Written}
 use Rattle.transcript_bytes.specs.InPlainWords as plain
-use Rattle.transcript_bytes.specs.Lists.{Lists, size}
+use Rattle.transcript_bytes.specs.Lists.{Lists}
 use Rattle.transcript_bytes.specs.Reading.{entries-read, read-answer}
 use Rattle.transcript_bytes.specs.Writing.{write-answer}
 use Rattle.transcript_bytes.specs.declared.Entry.{Entry}
@@ -71,6 +69,10 @@ bytes-are-done {t} {room} {out} {k} e =
     let c : a .count ≡ k = cc in
     record { lines = x .0 .0; taken = x .0 .1; good = z .0; count = sym c ∙ z .1; fits = omega arith }
 
+-- What is turned fits the output.
+pub bytes-fit : {t : List ℕ} {l : Lists} {out out′ : List ℕ} {o : Turned} {k : ℕ} → ToBytes t l out o out′ → o ≡ Done k → k ≤ length out
+bytes-fit p e = bytes-are-done (sym (p .answer) ∙ e) .fits
+
 -- ---- bytes to lines
 pub record LinesDone (s : List ℕ) (room out k : ℕ) : Type 0 where
   pub read : read-answer s room .number ≡ 0
@@ -88,3 +90,7 @@ lines-are-done {s} {room} {out} {k} e =
     let x = none-refused (read-answer s room) (by-put (put-answer (entries-read s) out)) k e in
     let y = of-put (put-answer (entries-read s) out) k (x .1) in
     record { read = x .0; put = y; fits = put-answers (entries-read s) out (put.Written k) .0 y .2 }
+
+-- What is turned fits the output.
+pub lines-fit : {s : List ℕ} {l : Lists} {out out′ : List ℕ} {o : Turned} {k : ℕ} → ToLines s l out o out′ → o ≡ Done k → k ≤ length out
+lines-fit p e = lines-are-done (sym (p .answer) ∙ e) .fits

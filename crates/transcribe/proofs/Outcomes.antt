@@ -11,7 +11,7 @@ use Rattle.words.proofs.Choices.{same-or-not}
 use Rattle.transcript_bytes.specs.Format.{transcript-of}
 use Rattle.transcript_bytes.specs.InPlainWords.{first-places}
 use Rattle.transcript_bytes.specs.Lists.{Lists, size, entries-in, over}
-use Rattle.transcript_bytes.specs.Reading.{entries-read, read-answer, ReadTranscript}
+use Rattle.transcript_bytes.specs.Reading.{entries-read, ReadTranscript}
 use Rattle.transcript_bytes.specs.Writing.{write-answer, bytes-after, WroteTranscript}
 use Rattle.transcript_bytes.specs.declared.Entry.{Entry}
 use Rattle.transcript_bytes.specs.declared.Transcribed.{Transcribed}

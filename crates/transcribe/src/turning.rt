@@ -139,12 +139,5 @@ pub(crate) fn to_lines(
     if answer.number != 0 {
         return judge(answer, Turned::TooMany);
     }
-    judge_lines(put_first(
-        kinds,
-        registers,
-        lanes,
-        words,
-        answer.count,
-        text,
-    ))
+    judge_lines(put_first(kinds, registers, lanes, words, answer.count, text))
 }

@@ -9,7 +9,7 @@ ghost use Rattle.transcript_lines.specs.Parts.{head-text, word-text};
 use digits::digit_for;
 use port::Access;
 use transcript_bytes::Entry;
-use words::both;
+use transcript_lists::has_no_record;
 use words::either;
 
 // The entry that a line's access makes: a read has no word.
@@ -40,13 +40,7 @@ pub(crate) fn entry_of(a: Access) -> Entry
 pub(crate) fn is_unsayable(e: Entry) -> bool
     ensures { λ r. ⌜ r ≡ unsayable e ⌝ }
 {
-    either(
-        either(
-            65535 < e.word,
-            either(1 < e.kind, both(e.kind == 0, e.word != 0)),
-        ),
-        either(9 < e.register, 9 < e.lanes),
-    )
+    either(has_no_record(e), either(9 < e.register, 9 < e.lanes))
 }
 
 // How many bytes the entry's line has, its line feed among them.

@@ -1,11 +1,14 @@
-// A list of accesses as a call is lent it, one slice of numbers for each part: how many entries it holds, one of them taken out, one put in.
-// Document 02, request (ii). Both forms of a list, the bytes of crate `transcript` and the lines of crate `transcript_lines`, are made from it
-// and turned into it.
+// A list of accesses as a call is lent it, one slice of numbers for each part: how many entries it holds, one of them taken out, one put in,
+// and whether its kind and word can be said at all. Document 02, request (ii). Both forms of a list, the bytes of crate `transcript` and
+// the lines of crate `transcript_lines`, are made from it and turned into it.
 ghost use mathlib.Core.Path.{_≡_};
 ghost use Prim.Native.Nat.{min};
 ghost use lib.ListN.{getD, set};
 ghost use Rattle.transcript_bytes.specs.Lists.{lists, entry-at, with-entry};
+ghost use Rattle.transcript_bytes.specs.Writing.{no-record};
 use transcript_bytes::Entry;
+use words::both;
+use words::either;
 use words::least;
 
 // How many entries four lists of these lengths hold: as many as the shortest has places.
@@ -62,4 +65,14 @@ pub fn put_entry(
     put_number(registers, i, e.register);
     put_number(lanes, i, e.lanes);
     put_number(words, i, e.word);
+}
+
+// Neither a record nor a line says what the entry does: a word over 16 bits, a kind over 1, or a word for a read.
+pub fn has_no_record(e: Entry) -> bool
+    ensures { λ r. ⌜ r ≡ no-record e ⌝ }
+{
+    either(
+        65535 < e.word,
+        either(1 < e.kind, both(e.kind == 0, e.word != 0)),
+    )
 }

@@ -1,7 +1,7 @@
--- `transcript::entries::has_no_record` meets its contract: the tests are the definition's.
+-- `transcript_lists::has_no_record` meets its contract: the tests are the definition's.
 use Rattle.transcript_bytes.specs.Writing.{no-record}
-use Rattle.transcript.proofs.entries.has_no_record.Statement.{statement}
-use Rattle.transcript.proofs.entries.has_no_record.Tie as tie
+use Rattle.transcript_lists.proofs.has_no_record.Statement.{statement}
+use Rattle.transcript_lists.proofs.has_no_record.Tie as tie
 
 both-requires : tie.Need-both-requires
 both-requires c κs = tt
