@@ -2,6 +2,7 @@
 ghost use mathlib.Core.Path.{_≡_};
 ghost use Prim.Native.Nat.{_/_, _%_};
 ghost use mathlib.Core.List.{[], _∷_};
+use crate::carrying::Left;
 use transcript_bytes::Transcribed;
 
 // A number's bytes, low first.
@@ -16,17 +17,28 @@ fn bytes_of(n: u32) -> [u8; 4]
     ]
 }
 
-pub(crate) fn print_answer(o: Transcribed) {
+fn print_answer(o: Transcribed) {
     io::print_hex(1, o.number as u64, 2);
     io::print_hex(1, o.count as u64, 4);
     io::print_hex(1, o.place as u64, 4);
 }
 
-pub(crate) fn print_list(list: &[u32]) {
-    let mut k: usize = 0;
-    while k < list.len() {
+fn print_list(list: [u32; 6]) {
+    for k in 0..6 {
         let bytes = bytes_of(list[k]);
         io::write_all(1, &bytes);
-        k += 1;
     }
+}
+
+pub(crate) fn print_record(left: Left, string: &[u8]) {
+    let kinds = left.kinds;
+    let registers = left.registers;
+    let lanes = left.lanes;
+    let words = left.words;
+    print_answer(left.answer);
+    print_list(kinds);
+    print_list(registers);
+    print_list(lanes);
+    print_list(words);
+    io::write_all(1, string);
 }

@@ -1,0 +1,2 @@
+-- ---- a record carried out
+pub mod OneRecord

@@ -1,0 +1,84 @@
+-- A record is carried out by a call on the first places of its string and of its lists, which then come back.
+use Prim.Native.Nat.{ℕ, _-_, min}
+use mathlib.Core.Path.{_≡_, subst, ap, _∙_}
+use mathlib.Core.Bool.{Bool, true, false}
+use mathlib.Core.List.{List}
+use lib.ListN.{length, take}
+use borrow.Rule.Slice.PartMut.{putMid}
+use Rattle.words.proofs.Lent.{lent-is, back-is}
+use Rattle.transcript_bytes.specs.Lists.{Lists, lists}
+use Rattle.transcript_bytes.specs.Reading.{ReadTranscript}
+use Rattle.transcript_bytes.specs.Writing.{WroteTranscript}
+use Rattle.transcript_bytes.specs.declared.Transcribed.{Transcribed}
+use Rattle.transcript_trial.specs.Record.{byte, column, lists-in, writes, string-lent, string-back, lists-lent, lists-back}
+use Rattle.transcript_trial.specs.Carried.{called-answer, called-string, called-lists, Called}
+use Rattle.transcript_trial.specs.Carried.{answer-from, string-from, lists-from, Carried}
+
+-- ---- a call
+module _ {writer : Bool} {s : List ℕ} {l : Lists} {o : Transcribed} where
+  -- The writer leaves the lists.
+  pub by-writer : {s′ : List ℕ} → writer ≡ true → WroteTranscript l s o s′ → Called writer s l o s′ l
+  unfolding called-answer called-string called-lists
+  by-writer e w = record { answer = rw e (w .answer); string = rw e (w .bytes); lists = rw e }
+
+  -- The reader leaves the string.
+  pub by-reader : {l′ : Lists} → writer ≡ false → ReadTranscript s l o l′ → Called writer s l o s l′
+  unfolding called-answer called-string called-lists
+  by-reader e r = record { answer = rw e (r .answer); string = rw e; lists = rw e (r .lists) }
+
+-- ---- a record
+
+-- How many places of the string and of each list the code lends, for the record b.
+pub record Lends (b s : List ℕ) (l : Lists) (places kinds registers lanes words : ℕ) : Type 0 where
+  pub of-string : places ≡ min (byte b 1) (length s)
+  pub of-kinds : kinds ≡ min (byte b 2) (length (l .kinds))
+  pub of-registers : registers ≡ min (byte b 3) (length (l .registers))
+  pub of-lanes : lanes ≡ min (byte b 4) (length (l .lanes))
+  pub of-words : words ≡ min (byte b 5) (length (l .words))
+
+module _ {b s : List ℕ} {l : Lists} {m k r n w : ℕ} (y : Lends b s l m k r n w) where
+  string-is : take (m - 0) s ≡ string-lent b s
+  string-is = lent-is (byte b 1) m s (y .of-string)
+
+  lists-are :
+      lists (take (k - 0) (l .kinds)) (take (r - 0) (l .registers)) (take (n - 0) (l .lanes)) (take (w - 0) (l .words)) ≡ lists-lent b l
+  lists-are i =
+      lists (lent-is (byte b 2) k (l .kinds) (y .of-kinds) i) (lent-is (byte b 3) r (l .registers) (y .of-registers) i)
+      (lent-is (byte b 4) n (l .lanes) (y .of-lanes) i) (lent-is (byte b 5) w (l .words) (y .of-words) i)
+
+  lists-come-back :
+      (p : Lists) →
+      lists (putMid 0 (k - 0) (l .kinds) (p .kinds)) (putMid 0 (r - 0) (l .registers) (p .registers))
+      (putMid 0 (n - 0) (l .lanes) (p .lanes)) (putMid 0 (w - 0) (l .words) (p .words)) ≡
+      lists-back b l p
+  lists-come-back p i =
+      lists (back-is (byte b 2) k (l .kinds) (y .of-kinds) (p .kinds) i)
+      (back-is (byte b 3) r (l .registers) (y .of-registers) (p .registers) i)
+      (back-is (byte b 4) n (l .lanes) (y .of-lanes) (p .lanes) i) (back-is (byte b 5) w (l .words) (y .of-words) (p .words) i)
+
+  -- The call on the lent parts, which then come back, is what the record asks for.
+  pub carried :
+      {o : Transcribed} {s′ kinds registers lanes words : List ℕ} →
+      Called (writes b) (take (m - 0) s)
+      (lists (take (k - 0) (l .kinds)) (take (r - 0) (l .registers)) (take (n - 0) (l .lanes)) (take (w - 0) (l .words))) o s′
+      (lists kinds registers lanes words) →
+      Carried b s l o (putMid 0 (m - 0) s s′)
+      (lists (putMid 0 (k - 0) (l .kinds) kinds) (putMid 0 (r - 0) (l .registers) registers) (putMid 0 (n - 0) (l .lanes) lanes)
+      (putMid 0 (w - 0) (l .words) words))
+  unfolding answer-from string-from lists-from
+  carried {o} {s′} {kinds} {registers} {lanes} {words} c =
+      record {
+        answer = c .answer ∙ (λ i. called-answer (writes b) (string-is i) (lists-are i));
+        string = back-is (byte b 1) m s (y .of-string) s′
+            ∙ ap (string-back b s) (c .string ∙ (λ i. called-string (writes b) (string-is i) (lists-are i)));
+        lists = lists-come-back (lists kinds registers lanes words)
+            ∙ ap (lists-back b l) (c .lists ∙ (λ i. called-lists (writes b) (string-is i) (lists-are i)));
+      }
+
+-- The lists may be those that the record holds.
+pub on-its-lists :
+    {b s kinds registers lanes words : List ℕ} {o : Transcribed} {s′ : List ℕ} {l′ : Lists} →
+    kinds ≡ column b 0 → registers ≡ column b 6 → lanes ≡ column b 12 → words ≡ column b 18 →
+    Carried b s (lists kinds registers lanes words) o s′ l′ → Carried b s (lists-in b) o s′ l′
+on-its-lists {b} {s} {kinds} {registers} {lanes} {words} {o} {s′} {l′} e f g h c =
+    subst (λ (l : Lists). Carried b s l o s′ l′) (λ i. lists (e i) (f i) (g i) (h i)) c

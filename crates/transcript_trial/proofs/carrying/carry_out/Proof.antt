@@ -1,0 +1,167 @@
+-- `transcript_trial::carrying::carry_out` meets its contract: the call is on the lent parts, which come back.
+use borrow.Author.Needs.{needs}
+use Rattle.transcript_trial.proofs.OneRecord.{carried}
+use Rattle.transcript_trial.proofs.carrying.carry_out.Statement.{statement}
+use Rattle.transcript_trial.proofs.carrying.carry_out.Tie as tie
+
+element-copy-out-places-lent : tie.Need-element-copy-out-places-lent
+element-copy-out-places-lent c = search needs
+
+places-lent-requires : tie.Need-places-lent-requires
+places-lent-requires c κs = tt
+
+element-copy-out-places-lent-2 : tie.Need-element-copy-out-places-lent-2
+element-copy-out-places-lent-2 c = search needs
+
+places-lent-requires-2 : tie.Need-places-lent-requires-2
+places-lent-requires-2 c κs = tt
+
+element-copy-out-places-lent-3 : tie.Need-element-copy-out-places-lent-3
+element-copy-out-places-lent-3 c = search needs
+
+places-lent-requires-3 : tie.Need-places-lent-requires-3
+places-lent-requires-3 c κs = tt
+
+element-copy-out-places-lent-4 : tie.Need-element-copy-out-places-lent-4
+element-copy-out-places-lent-4 c = search needs
+
+places-lent-requires-4 : tie.Need-places-lent-requires-4
+places-lent-requires-4 c κs = tt
+
+element-copy-out-places-lent-5 : tie.Need-element-copy-out-places-lent-5
+element-copy-out-places-lent-5 c = search needs
+
+places-lent-requires-5 : tie.Need-places-lent-requires-5
+places-lent-requires-5 c κs = tt
+
+element-copy-out-call : tie.Need-element-copy-out-call
+element-copy-out-call c = search needs
+
+sub-call : tie.Need-sub-call
+sub-call c = search needs
+
+part-call-start : tie.Need-part-call-start
+part-call-start c = search needs
+
+part-call-end : tie.Need-part-call-end
+part-call-end c = search needs
+
+mul-call : tie.Need-mul-call
+mul-call c = search needs
+
+sub-call-2 : tie.Need-sub-call-2
+sub-call-2 c = search needs
+
+part-call-start-2 : tie.Need-part-call-start-2
+part-call-start-2 c = search needs
+
+part-call-end-2 : tie.Need-part-call-end-2
+part-call-end-2 c = search needs
+
+mul-call-2 : tie.Need-mul-call-2
+mul-call-2 c = search needs
+
+sub-call-3 : tie.Need-sub-call-3
+sub-call-3 c = search needs
+
+part-call-start-3 : tie.Need-part-call-start-3
+part-call-start-3 c = search needs
+
+part-call-end-3 : tie.Need-part-call-end-3
+part-call-end-3 c = search needs
+
+mul-call-3 : tie.Need-mul-call-3
+mul-call-3 c = search needs
+
+sub-call-4 : tie.Need-sub-call-4
+sub-call-4 c = search needs
+
+part-call-start-4 : tie.Need-part-call-start-4
+part-call-start-4 c = search needs
+
+part-call-end-4 : tie.Need-part-call-end-4
+part-call-end-4 c = search needs
+
+mul-call-4 : tie.Need-mul-call-4
+mul-call-4 c = search needs
+
+sub-call-5 : tie.Need-sub-call-5
+sub-call-5 c = search needs
+
+part-call-start-5 : tie.Need-part-call-start-5
+part-call-start-5 c = search needs
+
+part-call-end-5 : tie.Need-part-call-end-5
+part-call-end-5 c = search needs
+
+call-requires : tie.Need-call-requires
+call-requires c κs = tt
+
+same-length : tie.Need-same-length
+same-length c = search needs
+
+same-length-2 : tie.Need-same-length-2
+same-length-2 c = search needs
+
+same-length-3 : tie.Need-same-length-3
+same-length-3 c = search needs
+
+same-length-4 : tie.Need-same-length-4
+same-length-4 c = search needs
+
+same-length-5 : tie.Need-same-length-5
+same-length-5 c = search needs
+
+returns : tie.Need-returns
+returns c =
+    carried
+    (record {
+      of-string = c .before .before .before .before .before .before .before .before .before .before .before .before .before .before .before .before .before .before .before .before .before .before .before .before .before .places-lent .ensures;
+      of-kinds = c .before .before .before .before .before .before .before .before .before .before .before .before .before .before .before .before .before .before .before .before .before .before .before .places-lent2 .ensures;
+      of-registers = c .before .before .before .before .before .before .before .before .before .before .before .before .before .before .before .before .before .before .before .before .before .places-lent3 .ensures;
+      of-lanes = c .before .before .before .before .before .before .before .before .before .before .before .before .before .before .before .before .before .before .before .places-lent4 .ensures;
+      of-words = c .before .before .before .before .before .before .before .before .before .before .before .before .before .before .before .before .before .places-lent5 .ensures;
+    })
+    (c .before .before .before .before .before .before .before .before .before .before .call .ensures)
+
+pub carry-out-spec : {M : Type 1} → statement M
+carry-out-spec =
+    tie.close
+    (tie.spec
+    element-copy-out-places-lent
+    places-lent-requires
+    element-copy-out-places-lent-2
+    places-lent-requires-2
+    element-copy-out-places-lent-3
+    places-lent-requires-3
+    element-copy-out-places-lent-4
+    places-lent-requires-4
+    element-copy-out-places-lent-5
+    places-lent-requires-5
+    element-copy-out-call
+    sub-call
+    part-call-start
+    part-call-end
+    mul-call
+    sub-call-2
+    part-call-start-2
+    part-call-end-2
+    mul-call-2
+    sub-call-3
+    part-call-start-3
+    part-call-end-3
+    mul-call-3
+    sub-call-4
+    part-call-start-4
+    part-call-end-4
+    mul-call-4
+    sub-call-5
+    part-call-start-5
+    part-call-end-5
+    call-requires
+    same-length
+    same-length-2
+    same-length-3
+    same-length-4
+    same-length-5
+    returns)
