@@ -1,5 +1,6 @@
 -- A record is carried out by a call on the first places of its string and of its lists, which then come back.
-use Prim.Native.Nat.{ℕ, _-_, min}
+use Prim.Native.Nat.{ℕ, _-_, _≤_, min}
+use native.Mathlib.Omega.{arith}
 use mathlib.Core.Path.{_≡_, subst, ap, _∙_}
 use mathlib.Core.Bool.{Bool, true, false}
 use mathlib.Core.List.{List}
@@ -27,6 +28,10 @@ module _ {writer : Bool} {s : List ℕ} {l : Lists} {o : Transcribed} where
   by-reader e r = record { answer = rw e (r .answer); string = rw e; lists = rw e (r .lists) }
 
 -- ---- a record
+
+-- No more are lent than there are.
+pub smaller-of : (k m : ℕ) {n : ℕ} → n ≡ min k m → n ≤ m
+smaller-of k m e = omega arith
 
 -- How many places of the string and of each list the code lends, for the record b.
 pub record Lends (b s : List ℕ) (l : Lists) (places kinds registers lanes words : ℕ) : Type 0 where

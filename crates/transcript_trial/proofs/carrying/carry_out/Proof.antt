@@ -1,6 +1,8 @@
 -- `transcript_trial::carrying::carry_out` meets its contract: the call is on the lent parts, which come back.
+use Prim.Native.Nat.{_-_}
 use borrow.Author.Needs.{needs}
-use Rattle.transcript_trial.proofs.OneRecord.{carried}
+use borrow.Rule.Slice.PartMut.{same-len-mid}
+use Rattle.transcript_trial.proofs.OneRecord.{smaller-of, carried}
 use Rattle.transcript_trial.proofs.carrying.carry_out.Statement.{statement}
 use Rattle.transcript_trial.proofs.carrying.carry_out.Tie as tie
 
@@ -44,7 +46,7 @@ part-call-start : tie.Need-part-call-start
 part-call-start c = search needs
 
 part-call-end : tie.Need-part-call-end
-part-call-end c = search needs
+part-call-end c = smaller-of _ _ (c .before .before .before .before .before .before .before .before .before .places-lent .ensures)
 
 mul-call : tie.Need-mul-call
 mul-call c = search needs
@@ -56,7 +58,7 @@ part-call-start-2 : tie.Need-part-call-start-2
 part-call-start-2 c = search needs
 
 part-call-end-2 : tie.Need-part-call-end-2
-part-call-end-2 c = search needs
+part-call-end-2 c = smaller-of _ _ (c .before .before .before .before .before .before .before .before .places-lent2 .ensures)
 
 mul-call-2 : tie.Need-mul-call-2
 mul-call-2 c = search needs
@@ -68,7 +70,7 @@ part-call-start-3 : tie.Need-part-call-start-3
 part-call-start-3 c = search needs
 
 part-call-end-3 : tie.Need-part-call-end-3
-part-call-end-3 c = search needs
+part-call-end-3 c = smaller-of _ _ (c .before .before .before .before .before .before .before .places-lent3 .ensures)
 
 mul-call-3 : tie.Need-mul-call-3
 mul-call-3 c = search needs
@@ -80,7 +82,7 @@ part-call-start-4 : tie.Need-part-call-start-4
 part-call-start-4 c = search needs
 
 part-call-end-4 : tie.Need-part-call-end-4
-part-call-end-4 c = search needs
+part-call-end-4 c = smaller-of _ _ (c .before .before .before .before .before .before .places-lent4 .ensures)
 
 mul-call-4 : tie.Need-mul-call-4
 mul-call-4 c = search needs
@@ -92,25 +94,30 @@ part-call-start-5 : tie.Need-part-call-start-5
 part-call-start-5 c = search needs
 
 part-call-end-5 : tie.Need-part-call-end-5
-part-call-end-5 c = search needs
+part-call-end-5 c = smaller-of _ _ (c .before .before .before .before .before .places-lent5 .ensures)
 
 call-requires : tie.Need-call-requires
 call-requires c κs = tt
 
 same-length : tie.Need-same-length
-same-length c = search needs
+same-length c =
+    same-len-mid 0 (c .before .before .before .before .before .before .before .before .before .before .before .before .before .before .before .before .before .before .before .before .before .before .before .before .before .places-lent .result - 0) (c .before .before .before .before .before .before .before .before .before .before .before .before .before .before .before .before .before .before .before .before .before .before .before .before .before .before .before .before .before .before .before .before .args .string .now) (c .before .before .before .before .before .before .before .before .before .before .call .last .1 .0) (c .before .before .before .before .before .before .before .before .before .before .call .kept .1 .0)
 
 same-length-2 : tie.Need-same-length-2
-same-length-2 c = search needs
+same-length-2 c =
+    same-len-mid 0 (c .before .before .before .before .before .before .before .before .before .before .before .before .before .before .before .before .before .before .before .before .before .before .before .places-lent2 .result - 0) (c .before .before .before .before .before .before .before .before .before .before .before .before .before .before .before .before .before .before .before .before .before .before .before .before .before .before .before .before .before .before .before .before .args .kinds .now) (c .before .before .before .before .before .before .before .before .before .before .call .last .1 .1 .0) (c .before .before .before .before .before .before .before .before .before .before .call .kept .1 .1 .0)
 
 same-length-3 : tie.Need-same-length-3
-same-length-3 c = search needs
+same-length-3 c =
+    same-len-mid 0 (c .before .before .before .before .before .before .before .before .before .before .before .before .before .before .before .before .before .before .before .before .before .places-lent3 .result - 0) (c .before .before .before .before .before .before .before .before .before .before .before .before .before .before .before .before .before .before .before .before .before .before .before .before .before .before .before .before .before .before .before .before .args .registers .now) (c .before .before .before .before .before .before .before .before .before .before .call .last .1 .1 .1 .0) (c .before .before .before .before .before .before .before .before .before .before .call .kept .1 .1 .1 .0)
 
 same-length-4 : tie.Need-same-length-4
-same-length-4 c = search needs
+same-length-4 c =
+    same-len-mid 0 (c .before .before .before .before .before .before .before .before .before .before .before .before .before .before .before .before .before .before .before .places-lent4 .result - 0) (c .before .before .before .before .before .before .before .before .before .before .before .before .before .before .before .before .before .before .before .before .before .before .before .before .before .before .before .before .before .before .before .before .args .lanes .now) (c .before .before .before .before .before .before .before .before .before .before .call .last .1 .1 .1 .1 .0) (c .before .before .before .before .before .before .before .before .before .before .call .kept .1 .1 .1 .1 .0)
 
 same-length-5 : tie.Need-same-length-5
-same-length-5 c = search needs
+same-length-5 c =
+    same-len-mid 0 (c .before .before .before .before .before .before .before .before .before .before .before .before .before .before .before .before .before .places-lent5 .result - 0) (c .before .before .before .before .before .before .before .before .before .before .before .before .before .before .before .before .before .before .before .before .before .before .before .before .before .before .before .before .before .before .before .before .args .words .now) (c .before .before .before .before .before .before .before .before .before .before .call .last .1 .1 .1 .1 .1 .0) (c .before .before .before .before .before .before .before .before .before .before .call .kept .1 .1 .1 .1 .1 .0)
 
 returns : tie.Need-returns
 returns c =
