@@ -33,51 +33,50 @@ module _ {writer : Bool} {s : List ℕ} {l : Lists} {o : Transcribed} where
 pub smaller-of : (k m : ℕ) {n : ℕ} → n ≡ min k m → n ≤ m
 smaller-of k m e = omega arith
 
--- How many places of the string and of each list the code lends, for the record b.
-pub record Lends (b s : List ℕ) (l : Lists) (places kinds registers lanes words : ℕ) : Type 0 where
-  pub of-string : places ≡ min (byte b 1) (length s)
-  pub of-kinds : kinds ≡ min (byte b 2) (length (l .kinds))
-  pub of-registers : registers ≡ min (byte b 3) (length (l .registers))
-  pub of-lanes : lanes ≡ min (byte b 4) (length (l .lanes))
-  pub of-words : words ≡ min (byte b 5) (length (l .words))
+-- what code lends of four lists, so many places of each, and the lists when these come back as `part`
+abbrev parts : ℕ → ℕ → ℕ → ℕ → Lists → Lists
+parts k r n w l = lists (take (k - 0) (l .kinds)) (take (r - 0) (l .registers)) (take (n - 0) (l .lanes)) (take (w - 0) (l .words))
+
+abbrev put-back : ℕ → ℕ → ℕ → ℕ → Lists → Lists → Lists
+put-back k r n w l part =
+    lists (putMid 0 (k - 0) (l .kinds) (part .kinds)) (putMid 0 (r - 0) (l .registers) (part .registers))
+    (putMid 0 (n - 0) (l .lanes) (part .lanes)) (putMid 0 (w - 0) (l .words) (part .words))
+
+-- The numbers are those that the record b says: m of the string, k of the kinds, r of the registers, n of the lanes, w of the words.
+pub record Lends (b s : List ℕ) (l : Lists) (m k r n w : ℕ) : Type 0 where
+  pub of-string : m ≡ min (byte b 1) (length s)
+  pub of-kinds : k ≡ min (byte b 2) (length (l .kinds))
+  pub of-registers : r ≡ min (byte b 3) (length (l .registers))
+  pub of-lanes : n ≡ min (byte b 4) (length (l .lanes))
+  pub of-words : w ≡ min (byte b 5) (length (l .words))
 
 module _ {b s : List ℕ} {l : Lists} {m k r n w : ℕ} (y : Lends b s l m k r n w) where
   string-is : take (m - 0) s ≡ string-lent b s
   string-is = lent-is (byte b 1) m s (y .of-string)
 
-  lists-are :
-      lists (take (k - 0) (l .kinds)) (take (r - 0) (l .registers)) (take (n - 0) (l .lanes)) (take (w - 0) (l .words)) ≡ lists-lent b l
+  lists-are : parts k r n w l ≡ lists-lent b l
   lists-are i =
       lists (lent-is (byte b 2) k (l .kinds) (y .of-kinds) i) (lent-is (byte b 3) r (l .registers) (y .of-registers) i)
       (lent-is (byte b 4) n (l .lanes) (y .of-lanes) i) (lent-is (byte b 5) w (l .words) (y .of-words) i)
 
-  lists-come-back :
-      (p : Lists) →
-      lists (putMid 0 (k - 0) (l .kinds) (p .kinds)) (putMid 0 (r - 0) (l .registers) (p .registers))
-      (putMid 0 (n - 0) (l .lanes) (p .lanes)) (putMid 0 (w - 0) (l .words) (p .words)) ≡
-      lists-back b l p
-  lists-come-back p i =
-      lists (back-is (byte b 2) k (l .kinds) (y .of-kinds) (p .kinds) i)
-      (back-is (byte b 3) r (l .registers) (y .of-registers) (p .registers) i)
-      (back-is (byte b 4) n (l .lanes) (y .of-lanes) (p .lanes) i) (back-is (byte b 5) w (l .words) (y .of-words) (p .words) i)
+  lists-come-back : (part : Lists) → put-back k r n w l part ≡ lists-back b l part
+  lists-come-back part i =
+      lists (back-is (byte b 2) k (l .kinds) (y .of-kinds) (part .kinds) i)
+      (back-is (byte b 3) r (l .registers) (y .of-registers) (part .registers) i)
+      (back-is (byte b 4) n (l .lanes) (y .of-lanes) (part .lanes) i) (back-is (byte b 5) w (l .words) (y .of-words) (part .words) i)
 
   -- The call on the lent parts, which then come back, is what the record asks for.
   pub carried :
-      {o : Transcribed} {s′ kinds registers lanes words : List ℕ} →
-      Called (writes b) (take (m - 0) s)
-      (lists (take (k - 0) (l .kinds)) (take (r - 0) (l .registers)) (take (n - 0) (l .lanes)) (take (w - 0) (l .words))) o s′
-      (lists kinds registers lanes words) →
-      Carried b s l o (putMid 0 (m - 0) s s′)
-      (lists (putMid 0 (k - 0) (l .kinds) kinds) (putMid 0 (r - 0) (l .registers) registers) (putMid 0 (n - 0) (l .lanes) lanes)
-      (putMid 0 (w - 0) (l .words) words))
+      {o : Transcribed} {s′ : List ℕ} {l′ : Lists} →
+      Called (writes b) (take (m - 0) s) (parts k r n w l) o s′ l′ →
+      Carried b s l o (putMid 0 (m - 0) s s′) (put-back k r n w l l′)
   unfolding answer-from string-from lists-from
-  carried {o} {s′} {kinds} {registers} {lanes} {words} c =
+  carried {o} {s′} {l′} c =
       record {
         answer = c .answer ∙ (λ i. called-answer (writes b) (string-is i) (lists-are i));
         string = back-is (byte b 1) m s (y .of-string) s′
             ∙ ap (string-back b s) (c .string ∙ (λ i. called-string (writes b) (string-is i) (lists-are i)));
-        lists = lists-come-back (lists kinds registers lanes words)
-            ∙ ap (lists-back b l) (c .lists ∙ (λ i. called-lists (writes b) (string-is i) (lists-are i)));
+        lists = lists-come-back l′ ∙ ap (lists-back b l) (c .lists ∙ (λ i. called-lists (writes b) (string-is i) (lists-are i)));
       }
 
 -- The lists may be those that the record holds.

@@ -4,6 +4,13 @@ use Rattle.transcript_trial.proofs.OneRecord.{by-writer, by-reader}
 use Rattle.transcript_trial.proofs.carrying.call.Statement.{statement}
 use Rattle.transcript_trial.proofs.carrying.call.Tie as tie
 
+-- back from the end, where the writer or the reader is done
+abbrev wrote : tie.After-slice-known6 → tie.After-write-transcript
+wrote c = c .before .before
+
+abbrev read : tie.After-slice-known10 → tie.After-read-transcript
+read c = c .before .before .before .before .before .before .before .before
+
 write-transcript-requires : tie.Need-write-transcript-requires
 write-transcript-requires c κs = tt
 
@@ -23,7 +30,7 @@ same-length-5 : tie.Need-same-length-5
 same-length-5 c = search needs
 
 returns : tie.Need-returns
-returns c = by-writer (c .before .before .before .before .before .before .before .before .if1 .taken) (c .before .before .write-transcript .ensures)
+returns c = by-writer (wrote c .before .before .before .before .before .before .if1 .taken) (wrote c .write-transcript .ensures)
 
 read-transcript-requires : tie.Need-read-transcript-requires
 read-transcript-requires c κs = tt
@@ -44,7 +51,7 @@ same-length-10 : tie.Need-same-length-10
 same-length-10 c = search needs
 
 returns-2 : tie.Need-returns-2
-returns-2 c = by-reader (c .before .before .before .before .before .before .before .before .before .before .before .before .before .before .if1 .left) (c .before .before .before .before .before .before .before .before .read-transcript .ensures)
+returns-2 c = by-reader (read c .before .before .before .before .before .before .if1 .left) (read c .read-transcript .ensures)
 
 pub call-spec : {M : Type 1} → statement M
 call-spec =

@@ -6,27 +6,27 @@ use Rattle.transcript_trial.proofs.OneRecord.{smaller-of, carried}
 use Rattle.transcript_trial.proofs.carrying.carry_out.Statement.{statement}
 use Rattle.transcript_trial.proofs.carrying.carry_out.Tie as tie
 
--- Back from the end: where the call is done, where the places of each list and of the string are counted, and the start.
+-- back from the end: where the call is done, where the places of each list and of the string are counted, and the start
 abbrev done : tie.After-slice-known10 → tie.After-call
 done c = c .before .before .before .before .before .before .before .before .before .before
 
-abbrev words : tie.After-call → tie.After-places-lent5
-words d = d .before .before .before .before .before .before .before
+abbrev words : tie.After-slice-known10 → tie.After-places-lent5
+words c = done c .before .before .before .before .before .before .before
 
-abbrev lanes : tie.After-call → tie.After-places-lent4
-lanes d = words d .before .before
+abbrev lanes : tie.After-slice-known10 → tie.After-places-lent4
+lanes c = words c .before .before
 
-abbrev registers : tie.After-call → tie.After-places-lent3
-registers d = lanes d .before .before
+abbrev registers : tie.After-slice-known10 → tie.After-places-lent3
+registers c = lanes c .before .before
 
-abbrev kinds : tie.After-call → tie.After-places-lent2
-kinds d = registers d .before .before
+abbrev kinds : tie.After-slice-known10 → tie.After-places-lent2
+kinds c = registers c .before .before
 
-abbrev string : tie.After-call → tie.After-places-lent
-string d = kinds d .before .before
+abbrev string : tie.After-slice-known10 → tie.After-places-lent
+string c = kinds c .before .before
 
-abbrev start : tie.After-call → tie.Start
-start d = string d .before .before .before .before .before .before .before
+abbrev start : tie.After-slice-known10 → tie.Start
+start c = string c .before .before .before .before .before .before .before
 
 element-copy-out-places-lent : tie.Need-element-copy-out-places-lent
 element-copy-out-places-lent c = search needs
@@ -123,41 +123,40 @@ call-requires c κs = tt
 
 same-length : tie.Need-same-length
 same-length c =
-    let d = done c in
-    same-len-mid 0 (string d .places-lent .result - 0) (start d .args .string .now) (d .call .last .1 .0) (d .call .kept .1 .0)
+    let d = done c .call in
+    same-len-mid 0 (string c .places-lent .result - 0) (start c .args .string .now) (d .last .1 .0) (d .kept .1 .0)
 
 same-length-2 : tie.Need-same-length-2
 same-length-2 c =
-    let d = done c in
-    same-len-mid 0 (kinds d .places-lent2 .result - 0) (start d .args .kinds .now) (d .call .last .1 .1 .0) (d .call .kept .1 .1 .0)
+    let d = done c .call in
+    same-len-mid 0 (kinds c .places-lent2 .result - 0) (start c .args .kinds .now) (d .last .1 .1 .0) (d .kept .1 .1 .0)
 
 same-length-3 : tie.Need-same-length-3
 same-length-3 c =
-    let d = done c in
-    same-len-mid 0 (registers d .places-lent3 .result - 0) (start d .args .registers .now) (d .call .last .1 .1 .1 .0) (d .call .kept .1 .1 .1 .0)
+    let d = done c .call in
+    same-len-mid 0 (registers c .places-lent3 .result - 0) (start c .args .registers .now) (d .last .1 .1 .1 .0) (d .kept .1 .1 .1 .0)
 
 same-length-4 : tie.Need-same-length-4
 same-length-4 c =
-    let d = done c in
-    same-len-mid 0 (lanes d .places-lent4 .result - 0) (start d .args .lanes .now) (d .call .last .1 .1 .1 .1 .0) (d .call .kept .1 .1 .1 .1 .0)
+    let d = done c .call in
+    same-len-mid 0 (lanes c .places-lent4 .result - 0) (start c .args .lanes .now) (d .last .1 .1 .1 .1 .0) (d .kept .1 .1 .1 .1 .0)
 
 same-length-5 : tie.Need-same-length-5
 same-length-5 c =
-    let d = done c in
-    same-len-mid 0 (words d .places-lent5 .result - 0) (start d .args .words .now) (d .call .last .1 .1 .1 .1 .1 .0) (d .call .kept .1 .1 .1 .1 .1 .0)
+    let d = done c .call in
+    same-len-mid 0 (words c .places-lent5 .result - 0) (start c .args .words .now) (d .last .1 .1 .1 .1 .1 .0) (d .kept .1 .1 .1 .1 .1 .0)
 
 returns : tie.Need-returns
 returns c =
-    let d = done c in
     carried
     (record {
-      of-string = string d .places-lent .ensures;
-      of-kinds = kinds d .places-lent2 .ensures;
-      of-registers = registers d .places-lent3 .ensures;
-      of-lanes = lanes d .places-lent4 .ensures;
-      of-words = words d .places-lent5 .ensures;
+      of-string = string c .places-lent .ensures;
+      of-kinds = kinds c .places-lent2 .ensures;
+      of-registers = registers c .places-lent3 .ensures;
+      of-lanes = lanes c .places-lent4 .ensures;
+      of-words = words c .places-lent5 .ensures;
     })
-    (d .call .ensures)
+    (done c .call .ensures)
 
 pub carry-out-spec : {M : Type 1} → statement M
 carry-out-spec =

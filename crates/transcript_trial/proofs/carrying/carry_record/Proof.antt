@@ -5,6 +5,22 @@ use Rattle.transcript_trial.proofs.OneRecord.{on-its-lists}
 use Rattle.transcript_trial.proofs.carrying.carry_record.Statement.{statement}
 use Rattle.transcript_trial.proofs.carrying.carry_record.Tie as tie
 
+-- back from the end: where the call is done, and where each list is read
+abbrev done : tie.After-words2 → tie.After-carry-out
+done c = c .before .before .before .before .before .before
+
+abbrev words : tie.After-words2 → tie.After-column-at4
+words c = done c .before .before .before .before .before .before
+
+abbrev lanes : tie.After-words2 → tie.After-column-at3
+lanes c = words c .before
+
+abbrev registers : tie.After-words2 → tie.After-column-at2
+registers c = lanes c .before
+
+abbrev kinds : tie.After-words2 → tie.After-column-at
+kinds c = registers c .before
+
 column-at-requires : tie.Need-column-at-requires
 column-at-requires c κs = omega arith
 
@@ -37,7 +53,8 @@ same-length c = search needs
 
 returns : tie.Need-returns
 returns c =
-    on-its-lists (c .before .before .before .before .before .before .before .before .before .before .before .before .before .before .before .column-at .ensures) (c .before .before .before .before .before .before .before .before .before .before .before .before .before .before .column-at2 .ensures) (c .before .before .before .before .before .before .before .before .before .before .before .before .before .column-at3 .ensures) (c .before .before .before .before .before .before .before .before .before .before .before .before .column-at4 .ensures) (c .before .before .before .before .before .before .carry-out .ensures)
+    on-its-lists (kinds c .column-at .ensures) (registers c .column-at2 .ensures) (lanes c .column-at3 .ensures)
+    (words c .column-at4 .ensures) (done c .carry-out .ensures)
 
 pub carry-record-spec : {M : Type 1} → statement M
 carry-record-spec =

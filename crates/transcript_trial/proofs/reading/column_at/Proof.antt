@@ -38,7 +38,19 @@ number-at-requires-6 : tie.Need-number-at-requires-6
 number-at-requires-6 c κs = omega arith
 
 returns : tie.Need-returns
-returns c = rw (c .before .before .before .before .before .number-at .ensures, c .before .before .before .before .number-at2 .ensures, c .before .before .before .number-at3 .ensures, c .before .before .number-at4 .ensures, c .before .number-at5 .ensures, c .number-at6 .ensures)
+returns c =
+    let e5 = c .before in
+    let e4 = e5 .before in
+    let e3 = e4 .before in
+    let e2 = e3 .before in
+    rw (
+      e2 .before .number-at .ensures,
+      e2 .number-at2 .ensures,
+      e3 .number-at3 .ensures,
+      e4 .number-at4 .ensures,
+      e5 .number-at5 .ensures,
+      c .number-at6 .ensures,
+    )
 
 pub column-at-spec : {M : Type 1} → statement M
 column-at-spec =
