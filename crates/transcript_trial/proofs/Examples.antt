@@ -47,6 +47,8 @@ pub record Says : Type 0 where
       lists (10 ∷ 11 ∷ []) (20 ∷ 21 ∷ 22 ∷ []) (30 ∷ 31 ∷ 32 ∷ 33 ∷ []) (40 ∷ 41 ∷ 42 ∷ 43 ∷ 44 ∷ [])
   -- more than there are: all of them
   pub no-more : lists-lent (0 ∷ 0 ∷ 7 ∷ 255 ∷ 6 ∷ 7 ∷ []) apart ≡ apart
+  -- a byte that is not there counts as 0
+  pub no-bytes : lists-lent [] apart ≡ lists [] [] [] []
   -- and what is lent comes back as other numbers
   pub string-again : string-back own-places six (0xEE ∷ []) ≡ 0xEE ∷ 0x1D ∷ 0xA4 ∷ 0x34 ∷ 0x07 ∷ 0x20 ∷ []
   pub lists-again :
@@ -62,6 +64,7 @@ they-say =
       string-part = refl;
       lists-part = refl;
       no-more = refl;
+      no-bytes = refl;
       string-again = refl;
       lists-again = refl;
     }
