@@ -19,7 +19,7 @@ pub(crate) struct Left {
     pub words: [u32; 6],
 }
 
-// How many places are lent, where a byte of the record says how many and there are so many.
+// How many of so many places are lent, where the record says b: all of them if it says more.
 fn places_lent(b: u8, length: usize) -> usize
     ensures { λ r. ⌜ r ≡ min b length ⌝ }
 {
