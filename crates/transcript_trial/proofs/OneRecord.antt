@@ -11,21 +11,21 @@ use Rattle.transcript_bytes.specs.Lists.{Lists, lists}
 use Rattle.transcript_bytes.specs.Reading.{ReadTranscript}
 use Rattle.transcript_bytes.specs.Writing.{WroteTranscript}
 use Rattle.transcript_bytes.specs.declared.Transcribed.{Transcribed}
-use Rattle.transcript_trial.specs.Record.{byte, column, lists-in, writes, string-lent, string-back, lists-lent, lists-back}
+use Rattle.transcript_trial.specs.Record.{byte, column, lists-in, reads, string-lent, string-back, lists-lent, lists-back}
 use Rattle.transcript_trial.specs.Carried.{called-answer, called-string, called-lists, Called}
 use Rattle.transcript_trial.specs.Carried.{answer-from, string-from, lists-from, Carried}
 
 -- ---- a call
-module _ {writer : Bool} {s : List ℕ} {l : Lists} {o : Transcribed} where
-  -- The writer leaves the lists.
-  pub by-writer : {s′ : List ℕ} → writer ≡ true → WroteTranscript l s o s′ → Called writer s l o s′ l
-  unfolding called-answer called-string called-lists
-  by-writer e w = record { answer = rw e (w .answer); string = rw e (w .bytes); lists = rw e }
-
+module _ {reader : Bool} {s : List ℕ} {l : Lists} {o : Transcribed} where
   -- The reader leaves the string.
-  pub by-reader : {l′ : Lists} → writer ≡ false → ReadTranscript s l o l′ → Called writer s l o s l′
+  pub by-reader : {l′ : Lists} → reader ≡ true → ReadTranscript s l o l′ → Called reader s l o s l′
   unfolding called-answer called-string called-lists
   by-reader e r = record { answer = rw e (r .answer); string = rw e; lists = rw e (r .lists) }
+
+  -- The writer leaves the lists.
+  pub by-writer : {s′ : List ℕ} → reader ≡ false → WroteTranscript l s o s′ → Called reader s l o s′ l
+  unfolding called-answer called-string called-lists
+  by-writer e w = record { answer = rw e (w .answer); string = rw e (w .bytes); lists = rw e }
 
 -- ---- a record
 
@@ -68,15 +68,15 @@ module _ {b s : List ℕ} {l : Lists} {m k r n w : ℕ} (y : Lends b s l m k r n
   -- The call on the lent parts, which then come back, is what the record asks for.
   pub carried :
       {o : Transcribed} {s′ : List ℕ} {l′ : Lists} →
-      Called (writes b) (take (m - 0) s) (parts k r n w l) o s′ l′ →
+      Called (reads b) (take (m - 0) s) (parts k r n w l) o s′ l′ →
       Carried b s l o (putMid 0 (m - 0) s s′) (put-back k r n w l l′)
   unfolding answer-from string-from lists-from
   carried {o} {s′} {l′} c =
       record {
-        answer = c .answer ∙ (λ i. called-answer (writes b) (string-is i) (lists-are i));
+        answer = c .answer ∙ (λ i. called-answer (reads b) (string-is i) (lists-are i));
         string = back-is (byte b 1) m s (y .of-string) s′
-            ∙ ap (string-back b s) (c .string ∙ (λ i. called-string (writes b) (string-is i) (lists-are i)));
-        lists = lists-come-back l′ ∙ ap (lists-back b l) (c .lists ∙ (λ i. called-lists (writes b) (string-is i) (lists-are i)));
+            ∙ ap (string-back b s) (c .string ∙ (λ i. called-string (reads b) (string-is i) (lists-are i)));
+        lists = lists-come-back l′ ∙ ap (lists-back b l) (c .lists ∙ (λ i. called-lists (reads b) (string-is i) (lists-are i)));
       }
 
 -- The lists may be those that the record holds.

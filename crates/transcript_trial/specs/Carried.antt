@@ -1,5 +1,5 @@
 -- A record carried out: crates/transcript_trial/src/main.rt.
---   called-answer, called-string, called-lists   of a call of the writer, or else of the reader: its answer, and what it leaves of the
+--   called-answer, called-string, called-lists   of a call of the reader, or else of the writer: its answer, and what it leaves of the
 --                                                string and of the lists that it is lent
 --   answer-from, string-from, lists-from         the same of a record's call, which is lent parts
 --   Called, Carried                              these, as the contracts of a call and of carrying out a record
@@ -12,34 +12,34 @@ use Rattle.transcript_bytes.specs.Lists.{Lists, size, entries-in}
 use Rattle.transcript_bytes.specs.Reading.{read-answer, lists-after}
 use Rattle.transcript_bytes.specs.Writing.{write-answer, bytes-after}
 use Rattle.transcript_bytes.specs.declared.Transcribed.{Transcribed}
-use Rattle.transcript_trial.specs.Record.{writes, string-lent, string-back, lists-lent, lists-back}
+use Rattle.transcript_trial.specs.Record.{reads, string-lent, string-back, lists-lent, lists-back}
 
 -- ---- a call, on all of a string and of four lists
-module _ (writer : Bool) (s : List ℕ) (l : Lists) where
+module _ (reader : Bool) (s : List ℕ) (l : Lists) where
   unfoldable pub called-answer : Transcribed
-  called-answer = cond writer (write-answer (entries-in l) (length s)) (read-answer s (size l))
+  called-answer = cond reader (read-answer s (size l)) (write-answer (entries-in l) (length s))
 
   unfoldable pub called-string : List ℕ
-  called-string = cond writer (bytes-after (entries-in l) s) s
+  called-string = cond reader s (bytes-after (entries-in l) s)
 
   unfoldable pub called-lists : Lists
-  called-lists = cond writer l (lists-after s l)
+  called-lists = cond reader (lists-after s l) l
 
-pub record Called (writer : Bool) (s : List ℕ) (l : Lists) (o : Transcribed) (s′ : List ℕ) (l′ : Lists) : Type 0 where
-  pub answer : o ≡ called-answer writer s l
-  pub string : s′ ≡ called-string writer s l
-  pub lists : l′ ≡ called-lists writer s l
+pub record Called (reader : Bool) (s : List ℕ) (l : Lists) (o : Transcribed) (s′ : List ℕ) (l′ : Lists) : Type 0 where
+  pub answer : o ≡ called-answer reader s l
+  pub string : s′ ≡ called-string reader s l
+  pub lists : l′ ≡ called-lists reader s l
 
 -- ---- the record b, with its string and its lists
 module _ (b s : List ℕ) (l : Lists) where
   unfoldable pub answer-from : Transcribed
-  answer-from = called-answer (writes b) (string-lent b s) (lists-lent b l)
+  answer-from = called-answer (reads b) (string-lent b s) (lists-lent b l)
 
   unfoldable pub string-from : List ℕ
-  string-from = string-back b s (called-string (writes b) (string-lent b s) (lists-lent b l))
+  string-from = string-back b s (called-string (reads b) (string-lent b s) (lists-lent b l))
 
   unfoldable pub lists-from : Lists
-  lists-from = lists-back b l (called-lists (writes b) (string-lent b s) (lists-lent b l))
+  lists-from = lists-back b l (called-lists (reads b) (string-lent b s) (lists-lent b l))
 
 pub record Carried (b s : List ℕ) (l : Lists) (o : Transcribed) (s′ : List ℕ) (l′ : Lists) : Type 0 where
   pub answer : o ≡ answer-from b s l

@@ -26,23 +26,23 @@ fn places_lent(b: u8, length: usize) -> usize
     least(b as usize, length)
 }
 
-// One call, of the writer or else of the reader.
+// One call, of the reader or else of the writer.
 fn call(
-    writer: bool,
+    reader: bool,
     string: &mut [u8],
     kinds: &mut [u32],
     registers: &mut [u32],
     lanes: &mut [u32],
     words: &mut [u32],
 ) -> Transcribed
-    ensures { λ o. ⌜ Called writer (now (string .entry))
+    ensures { λ o. ⌜ Called reader (now (string .entry))
         (lists (now (kinds .entry)) (now (registers .entry)) (now (lanes .entry)) (now (words .entry)))
         o (now (string .exit)) (lists (now (kinds .exit)) (now (registers .exit)) (now (lanes .exit)) (now (words .exit))) ⌝ }
 {
-    if writer {
-        return write_transcript(kinds, registers, lanes, words, string);
+    if reader {
+        return read_transcript(string, kinds, registers, lanes, words);
     }
-    read_transcript(string, kinds, registers, lanes, words)
+    write_transcript(kinds, registers, lanes, words, string)
 }
 
 // The record's call. What it is lent of the string and of each list is their first places, as many as the record says.
@@ -65,7 +65,7 @@ fn carry_out(
     let l = places_lent(bytes[4], lanes.len());
     let w = places_lent(bytes[5], words.len());
     call(
-        bytes[0] % 2 == 0,
+        bytes[0] % 2 == 1,
         &mut string[start..s],
         &mut kinds[start..k],
         &mut registers[start..r],

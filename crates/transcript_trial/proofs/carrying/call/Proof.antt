@@ -1,18 +1,18 @@
 -- `transcript_trial::carrying::call` meets its contract: each of the two calls leaves what the other may change.
 use borrow.Author.Needs.{needs}
-use Rattle.transcript_trial.proofs.OneRecord.{by-writer, by-reader}
+use Rattle.transcript_trial.proofs.OneRecord.{by-reader, by-writer}
 use Rattle.transcript_trial.proofs.carrying.call.Statement.{statement}
 use Rattle.transcript_trial.proofs.carrying.call.Tie as tie
 
--- back from the end, where the writer or the reader is done
-abbrev wrote : tie.After-slice-known6 → tie.After-write-transcript
-wrote c = c .before .before
-
-abbrev read : tie.After-slice-known10 → tie.After-read-transcript
+-- back from the end, where the reader or the writer is done
+abbrev read : tie.After-slice-known9 → tie.After-read-transcript
 read c = c .before .before .before .before .before .before .before .before
 
-write-transcript-requires : tie.Need-write-transcript-requires
-write-transcript-requires c κs = tt
+abbrev wrote : tie.After-slice-known10 → tie.After-write-transcript
+wrote c = c .before .before
+
+read-transcript-requires : tie.Need-read-transcript-requires
+read-transcript-requires c κs = tt
 
 same-length : tie.Need-same-length
 same-length c = search needs
@@ -30,10 +30,10 @@ same-length-5 : tie.Need-same-length-5
 same-length-5 c = search needs
 
 returns : tie.Need-returns
-returns c = by-writer (wrote c .before .before .before .before .before .before .if1 .taken) (wrote c .write-transcript .ensures)
+returns c = by-reader (read c .before .before .before .before .before .before .if1 .taken) (read c .read-transcript .ensures)
 
-read-transcript-requires : tie.Need-read-transcript-requires
-read-transcript-requires c κs = tt
+write-transcript-requires : tie.Need-write-transcript-requires
+write-transcript-requires c κs = tt
 
 same-length-6 : tie.Need-same-length-6
 same-length-6 c = search needs
@@ -51,20 +51,20 @@ same-length-10 : tie.Need-same-length-10
 same-length-10 c = search needs
 
 returns-2 : tie.Need-returns-2
-returns-2 c = by-reader (read c .before .before .before .before .before .before .if1 .left) (read c .read-transcript .ensures)
+returns-2 c = by-writer (wrote c .before .before .before .before .before .before .if1 .left) (wrote c .write-transcript .ensures)
 
 pub call-spec : {M : Type 1} → statement M
 call-spec =
     tie.close
     (tie.spec
-    write-transcript-requires
+    read-transcript-requires
     same-length
     same-length-2
     same-length-3
     same-length-4
     same-length-5
     returns
-    read-transcript-requires
+    write-transcript-requires
     same-length-6
     same-length-7
     same-length-8
