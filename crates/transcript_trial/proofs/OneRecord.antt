@@ -1,0 +1,88 @@
+-- A record is carried out by a call on the first places of its string and of its lists, which then come back.
+use Prim.Native.Nat.{ℕ, _-_, _≤_, min}
+use native.Mathlib.Omega.{arith}
+use mathlib.Core.Path.{_≡_, subst, ap, _∙_}
+use mathlib.Core.Bool.{Bool, true, false}
+use mathlib.Core.List.{List}
+use lib.ListN.{length, take}
+use borrow.Rule.Slice.PartMut.{putMid}
+use Rattle.words.proofs.Lent.{lent-is, back-is}
+use Rattle.transcript_bytes.specs.Lists.{Lists, lists}
+use Rattle.transcript_bytes.specs.Reading.{ReadTranscript}
+use Rattle.transcript_bytes.specs.Writing.{WroteTranscript}
+use Rattle.transcript_bytes.specs.declared.Transcribed.{Transcribed}
+use Rattle.transcript_trial.specs.Record.{byte, column, lists-in, reads, string-lent, string-back, lists-lent, lists-back}
+use Rattle.transcript_trial.specs.Carried.{called-answer, called-string, called-lists, Called}
+use Rattle.transcript_trial.specs.Carried.{answer-from, string-from, lists-from, Carried}
+
+-- ---- a call
+module _ {reader : Bool} {s : List ℕ} {l : Lists} {o : Transcribed} where
+  -- The reader leaves the string.
+  pub by-reader : {l′ : Lists} → reader ≡ true → ReadTranscript s l o l′ → Called reader s l o s l′
+  unfolding called-answer called-string called-lists
+  by-reader e r = record { answer = rw e (r .answer); string = rw e; lists = rw e (r .lists) }
+
+  -- The writer leaves the lists.
+  pub by-writer : {s′ : List ℕ} → reader ≡ false → WroteTranscript l s o s′ → Called reader s l o s′ l
+  unfolding called-answer called-string called-lists
+  by-writer e w = record { answer = rw e (w .answer); string = rw e (w .bytes); lists = rw e }
+
+-- ---- a record
+
+-- No more are lent than there are.
+pub smaller-of : (k m : ℕ) {n : ℕ} → n ≡ min k m → n ≤ m
+smaller-of k m e = omega arith
+
+-- what code lends of four lists, so many places of each, and the lists when these come back as `part`
+abbrev parts : ℕ → ℕ → ℕ → ℕ → Lists → Lists
+parts k r n w l = lists (take (k - 0) (l .kinds)) (take (r - 0) (l .registers)) (take (n - 0) (l .lanes)) (take (w - 0) (l .words))
+
+abbrev put-back : ℕ → ℕ → ℕ → ℕ → Lists → Lists → Lists
+put-back k r n w l part =
+    lists (putMid 0 (k - 0) (l .kinds) (part .kinds)) (putMid 0 (r - 0) (l .registers) (part .registers))
+    (putMid 0 (n - 0) (l .lanes) (part .lanes)) (putMid 0 (w - 0) (l .words) (part .words))
+
+-- The numbers are those that the record b says: m of the string, k of the kinds, r of the registers, n of the lanes, w of the words.
+pub record Lends (b s : List ℕ) (l : Lists) (m k r n w : ℕ) : Type 0 where
+  pub of-string : m ≡ min (byte b 1) (length s)
+  pub of-kinds : k ≡ min (byte b 2) (length (l .kinds))
+  pub of-registers : r ≡ min (byte b 3) (length (l .registers))
+  pub of-lanes : n ≡ min (byte b 4) (length (l .lanes))
+  pub of-words : w ≡ min (byte b 5) (length (l .words))
+
+module _ {b s : List ℕ} {l : Lists} {m k r n w : ℕ} (y : Lends b s l m k r n w) where
+  string-is : take (m - 0) s ≡ string-lent b s
+  string-is = lent-is (byte b 1) m s (y .of-string)
+
+  lists-are : parts k r n w l ≡ lists-lent b l
+  lists-are i =
+      lists (lent-is (byte b 2) k (l .kinds) (y .of-kinds) i) (lent-is (byte b 3) r (l .registers) (y .of-registers) i)
+      (lent-is (byte b 4) n (l .lanes) (y .of-lanes) i) (lent-is (byte b 5) w (l .words) (y .of-words) i)
+
+  lists-come-back : (part : Lists) → put-back k r n w l part ≡ lists-back b l part
+  lists-come-back part i =
+      lists (back-is (byte b 2) k (l .kinds) (y .of-kinds) (part .kinds) i)
+      (back-is (byte b 3) r (l .registers) (y .of-registers) (part .registers) i)
+      (back-is (byte b 4) n (l .lanes) (y .of-lanes) (part .lanes) i) (back-is (byte b 5) w (l .words) (y .of-words) (part .words) i)
+
+  -- The call on the lent parts, which then come back, is what the record asks for.
+  pub carried :
+      {o : Transcribed} {s′ : List ℕ} {l′ : Lists} →
+      Called (reads b) (take (m - 0) s) (parts k r n w l) o s′ l′ →
+      Carried b s l o (putMid 0 (m - 0) s s′) (put-back k r n w l l′)
+  unfolding answer-from string-from lists-from
+  carried {o} {s′} {l′} c =
+      record {
+        answer = c .answer ∙ (λ i. called-answer (reads b) (string-is i) (lists-are i));
+        string = back-is (byte b 1) m s (y .of-string) s′
+            ∙ ap (string-back b s) (c .string ∙ (λ i. called-string (reads b) (string-is i) (lists-are i)));
+        lists = lists-come-back l′ ∙ ap (lists-back b l) (c .lists ∙ (λ i. called-lists (reads b) (string-is i) (lists-are i)));
+      }
+
+-- The lists may be those that the record holds.
+pub on-its-lists :
+    {b s kinds registers lanes words : List ℕ} {o : Transcribed} {s′ : List ℕ} {l′ : Lists} →
+    kinds ≡ column b 0 → registers ≡ column b 6 → lanes ≡ column b 12 → words ≡ column b 18 →
+    Carried b s (lists kinds registers lanes words) o s′ l′ → Carried b s (lists-in b) o s′ l′
+on-its-lists {b} {s} {kinds} {registers} {lanes} {words} {o} {s′} {l′} e f g h c =
+    subst (λ (l : Lists). Carried b s l o s′ l′) (λ i. lists (e i) (f i) (g i) (h i)) c
