@@ -9,12 +9,11 @@
 //
 // There is room for 32,768 accesses: as lines they have at most 360,448 bytes, and as a transcript at most 131,072.
 mod messages;
-mod turning;
 
+use exchange::Turned;
+use exchange::bytes_to_lines;
+use exchange::lines_to_bytes;
 use messages::say;
-use turning::Turned;
-use turning::to_bytes;
-use turning::to_lines;
 
 // Lines in, a transcript out. Input that fills its buffer may have more behind it, and is too long.
 fn write_bytes(
@@ -30,7 +29,7 @@ fn write_bytes(
         io::write_all(2, b"transcript: input too long\n");
         return;
     }
-    let turned = to_bytes(&text[..n], kinds, registers, lanes, words, bytes);
+    let turned = lines_to_bytes(&text[..n], kinds, registers, lanes, words, bytes);
     match turned {
         Turned::Done(k) => {
             let start = 0;
@@ -54,7 +53,7 @@ fn write_lines(
         io::write_all(2, b"transcript: input too long\n");
         return;
     }
-    let turned = to_lines(&bytes[..n], kinds, registers, lanes, words, text);
+    let turned = bytes_to_lines(&bytes[..n], kinds, registers, lanes, words, text);
     match turned {
         Turned::Done(k) => {
             let start = 0;

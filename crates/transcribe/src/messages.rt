@@ -1,5 +1,5 @@
 // What is said on standard error of an input that is not turned.
-use crate::turning::Turned;
+use exchange::Turned;
 
 // A line or a byte, by its number.
 fn say_place(place: &[u8], number: u64) {

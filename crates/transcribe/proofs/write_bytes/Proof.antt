@@ -1,6 +1,6 @@
 -- `transcribe::write_bytes` meets its contract: what is written lies in the output.
 use native.Mathlib.Omega.{arith}
-use Rattle.transcribe.proofs.Done.{bytes-fit}
+use Rattle.exchange.proofs.Done.{bytes-fit}
 use borrow.Author.Needs.{needs}
 use Rattle.transcribe.proofs.write_bytes.Statement.{statement}
 use Rattle.transcribe.proofs.write_bytes.Tie as tie
@@ -20,14 +20,14 @@ same-length c = search needs
 returns : tie.Need-returns
 returns c = search needs
 
-slice-reshare-prefix-to-bytes : tie.Need-slice-reshare-prefix-to-bytes
-slice-reshare-prefix-to-bytes c = search needs
+slice-reshare-prefix-lines-to-bytes : tie.Need-slice-reshare-prefix-lines-to-bytes
+slice-reshare-prefix-lines-to-bytes c = search needs
 
-slice-aggregate-to-bytes : tie.Need-slice-aggregate-to-bytes
-slice-aggregate-to-bytes c = search needs
+slice-aggregate-lines-to-bytes : tie.Need-slice-aggregate-lines-to-bytes
+slice-aggregate-lines-to-bytes c = search needs
 
-to-bytes-requires : tie.Need-to-bytes-requires
-to-bytes-requires c κs = search needs
+lines-to-bytes-requires : tie.Need-lines-to-bytes-requires
+lines-to-bytes-requires c κs = search needs
 
 enum-known-turned : tie.Need-enum-known-turned
 enum-known-turned c = search needs
@@ -40,7 +40,7 @@ part-write-all-start c = search needs
 
 part-write-all-end : tie.Need-part-write-all-end
 part-write-all-end c =
-    let turned = c .before .before .before .before .before .before .before .before .before .before .before .before .before .before .to-bytes in
+    let turned = c .before .before .before .before .before .before .before .before .before .before .before .before .before .before .lines-to-bytes in
     omega (arith, bytes-fit (turned .ensures) (c .before .before .turned .given .1), turned .kept .1 .1 .1 .1 .1 .0)
 
 write-all-requires-2 : tie.Need-write-all-requires-2
@@ -103,9 +103,9 @@ write-bytes-spec =
     write-all-requires
     same-length
     returns
-    slice-reshare-prefix-to-bytes
-    slice-aggregate-to-bytes
-    to-bytes-requires
+    slice-reshare-prefix-lines-to-bytes
+    slice-aggregate-lines-to-bytes
+    lines-to-bytes-requires
     enum-known-turned
     sub-write-all
     part-write-all-start

@@ -1,6 +1,6 @@
 -- `transcribe::write_lines` meets its contract: what is written lies in the output.
 use native.Mathlib.Omega.{arith}
-use Rattle.transcribe.proofs.Done.{lines-fit}
+use Rattle.exchange.proofs.Done.{lines-fit}
 use borrow.Author.Needs.{needs}
 use Rattle.transcribe.proofs.write_lines.Statement.{statement}
 use Rattle.transcribe.proofs.write_lines.Tie as tie
@@ -20,14 +20,14 @@ same-length c = search needs
 returns : tie.Need-returns
 returns c = search needs
 
-slice-reshare-prefix-to-lines : tie.Need-slice-reshare-prefix-to-lines
-slice-reshare-prefix-to-lines c = search needs
+slice-reshare-prefix-bytes-to-lines : tie.Need-slice-reshare-prefix-bytes-to-lines
+slice-reshare-prefix-bytes-to-lines c = search needs
 
-slice-aggregate-to-lines : tie.Need-slice-aggregate-to-lines
-slice-aggregate-to-lines c = search needs
+slice-aggregate-bytes-to-lines : tie.Need-slice-aggregate-bytes-to-lines
+slice-aggregate-bytes-to-lines c = search needs
 
-to-lines-requires : tie.Need-to-lines-requires
-to-lines-requires c κs = search needs
+bytes-to-lines-requires : tie.Need-bytes-to-lines-requires
+bytes-to-lines-requires c κs = search needs
 
 enum-known-turned : tie.Need-enum-known-turned
 enum-known-turned c = search needs
@@ -40,7 +40,7 @@ part-write-all-start c = search needs
 
 part-write-all-end : tie.Need-part-write-all-end
 part-write-all-end c =
-    let turned = c .before .before .before .before .before .before .before .before .before .before .before .before .before .before .to-lines in
+    let turned = c .before .before .before .before .before .before .before .before .before .before .before .before .before .before .bytes-to-lines in
     omega (arith, lines-fit (turned .ensures) (c .before .before .turned .given .1), turned .kept .1 .1 .1 .1 .1 .0)
 
 write-all-requires-2 : tie.Need-write-all-requires-2
@@ -103,9 +103,9 @@ write-lines-spec =
     write-all-requires
     same-length
     returns
-    slice-reshare-prefix-to-lines
-    slice-aggregate-to-lines
-    to-lines-requires
+    slice-reshare-prefix-bytes-to-lines
+    slice-aggregate-bytes-to-lines
+    bytes-to-lines-requires
     enum-known-turned
     sub-write-all
     part-write-all-start

@@ -5,7 +5,8 @@ ghost use Rattle.transcript_bytes.specs.InPlainWords.{first-places};
 ghost use Rattle.transcript_bytes.specs.Lists.{lists, size};
 ghost use Rattle.transcript_bytes.specs.Writing.{WroteTranscript};
 ghost use Rattle.transcript_lines.specs.Putting.{PutLines};
-ghost use Rattle.transcribe.specs.Turning.{by-answer, by-put, ToBytes, ToLines};
+ghost use Rattle.exchange.specs.Turning.{by-answer, by-put, ToBytes, ToLines};
+use crate::Turned;
 use transcript::read_transcript;
 use transcript::write_transcript;
 use transcript_bytes::Transcribed;
@@ -13,18 +14,6 @@ use transcript_lines::LinesPut;
 use transcript_lines::LinesTaken;
 use transcript_lines::put_lines;
 use transcript_lines::take_lines;
-
-// What became of an input.
-pub enum Turned {
-    // It is turned: so many bytes stand in the output.
-    Done(usize),
-    // A line is bad: so many good ones stand before it.
-    BadLine(usize),
-    // An access or a record is refused with this number: the access's index among the lines, or the record's first byte.
-    Refused(u8, usize),
-    // There are more accesses than the lists have places, or more bytes than the output.
-    TooMany,
-}
 
 // What a writer's or a reader's answer means; `done` where it refuses nothing.
 fn judge(o: Transcribed, done: Turned) -> Turned
@@ -98,8 +87,8 @@ fn put_first(
     )
 }
 
-// The transcript of a text's lines.
-pub(crate) fn to_bytes(
+// The transcript of a text's lines. The lists serve on the way: they are lent, and left with what was taken of the text.
+pub fn lines_to_bytes(
     text: &[u8],
     kinds: &mut [u32],
     registers: &mut [u32],
@@ -109,7 +98,8 @@ pub(crate) fn to_bytes(
 ) -> Turned
     ensures { λ o. ⌜ ToBytes (now (text .entry))
         (lists (now (kinds .entry)) (now (registers .entry)) (now (lanes .entry)) (now (words .entry)))
-        (now (bytes .entry)) o (now (bytes .exit)) ⌝ }
+        (now (bytes .entry)) o
+        (lists (now (kinds .exit)) (now (registers .exit)) (now (lanes .exit)) (now (words .exit))) (now (bytes .exit)) ⌝ }
 {
     let taken = take_lines(text, kinds, registers, lanes, words);
     match taken {
@@ -122,8 +112,8 @@ pub(crate) fn to_bytes(
     }
 }
 
-// The lines of a transcript.
-pub(crate) fn to_lines(
+// The lines of a transcript. The lists serve on the way, as above.
+pub fn bytes_to_lines(
     bytes: &[u8],
     kinds: &mut [u32],
     registers: &mut [u32],
@@ -133,7 +123,8 @@ pub(crate) fn to_lines(
 ) -> Turned
     ensures { λ o. ⌜ ToLines (now (bytes .entry))
         (lists (now (kinds .entry)) (now (registers .entry)) (now (lanes .entry)) (now (words .entry)))
-        (now (text .entry)) o (now (text .exit)) ⌝ }
+        (now (text .entry)) o
+        (lists (now (kinds .exit)) (now (registers .exit)) (now (lanes .exit)) (now (words .exit))) (now (text .exit)) ⌝ }
 {
     let answer = read_transcript(bytes, kinds, registers, lanes, words);
     if answer.number != 0 {

@@ -1,9 +1,9 @@
--- `transcribe::turning::to_lines` meets its contract: a transcript is refused, or the lines of what is read of it are put.
+-- `exchange::turning::bytes_to_lines` meets its contract: a transcript is refused, or the lines of what is read of it are put.
 use native.Mathlib.Omega.{arith}
-use Rattle.transcribe.proofs.Outcomes.{lines-refused, lines-done, read-fits}
+use Rattle.exchange.proofs.Outcomes.{lines-refused, lines-done, read-fits}
 use borrow.Author.Needs.{needs}
-use Rattle.transcribe.proofs.turning.to_lines.Statement.{statement}
-use Rattle.transcribe.proofs.turning.to_lines.Tie as tie
+use Rattle.exchange.proofs.turning.bytes_to_lines.Statement.{statement}
+use Rattle.exchange.proofs.turning.bytes_to_lines.Tie as tie
 
 read-transcript-requires : tie.Need-read-transcript-requires
 read-transcript-requires c κs = search needs
@@ -55,8 +55,8 @@ returns-2 : tie.Need-returns-2
 returns-2 c =
     rw (c .judge-lines .ensures) (lines-done (c .before .before .before .before .before .before .before .before .before .before .before .before .before .before .before .before .before .before .before .read-transcript .ensures) (c .before .before .before .before .before .before .before .before .before .if1 .left) (c .before .before .before .put-first .ensures))
 
-pub to-lines-spec : {M : Type 1} → statement M
-to-lines-spec =
+pub bytes-to-lines-spec : {M : Type 1} → statement M
+bytes-to-lines-spec =
     tie.close
     (tie.spec
     read-transcript-requires

@@ -1,8 +1,8 @@
--- `transcribe::turning::write_first` meets its contract: the parts that are lent are the lists' first places.
+-- `exchange::turning::write_first` meets its contract: the parts that are lent are the lists' first places.
 use native.Mathlib.Nat.{sub-zero}
 use borrow.Author.Needs.{needs}
-use Rattle.transcribe.proofs.turning.write_first.Statement.{statement}
-use Rattle.transcribe.proofs.turning.write_first.Tie as tie
+use Rattle.exchange.proofs.turning.write_first.Statement.{statement}
+use Rattle.exchange.proofs.turning.write_first.Tie as tie
 
 mul-write-transcript : tie.Need-mul-write-transcript
 mul-write-transcript c = search needs

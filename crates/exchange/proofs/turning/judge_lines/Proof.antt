@@ -1,7 +1,7 @@
--- `transcribe::turning::judge_lines` meets its contract, case by case.
+-- `exchange::turning::judge_lines` meets its contract, case by case.
 use borrow.Author.Needs.{needs}
-use Rattle.transcribe.proofs.turning.judge_lines.Statement.{statement}
-use Rattle.transcribe.proofs.turning.judge_lines.Tie as tie
+use Rattle.exchange.proofs.turning.judge_lines.Statement.{statement}
+use Rattle.exchange.proofs.turning.judge_lines.Tie as tie
 
 enum-known-p : tie.Need-enum-known-p
 enum-known-p c = search needs

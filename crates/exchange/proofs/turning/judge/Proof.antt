@@ -1,8 +1,8 @@
--- `transcribe::turning::judge` meets its contract: its tests are those of the definition.
+-- `exchange::turning::judge` meets its contract: its tests are those of the definition.
 use borrow.Author.Tests.{eq-eqb, ne-eqb}
-use Rattle.transcribe.specs.Turning.{by-answer}
-use Rattle.transcribe.proofs.turning.judge.Statement.{statement}
-use Rattle.transcribe.proofs.turning.judge.Tie as tie
+use Rattle.exchange.specs.Turning.{by-answer}
+use Rattle.exchange.proofs.turning.judge.Statement.{statement}
+use Rattle.exchange.proofs.turning.judge.Tie as tie
 
 returns : tie.Need-returns
 unfolding by-answer

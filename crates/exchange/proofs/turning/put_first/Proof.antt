@@ -1,8 +1,8 @@
--- `transcribe::turning::put_first` meets its contract: the parts that are lent are the lists' first places.
+-- `exchange::turning::put_first` meets its contract: the parts that are lent are the lists' first places.
 use native.Mathlib.Nat.{sub-zero}
 use borrow.Author.Needs.{needs}
-use Rattle.transcribe.proofs.turning.put_first.Statement.{statement}
-use Rattle.transcribe.proofs.turning.put_first.Tie as tie
+use Rattle.exchange.proofs.turning.put_first.Statement.{statement}
+use Rattle.exchange.proofs.turning.put_first.Tie as tie
 
 mul-put-lines : tie.Need-mul-put-lines
 mul-put-lines c = search needs

@@ -29,10 +29,10 @@ use Rattle.transcript_lines.specs.declared.LinesTaken.the-variants as taken
 use Rattle.transcript_lines.proofs.PutAnswers.{put-answers}
 use Rattle.transcript_lines.proofs.TakeAnswers.{take-answers, then-taken}
 use Rattle.transcript_lines.proofs.TakenLines.{taken-back, nothing-there}
-use Rattle.transcribe.specs.Turning.{by-answer, by-taken, by-put, written, bytes-turned, lines-turned, is-done, ToBytes, ToLines}
-use Rattle.transcribe.specs.declared.turning.Turned.{Turned}
-use Rattle.transcribe.specs.declared.turning.Turned.the-variants.{Done}
-use Rattle.transcribe.proofs.Done.{bytes-are-done, lines-are-done}
+use Rattle.exchange.specs.Turning.{by-answer, by-taken, by-put, written, bytes-turned, lines-turned, is-done, ToBytes, ToLines}
+use Rattle.exchange.specs.declared.Turned.{Turned}
+use Rattle.exchange.specs.declared.Turned.the-variants.{Done}
+use Rattle.exchange.proofs.Done.{bytes-are-done, lines-are-done}
 
 -- the output's first bytes, where it is done
 first-bytes : (n : ℕ) (o : Turned) (text out : List ℕ) {out′ : List ℕ} → out′ ≡ cond (is-done o) (over text out) out → o ≡ Done n →
@@ -41,12 +41,12 @@ first-bytes n o text out e d c =
     ap (take n) (e ∙ ap (λ (x : Turned). cond (is-done x) (over text out) out) d) ∙ take-at text (drop (length text) out) n c
 
 -- ---- lines, a transcript, lines
-module _ {t out out′ : List ℕ} {l : Lists} {n : ℕ} (p : ToBytes t l out (Done n) out′) where
+module _ {t out out′ : List ℕ} {l l′ : Lists} {n : ℕ} (p : ToBytes t l out (Done n) l′ out′) where
   -- The lines of a text that was turned come back from its transcript, exactly.
-  pub lines-come-back : {k : Lists} {text text′ : List ℕ} {o : Turned} → ToLines (take n out′) k text o text′ →
+  pub lines-come-back : {k k′ : Lists} {text text′ : List ℕ} {o : Turned} → ToLines (take n out′) k text o k′ text′ →
       size l ≤ size k → length t ≤ length text → (o ≡ Done (length t)) × (take (length t) text′ ≡ t)
   unfolding lines-turned by-answer
-  lines-come-back {k} {text} {text′} {o} q places room =
+  lines-come-back {k} {text = text} {o = o} q places room =
       let done = bytes-are-done (sym (p .answer)) in
       let es = taking t .entries in
       let m = take-answers t (size l) (taken.Taken (done .lines)) .0 (done .taken) in
@@ -76,12 +76,12 @@ read-all s room (plain.ReadAs.done {es} q h) z =
 read-all s room (plain.ReadAs.too-small q h) z = absurd (omega arith)
 read-all s room (plain.ReadAs.bad-record {es} {t} {u} {n} e q b) z = absurd (bad-record-number u n b z)
 
-module _ {s out out′ : List ℕ} {l : Lists} {n : ℕ} (b : AreBytes s) (p : ToLines s l out (Done n) out′) where
+module _ {s out out′ : List ℕ} {l l′ : Lists} {n : ℕ} (b : AreBytes s) (p : ToLines s l out (Done n) l′ out′) where
   -- A transcript that was turned comes back from its lines, exactly.
-  pub bytes-come-back : {k : Lists} {bytes bytes′ : List ℕ} {o : Turned} → ToBytes (take n out′) k bytes o bytes′ →
+  pub bytes-come-back : {k k′ : Lists} {bytes bytes′ : List ℕ} {o : Turned} → ToBytes (take n out′) k bytes o k′ bytes′ →
       size l ≤ size k → length s ≤ length bytes → (o ≡ Done (length s)) × (take (length s) bytes′ ≡ s)
   unfolding bytes-turned by-answer
-  bytes-come-back {k} {bytes} {bytes′} {o} q places room =
+  bytes-come-back {k} {bytes = bytes} {o = o} q places room =
       let done = lines-are-done (sym (p .answer)) in
       let es = entries-read s in
       let read = read-all s (size l) (reads-exactly s (size l) (read-answer s (size l)) .0 refl) (done .read) in

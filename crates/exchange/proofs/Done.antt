@@ -23,10 +23,10 @@ use Rattle.transcript_lines.specs.declared.LinesPut.the-variants as put
 use Rattle.transcript_lines.specs.declared.LinesTaken.{LinesTaken}
 use Rattle.transcript_lines.specs.declared.LinesTaken.the-variants as taken
 use Rattle.transcript_lines.proofs.PutAnswers.{put-answers}
-use Rattle.transcribe.specs.Turning.{by-answer, by-taken, by-put, written, bytes-turned, lines-turned, is-done, ToBytes, ToLines}
-use Rattle.transcribe.specs.declared.turning.Turned.{Turned}
-use Rattle.transcribe.specs.declared.turning.Turned.the-variants.{Done}
-use Rattle.transcribe.proofs.Outcomes.{answer-done, refused-not-done}
+use Rattle.exchange.specs.Turning.{by-answer, by-taken, by-put, written, bytes-turned, lines-turned, is-done, ToBytes, ToLines}
+use Rattle.exchange.specs.declared.Turned.{Turned}
+use Rattle.exchange.specs.declared.Turned.the-variants.{Done}
+use Rattle.exchange.proofs.Outcomes.{answer-done, refused-not-done}
 
 -- ---- an answer that means that it is turned refuses nothing
 none-refused : (o : Transcribed) (x : Turned) (k : ℕ) → by-answer o x ≡ Done k → (o .number ≡ 0) × (x ≡ Done k)
@@ -70,7 +70,7 @@ bytes-are-done {t} {room} {out} {k} e =
     record { lines = x .0 .0; taken = x .0 .1; good = z .0; count = sym c ∙ z .1; fits = omega arith }
 
 -- What is turned fits the output.
-pub bytes-fit : {t : List ℕ} {l : Lists} {out out′ : List ℕ} {o : Turned} {k : ℕ} → ToBytes t l out o out′ → o ≡ Done k → k ≤ length out
+pub bytes-fit : {t : List ℕ} {l l′ : Lists} {out out′ : List ℕ} {o : Turned} {k : ℕ} → ToBytes t l out o l′ out′ → o ≡ Done k → k ≤ length out
 bytes-fit p e = bytes-are-done (sym (p .answer) ∙ e) .fits
 
 -- ---- bytes to lines
@@ -92,5 +92,5 @@ lines-are-done {s} {room} {out} {k} e =
     record { read = x .0; put = y; fits = put-answers (entries-read s) out (put.Written k) .0 y .2 }
 
 -- What is turned fits the output.
-pub lines-fit : {s : List ℕ} {l : Lists} {out out′ : List ℕ} {o : Turned} {k : ℕ} → ToLines s l out o out′ → o ≡ Done k → k ≤ length out
+pub lines-fit : {s : List ℕ} {l l′ : Lists} {out out′ : List ℕ} {o : Turned} {k : ℕ} → ToLines s l out o l′ out′ → o ≡ Done k → k ≤ length out
 lines-fit p e = lines-are-done (sym (p .answer) ∙ e) .fits

@@ -1,10 +1,10 @@
--- `transcribe::turning::to_bytes` meets its contract: by what is taken of the text, its transcript is written or nothing is.
+-- `exchange::turning::lines_to_bytes` meets its contract: by what is taken of the text, its transcript is written or nothing is.
 use native.Mathlib.Omega.{arith}
 use Rattle.transcript_lines.proofs.ThereAndBack.{took-entries}
-use Rattle.transcribe.proofs.Outcomes.{bytes-done, bad-line, no-places}
+use Rattle.exchange.proofs.Outcomes.{bytes-done, bad-line, no-places}
 use borrow.Author.Needs.{needs}
-use Rattle.transcribe.proofs.turning.to_bytes.Statement.{statement}
-use Rattle.transcribe.proofs.turning.to_bytes.Tie as tie
+use Rattle.exchange.proofs.turning.lines_to_bytes.Statement.{statement}
+use Rattle.exchange.proofs.turning.lines_to_bytes.Tie as tie
 
 take-lines-requires : tie.Need-take-lines-requires
 take-lines-requires c κs = search needs
@@ -78,8 +78,8 @@ returns-3 : tie.Need-returns-3
 returns-3 c =
     no-places _ (rw (c .enum-told .given .1) at (c .before .before .before .before .before .before .before .before .before .before .take-lines .ensures))
 
-pub to-bytes-spec : {M : Type 1} → statement M
-to-bytes-spec =
+pub lines-to-bytes-spec : {M : Type 1} → statement M
+lines-to-bytes-spec =
     tie.close
     (tie.spec
     take-lines-requires

@@ -25,9 +25,9 @@ use Rattle.transcript_lines.specs.declared.LinesPut.the-variants.{Written, Unsa
 use Rattle.transcript_lines.specs.declared.LinesTaken.{LinesTaken}
 use Rattle.transcript_lines.specs.declared.LinesTaken.the-variants.{Taken, BadLine, NoPlaces}
 use Rattle.transcript_lines.proofs.ThereAndBack.{took-entries}
-use Rattle.transcribe.specs.Turning.{by-answer, by-taken, by-put, written, bytes-turned, lines-turned, is-done, ToBytes, ToLines}
-use Rattle.transcribe.specs.declared.turning.Turned.{Turned}
-use Rattle.transcribe.specs.declared.turning.Turned.the-variants as turned
+use Rattle.exchange.specs.Turning.{by-answer, by-taken, by-put, written, bytes-turned, lines-turned, is-done, ToBytes, ToLines}
+use Rattle.exchange.specs.declared.Turned.{Turned}
+use Rattle.exchange.specs.declared.Turned.the-variants as turned
 
 -- ---- what an answer means
 pub answer-done : (o : Transcribed) (x : Turned) → o .number ≡ 0 → by-answer o x ≡ x
@@ -52,7 +52,7 @@ refused-not-done o x d =
 module _ {t : List ℕ} {l l′ : Lists} {n : ℕ} (p : TookLines t l (Taken n) l′) where
   -- The transcript of what was taken is what is to be turned out.
   pub bytes-done : {out out′ : List ℕ} {a : Transcribed} → WroteTranscript (first-places n l′) out a out′ →
-      ToBytes t l out (by-answer a (turned.Done (a .count))) out′
+      ToBytes t l out (by-answer a (turned.Done (a .count))) l′ out′
   unfolding bytes-turned bytes-after
   bytes-done {out} {out′} {a} q =
       let es = taking t .entries in
@@ -64,6 +64,7 @@ module _ {t : List ℕ} {l l′ : Lists} {n : ℕ} (p : TookLines t l (Taken n) 
         answer =
             ap (λ (x : Transcribed). by-answer x (turned.Done (x .count))) answer
             ∙ ap (λ (x : LinesTaken). by-taken x (written es (length out))) (p .answer);
+        lists = p .lists;
         output =
             ⊎-elim
             (λ z.
@@ -79,14 +80,14 @@ module _ {t : List ℕ} {l l′ : Lists} {n : ℕ} (p : TookLines t l (Taken n) 
 
 module _ {t : List ℕ} {l l′ : Lists} (out : List ℕ) where
   -- A bad line turns out nothing,
-  pub bad-line : {k : ℕ} → TookLines t l (BadLine k) l′ → ToBytes t l out (turned.BadLine k) out
+  pub bad-line : {k : ℕ} → TookLines t l (BadLine k) l′ → ToBytes t l out (turned.BadLine k) l′ out
   unfolding bytes-turned
-  bad-line p = record { answer = ap (λ (x : LinesTaken). by-taken x (written (taking t .entries) (length out))) (p .answer); output = refl }
+  bad-line p = record { answer = ap (λ (x : LinesTaken). by-taken x (written (taking t .entries) (length out))) (p .answer); lists = p .lists; output = refl }
 
   -- nor do too many.
-  pub no-places : TookLines t l NoPlaces l′ → ToBytes t l out turned.TooMany out
+  pub no-places : TookLines t l NoPlaces l′ → ToBytes t l out turned.TooMany l′ out
   unfolding bytes-turned
-  no-places p = record { answer = ap (λ (x : LinesTaken). by-taken x (written (taking t .entries) (length out))) (p .answer); output = refl }
+  no-places p = record { answer = ap (λ (x : LinesTaken). by-taken x (written (taking t .entries) (length out))) (p .answer); lists = p .lists; output = refl }
 
 -- ---- bytes to lines
 put-done : (q : LinesPut) → is-done (by-put q) ≡ is-written q
@@ -96,19 +97,20 @@ put-done NoBytes = refl
 
 module _ {s : List ℕ} {l l′ : Lists} {a : Transcribed} (p : ReadTranscript s l a l′) where
   -- A refused transcript turns out nothing.
-  pub lines-refused : (out : List ℕ) (x : Turned) → a .number ≢ 0 → ToLines s l out (by-answer a x) out
+  pub lines-refused : (out : List ℕ) (x : Turned) → a .number ≢ 0 → ToLines s l out (by-answer a x) l′ out
   unfolding lines-turned
   lines-refused out x d =
       record {
         answer =
             answer-refused a x (by-put (put-answer (entries-read s) (length out))) d
             ∙ ap (λ (y : Transcribed). by-answer y (by-put (put-answer (entries-read s) (length out)))) (p .answer);
+        lists = p .lists;
         output = sym (ap (λ (b : Bool). cond b (over (text-of (entries-read s)) out) out) (refused-not-done a x d));
       }
 
   -- The lines of what was read are what is to be turned out.
   pub lines-done : {out out′ : List ℕ} {q : LinesPut} → a .number ≡ 0 → PutLines (first-places (a .count) l′) out q out′ →
-      ToLines s l out (by-put q) out′
+      ToLines s l out (by-put q) l′ out′
   unfolding lines-turned text-after
   lines-done {out} {out′} {q} z w =
       let es = entries-read s in
@@ -119,6 +121,7 @@ module _ {s : List ℕ} {l l′ : Lists} {a : Transcribed} (p : ReadTranscript s
             ap by-put answer
             ∙ sym (answer-done a (by-put (put-answer es (length out))) z)
             ∙ ap (λ (y : Transcribed). by-answer y (by-put (put-answer es (length out)))) (p .answer);
+        lists = p .lists;
         output =
             w .text
             ∙ ap (λ (x : List Entry). text-after x out) e
