@@ -63,42 +63,54 @@ fn write_lines(
     }
 }
 
-// One way or the other, as the argument says.
-fn turn(
-    text: &mut [u8],
-    bytes: &mut [u8],
-    kinds: &mut [u32],
-    registers: &mut [u32],
-    lanes: &mut [u32],
-    words: &mut [u32],
-) {
+// The two ways that there are.
+enum Way {
+    Bytes,
+    Lines,
+    Neither,
+}
+
+// The way that the argument names.
+fn way_named() -> Way {
     let mut argument = [0u8; 8];
     let n = os::arg(1, &mut argument);
     if check::same(&argument[..n], b"bytes") {
-        write_bytes(text, kinds, registers, lanes, words, bytes);
-        return;
+        return Way::Bytes;
     }
     if check::same(&argument[..n], b"lines") {
-        write_lines(bytes, kinds, registers, lanes, words, text);
-        return;
+        return Way::Lines;
     }
-    io::write_all(2, b"transcript: say bytes or lines\n");
+    Way::Neither
 }
 
 // Each buffer has a byte more than the most that it may be filled with.
 fn main() {
+    let way = way_named();
     let mut text = [0u8; 360449];
     let mut bytes = [0u8; 131073];
     let mut kinds = [0u32; 32768];
     let mut registers = [0u32; 32768];
     let mut lanes = [0u32; 32768];
     let mut words = [0u32; 32768];
-    turn(
-        &mut text,
-        &mut bytes,
-        &mut kinds,
-        &mut registers,
-        &mut lanes,
-        &mut words,
-    );
+    match way {
+        Way::Bytes => write_bytes(
+            &mut text,
+            &mut kinds,
+            &mut registers,
+            &mut lanes,
+            &mut words,
+            &mut bytes,
+        ),
+        Way::Lines => write_lines(
+            &mut bytes,
+            &mut kinds,
+            &mut registers,
+            &mut lanes,
+            &mut words,
+            &mut text,
+        ),
+        Way::Neither => {
+            io::write_all(2, b"transcript: say bytes or lines\n");
+        }
+    }
 }
