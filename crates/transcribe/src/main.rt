@@ -10,6 +10,7 @@
 // There is room for 32,768 accesses: as lines they have at most 360,448 bytes, and as a transcript at most 131,072.
 mod messages;
 
+ghost use Rattle.transcribe.specs.Ways.{Named};
 use exchange::Turned;
 use exchange::bytes_to_lines;
 use exchange::lines_to_bytes;
@@ -63,21 +64,20 @@ fn write_lines(
     }
 }
 
-// The two ways that there are.
-enum Way {
+// The way that an argument names.
+pub enum Way {
     Bytes,
     Lines,
     Neither,
 }
 
-// The way that the argument names.
-fn way_named() -> Way {
-    let mut argument = [0u8; 8];
-    let n = os::arg(1, &mut argument);
-    if check::same(&argument[..n], b"bytes") {
+fn way_of(argument: &[u8]) -> Way
+    ensures { λ w. ⌜ Named (now (argument .entry)) w ⌝ }
+{
+    if check::same(argument, b"bytes") {
         return Way::Bytes;
     }
-    if check::same(&argument[..n], b"lines") {
+    if check::same(argument, b"lines") {
         return Way::Lines;
     }
     Way::Neither
@@ -85,7 +85,9 @@ fn way_named() -> Way {
 
 // Each buffer has a byte more than the most that it may be filled with.
 fn main() {
-    let way = way_named();
+    let mut argument = [0u8; 8];
+    let n = os::arg(1, &mut argument);
+    let way = way_of(&argument[..n]);
     let mut text = [0u8; 360449];
     let mut bytes = [0u8; 131073];
     let mut kinds = [0u32; 32768];

@@ -2,32 +2,23 @@
 use crate::carrying::carry_record;
 use crate::printing::print_record;
 
-// Reads a record, all but the string and then the string, carries it out and prints what it leaves. Answers whether there may be more.
-fn take_turn() -> bool {
+// Record after record, each in two reads: all but the string, and the string. It is carried out, and what it leaves is printed. A proved
+// loop has to end, and nothing says that the input does: it counts its turns down, from a number that no run uses up.
+pub(crate) fn run() {
     let mut bytes = [0u8; 104];
     let mut string = [0u8; 64];
-    let first = io::read_full(0, &mut bytes);
-    let got = first + io::read_full(0, &mut string);
-    if got == 168 {
-        let left = carry_record(&bytes, &mut string);
-        print_record(left, &string);
-        return true;
-    }
-    if 0 < got {
-        io::write_all(1, b"bad script\n");
-    }
-    false
-}
-
-// Turn after turn. A proved loop has to end, and nothing says that the input does: it counts its turns down, from a number that no
-// run uses up.
-pub(crate) fn run() {
     let mut turns = u64::MAX;
     while 0 < turns {
         turns -= 1;
-        if take_turn() {
-            continue;
+        let first = io::read_full(0, &mut bytes);
+        let got = first + io::read_full(0, &mut string);
+        if got < 168 {
+            if 0 < got {
+                io::write_all(1, b"bad script\n");
+            }
+            return;
         }
-        return;
+        let left = carry_record(&bytes, &mut string);
+        print_record(left, &string);
     }
 }
