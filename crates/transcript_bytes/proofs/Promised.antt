@@ -11,7 +11,7 @@ use lib.Seq.{take-append-seam, drop-append-seam}
 use borrow.Author.Tests.{eq-eqb, ne-eqb}
 use Rattle.words.specs.Bytes.{AreBytes}
 use Rattle.transcript_bytes.specs.Format.{transcript-of}
-use Rattle.transcript_bytes.specs.InPlainWords.{AllGood, Sound, Written, ReadAs, first-places, later-places}
+use Rattle.transcript_bytes.specs.InPlainWords.{Sound, Written, ReadAs, first-places, later-places, WroteAll, ReadAll}
 use Rattle.transcript_bytes.specs.InPlainWords as plain
 use Rattle.transcript_bytes.specs.Lists.{Lists, size, entries-in, over, columns, with-entries}
 use Rattle.transcript_bytes.specs.Reading.{entries-read, read-answer, lists-after, ReadTranscript}
@@ -25,15 +25,6 @@ use Rattle.transcript_bytes.proofs.WrittenExactly.{bad-number, writes-e
 use Rattle.transcript_bytes.proofs.ThroughRecords.{bad-record-number}
 
 -- ---- the writer
--- what an accepted writing leaves
-pub record WroteAll (l : Lists) (out : List ℕ) (o : Transcribed) (out′ : List ℕ) : Type 0 where
-  pub good : AllGood (entries-in l)
-  pub count : o .count ≡ length (transcript-of (entries-in l))
-  pub place : o .place ≡ 0
-  pub fits : o .count ≤ length out
-  pub bytes : take (o .count) out′ ≡ transcript-of (entries-in l)
-  pub rest : drop (o .count) out′ ≡ drop (o .count) out
-
 module _ {l : Lists} {out out′ : List ℕ} {o : Transcribed} (p : WroteTranscript l out o out′) where
   abbrev entries : List Entry
   entries = entries-in l
@@ -82,15 +73,6 @@ module _ {l : Lists} {out out′ : List ℕ} {o : Transcribed} (p : WroteTranscr
       finish (plain.Written.bad-entry xs ys {e} {n} q g b) z = absurd (bad-number e n b z)
 
 -- ---- the reader
--- what an accepted reading leaves
-pub record ReadAll (s : List ℕ) (l : Lists) (o : Transcribed) (l′ : Lists) : Type 0 where
-  pub sound : Sound s (entries-read s)
-  pub count : o .count ≡ length (entries-read s)
-  pub place : o .place ≡ 0
-  pub fits : o .count ≤ size l
-  pub entries : first-places (o .count) l′ ≡ columns (entries-read s)
-  pub rest : later-places (o .count) l′ ≡ later-places (o .count) l
-
 module _ {s : List ℕ} {l l′ : Lists} {o : Transcribed} (p : ReadTranscript s l o l′) where
   -- Its answer is the one that the string calls for.
   pub reader-answers : ReadAs s (size l) o

@@ -13,13 +13,15 @@
 --   BadHead, BadWord s n  a number that is a bad head, a bad word, and its refusal
 --   BadRecord s n         the string s begins with a bad record, whose refusal is n
 --   Written, ReadAs       what the writer answers of a list, the reader of a string: each answer, when and only then
+--   WroteAll, ReadAll     what an accepted writing, an accepted reading leaves
 use Prim.Native.Nat.{ℕ, _+_, _*_, _%_, _^_, _<_, _≤_}
 use mathlib.Core.Path.{_≡_}
 use mathlib.Core.List.{List, [], _∷_, _++_}
 use mathlib.Core.Logic.{_⊎_, _≢_}
 use lib.ListN.{length, take, drop, getD}
 use Rattle.transcript_bytes.specs.Format.{head-of, transcript-of}
-use Rattle.transcript_bytes.specs.Lists.{Lists, lists}
+use Rattle.transcript_bytes.specs.Lists.{Lists, lists, size, entries-in, columns}
+use Rattle.transcript_bytes.specs.Reading.{entries-read}
 use Rattle.transcript_bytes.specs.Writing.{refused, accepted}
 use Rattle.transcript_bytes.specs.declared.Entry.{Entry}
 use Rattle.transcript_bytes.specs.declared.Transcribed.{Transcribed}
@@ -135,3 +137,21 @@ pub data ReadAs (s : List ℕ) (room : ℕ) : Transcribed → Type 0 where
   done : {es : List Entry} → Sound s es → length es ≤ room → ReadAs s room (accepted (length es))
   too-small : {es : List Entry} → Sound s es → room < length es → ReadAs s room (refused 24 0)
   bad-record : {es : List Entry} {t u : List ℕ} {n : ℕ} → s ≡ t ++ u → Sound t es → BadRecord u n → ReadAs s room (refused n (length t))
+
+-- ---- what an accepted call leaves
+
+pub record WroteAll (l : Lists) (out : List ℕ) (o : Transcribed) (out′ : List ℕ) : Type 0 where
+  pub good : AllGood (entries-in l)
+  pub count : o .count ≡ length (transcript-of (entries-in l))
+  pub place : o .place ≡ 0
+  pub fits : o .count ≤ length out
+  pub bytes : take (o .count) out′ ≡ transcript-of (entries-in l)
+  pub rest : drop (o .count) out′ ≡ drop (o .count) out
+
+pub record ReadAll (s : List ℕ) (l : Lists) (o : Transcribed) (l′ : Lists) : Type 0 where
+  pub sound : Sound s (entries-read s)
+  pub count : o .count ≡ length (entries-read s)
+  pub place : o .place ≡ 0
+  pub fits : o .count ≤ size l
+  pub entries : first-places (o .count) l′ ≡ columns (entries-read s)
+  pub rest : later-places (o .count) l′ ≡ later-places (o .count) l

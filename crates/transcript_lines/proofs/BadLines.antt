@@ -13,11 +13,12 @@ use Rattle.listing.specs.declared.Front.the-variants.{Bad}
 use Rattle.listing.proofs.Feeds.{has-laid}
 use Rattle.listing.proofs.FrontLine.{whole-line}
 use Rattle.transcript_bytes.specs.declared.Entry.{Entry}
+use Rattle.transcript_lines.specs.InPlainWords.{NoGoodLine}
 use Rattle.transcript_lines.specs.Lines.{access-of, text-of, AllSayable}
 use Rattle.transcript_lines.specs.Taking.{take-answer}
 use Rattle.transcript_lines.specs.declared.LinesTaken.the-variants.{BadLine}
 use Rattle.transcript_lines.proofs.LineAfterLine.{is-good}
-use Rattle.transcript_lines.proofs.TakenLines.{NoGoodLine, front-none}
+use Rattle.transcript_lines.proofs.TakenLines.{front-none}
 use Rattle.transcript_lines.proofs.TakeAnswers.{take-answers}
 
 module _ (es : List Entry) (h : AllSayable es) (room : ℕ) where

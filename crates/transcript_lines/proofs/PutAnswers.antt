@@ -10,26 +10,11 @@ use lib.ListN.{length}
 use borrow.Author.Tests.{lt-ltb, le-ltb}
 use Rattle.words.proofs.Choices.{either-way, less-or-not}
 use Rattle.transcript_bytes.specs.declared.Entry.{Entry}
+use Rattle.transcript_lines.specs.InPlainWords.{FirstUnsayable, PutMeans}
 use Rattle.transcript_lines.specs.Lines.{unsayable, text-of, AllSayable}
 use Rattle.transcript_lines.specs.Putting.{first-unsayable, fitting, put-answer}
 use Rattle.transcript_lines.specs.declared.LinesPut.{LinesPut}
 use Rattle.transcript_lines.specs.declared.LinesPut.the-variants.{Written, Unsayable, NoBytes}
-
--- Entry k is the first that no line can say.
-pub record FirstUnsayable (es : List Entry) (k : ℕ) : Type 0 where
-  pub before : List Entry
-  pub entry : Entry
-  pub after : List Entry
-  pub is : es ≡ before ++ entry ∷ after
-  pub count : length before ≡ k
-  pub says : AllSayable before
-  pub not : unsayable entry ≡ true
-
--- What each answer says of a list and of the room for its lines.
-abbrev pub PutMeans : List Entry → ℕ → LinesPut → Type 0
-PutMeans es room (Written n) = AllSayable es × (n ≡ length (text-of es)) × (n ≤ room)
-PutMeans es room (Unsayable k) = FirstUnsayable es k
-PutMeans es room NoBytes = AllSayable es × (room < length (text-of es))
 
 -- ---- what is so is answered
 

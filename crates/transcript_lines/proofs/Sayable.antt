@@ -1,5 +1,5 @@
 -- Which entries a line can say, in plain words; and that an entry which a line can say is that of its access, both ways.
-use Prim.Native.Nat.{ℕ, _≤_}
+use Prim.Native.Nat.{ℕ}
 use native.Mathlib.Omega.{arith}
 use mathlib.Core.Path.{_≡_, refl, sym, ap, _∙_}
 use mathlib.Core.Bool.{Bool, true, false, true≢false, cond, not, _&&_, _||_}
@@ -12,15 +12,8 @@ use Rattle.port.specs.declared.Access.the-variants.{Read, Write}
 use Rattle.listing.specs.Spelled.{Sayable}
 use Rattle.transcript_bytes.specs.Writing.{no-record}
 use Rattle.transcript_bytes.specs.declared.Entry.{Entry}
+use Rattle.transcript_lines.specs.InPlainWords.{Says}
 use Rattle.transcript_lines.specs.Lines.{entry-of, access-of, unsayable}
-
--- Kind 0 or 1, one digit for the register and one for the lanes, a word of 16 bits, and none for a read.
-pub record Says (e : Entry) : Type 0 where
-  pub kind : e .kind ≤ 1
-  pub register : e .register ≤ 9
-  pub lanes : e .lanes ≤ 9
-  pub word : e .word ≤ 65535
-  pub of-read : e .kind ≡ 0 → e .word ≡ 0
 
 of-read-is : (k w : ℕ) → eqb k 0 && not (eqb w 0) ≡ false → k ≡ 0 → w ≡ 0
 of-read-is k w e z = eqb-true w 0 (go (eqb w 0) (rw (eq-eqb k 0 z) at e))

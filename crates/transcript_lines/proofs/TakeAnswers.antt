@@ -10,32 +10,12 @@ use lib.Dec.{eqb}
 use lib.ListN.{length}
 use borrow.Author.Tests.{eqb-true, eqb-false, ne-eqb, lt-ltb, le-ltb}
 use Rattle.words.proofs.Choices.{either-way, less-or-not}
-use Rattle.transcript_bytes.specs.declared.Entry.{Entry}
-use Rattle.transcript_lines.specs.Lines.{text-of, AllSayable}
+use Rattle.transcript_lines.specs.InPlainWords.{NoGoodLine, LinesThen, TakeMeans}
+use Rattle.transcript_lines.specs.Lines.{text-of}
 use Rattle.transcript_lines.specs.Taking.{Taking, taking, judged, take-answer}
 use Rattle.transcript_lines.specs.declared.LinesTaken.{LinesTaken}
 use Rattle.transcript_lines.specs.declared.LinesTaken.the-variants.{Taken, BadLine, NoPlaces}
-use Rattle.transcript_lines.proofs.TakenLines.{NoGoodLine, nothing-there, text-taken, only-taken}
-
--- A text of n good lines, and then `left`.
-pub record LinesThen (t : List ℕ) (n : ℕ) (left : List ℕ) : Type 0 where
-  pub entries : List Entry
-  pub is : t ≡ text-of entries ++ left
-  pub says : AllSayable entries
-  pub count : length entries ≡ n
-
--- A text whose first bad line stands behind n good ones.
-pub record BadLineAt (t : List ℕ) (n : ℕ) : Type 0 where
-  pub left : List ℕ
-  pub good : LinesThen t n left
-  pub some : left ≢ []
-  pub bad : NoGoodLine left
-
--- What each answer says of a text and of the places for its entries.
-abbrev pub TakeMeans : List ℕ → ℕ → LinesTaken → Type 0
-TakeMeans t room (Taken n) = LinesThen t n [] × (n ≤ room)
-TakeMeans t room (BadLine n) = BadLineAt t n
-TakeMeans t room NoPlaces = (n : ℕ) × LinesThen t n [] × (room < n)
+use Rattle.transcript_lines.proofs.TakenLines.{nothing-there, text-taken, only-taken}
 
 -- ---- what is so is answered
 

@@ -14,6 +14,7 @@ use Rattle.listing.specs.Spelled.{lines-of}
 use Rattle.listing.specs.declared.Front.{Front}
 use Rattle.listing.specs.declared.Front.the-variants.{Good, Bad, Open}
 use Rattle.transcript_bytes.specs.declared.Entry.{Entry}
+use Rattle.transcript_lines.specs.InPlainWords.{NoGoodLine, TextOf}
 use Rattle.transcript_lines.specs.Lines.{entry-of, access-of, unsayable, line, text-of, AllSayable}
 use Rattle.transcript_lines.specs.Taking.{Taking, nothing, more, by-front, takes, taking}
 use Rattle.transcript_lines.proofs.Sayable.{entry-said, said-entry}
@@ -52,16 +53,6 @@ taken-back es h =
     ap (λ (l : List Entry). record { entries = l; left = [] }) (append-nil es)
 
 -- ---- a text, taken
-
--- a text that begins with no line that says an entry
-abbrev pub NoGoodLine : List ℕ → Type 0
-NoGoodLine t = (e : Entry) (v : List ℕ) → unsayable e ≡ false → t ≢ line e ++ v
-
--- A text is the lines of the entries taken, and what is left, which begins with no good line.
-pub record TextOf (t : List ℕ) (x : Taking) : Type 0 where
-  pub is : t ≡ text-of (x .entries) ++ x .left
-  pub says : AllSayable (x .entries)
-  pub stops : NoGoodLine (x .left)
 
 -- the front of such a text is not good, and the other way round
 none-front : (t : List ℕ) → NoGoodLine t → is-good (front-line t) ≡ false

@@ -1,5 +1,8 @@
+-- ---- what the contracts of the two calls cite
 pub mod Lines
 pub mod Taking
 pub mod Putting
--- what only private functions state
+-- ---- the words of the laws
+pub mod InPlainWords
+-- ---- what only private functions state
 pub mod Parts
