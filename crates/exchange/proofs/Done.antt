@@ -1,27 +1,32 @@
 -- What is known of an input that is turned: how it was turned, and that it fits.
 use Prim.Native.Nat.{ℕ, _≤_}
 use native.Mathlib.Omega.{arith}
-use mathlib.Core.Path.{_≡_, refl, sym, ap, _∙_}
+use mathlib.Core.Path.{_≡_, refl, sym, ap, _∙_, subst}
 use mathlib.Core.Bool.{true, false}
 use mathlib.Core.List.{List}
-use mathlib.Core.Logic.{⊎-elim}
+use mathlib.Core.Logic.{_⊎_, inl, inr, ⊎-elim}
 use lib.ListN.{length}
-use Rattle.words.proofs.Choices.{same-or-not}
+use Rattle.words.proofs.Choices.{less-or-not, same-or-not}
 use Rattle.transcript_bytes.specs.Format.{transcript-of}
-use Rattle.transcript_bytes.specs.InPlainWords.{AllGood, Written}
+use Rattle.transcript_bytes.specs.InPlainWords.{AllGood, Sound, Written, ReadAs}
 use Rattle.transcript_bytes.specs.InPlainWords as plain
 use Rattle.transcript_bytes.specs.Lists.{Lists}
 use Rattle.transcript_bytes.specs.Reading.{entries-read, read-answer}
 use Rattle.transcript_bytes.specs.Writing.{write-answer}
 use Rattle.transcript_bytes.specs.declared.Entry.{Entry}
 use Rattle.transcript_bytes.specs.declared.Transcribed.{Transcribed}
+use Rattle.transcript_bytes.proofs.OneEncoding.{good-entries}
+use Rattle.transcript_bytes.proofs.ReadExactly.{reads-exactly, sound-exactly}
+use Rattle.transcript_bytes.proofs.ThroughRecords.{bad-record-number}
 use Rattle.transcript_bytes.proofs.WrittenExactly.{bad-number, writes-exactly}
+use Rattle.transcript_lines.specs.Lines.{text-of}
 use Rattle.transcript_lines.specs.Putting.{put-answer}
 use Rattle.transcript_lines.specs.Taking.{taking, take-answer}
 use Rattle.transcript_lines.specs.declared.LinesPut.{LinesPut}
 use Rattle.transcript_lines.specs.declared.LinesPut.the-variants as put
 use Rattle.transcript_lines.specs.declared.LinesTaken.{LinesTaken}
 use Rattle.transcript_lines.specs.declared.LinesTaken.the-variants as taken
+use Rattle.transcript_lines.proofs.GoodEntries.{all-sayable}
 use Rattle.transcript_lines.proofs.PutAnswers.{put-answers}
 use Rattle.exchange.specs.Turning.{by-answer, by-taken, by-put, written, bytes-turned, lines-turned, is-done, ToBytes, ToLines}
 use Rattle.exchange.specs.declared.Turned.{Turned}
@@ -90,6 +95,27 @@ lines-are-done {s} {room} {out} {k} e =
     let x = none-refused (read-answer s room) (by-put (put-answer (entries-read s) out)) k e in
     let y = of-put (put-answer (entries-read s) out) k (x .1) in
     record { read = x .0; put = y; fits = put-answers (entries-read s) out (put.Written k) .0 y .2 }
+
+-- ---- every record has a line
+-- what is accepted is good records, and there are places for their entries
+pub read-all : (s : List ℕ) (room : ℕ) {a : Transcribed} → ReadAs s room a → a .number ≡ 0 →
+    Sound s (entries-read s) × (length (entries-read s) ≤ room)
+read-all s room (plain.ReadAs.done {es} q h) z =
+    let e = sound-exactly s es .0 q .1 in
+    (subst (Sound s) (sym e) q, omega (arith, ap length e))
+read-all s room (plain.ReadAs.too-small q h) z = absurd (omega arith)
+read-all s room (plain.ReadAs.bad-record {es} {t} {u} {n} e q b) z = absurd (bad-record-number u n b z)
+
+-- Where nothing is refused, the lines of what is read are put, or they have no room: there is none that can't be said.
+pub only-room-is-missing : (s : List ℕ) (room out : ℕ) → read-answer s room .number ≡ 0 →
+    (put-answer (entries-read s) out ≡ put.Written (length (text-of (entries-read s)))) ⊎ (put-answer (entries-read s) out ≡ put.NoBytes)
+only-room-is-missing s room out z =
+    let es = entries-read s in
+    let says = all-sayable es (good-entries (read-all s room (reads-exactly s room (read-answer s room) .0 refl) z .0)) in
+    ⊎-elim
+    (λ h. inr (put-answers es out put.NoBytes .1 (says, h)))
+    (λ h. inl (put-answers es out (put.Written (length (text-of es))) .1 (says, refl, h)))
+    (less-or-not out (length (text-of es)))
 
 -- What is turned fits the output.
 pub lines-fit : {s : List ℕ} {l l′ : Lists} {out out′ : List ℕ} {o : Turned} {k : ℕ} → ToLines s l out o l′ out′ → o ≡ Done k → k ≤ length out

@@ -2,7 +2,7 @@
 use Prim.Native.Nat.{ℕ, _≤_}
 use native.Mathlib.Omega.{arith}
 use mathlib.Core.Path.{_≡_, refl, sym, ap, _∙_, subst}
-use mathlib.Core.Bool.{Bool, cond}
+use mathlib.Core.Bool.{cond}
 use mathlib.Core.List.{List, [], append-nil}
 use lib.ListN.{length, take, drop}
 use lib.Seq.{take-at}
@@ -12,17 +12,15 @@ use Rattle.transcript_bytes.specs.InPlainWords.{Sound, ReadAs}
 use Rattle.transcript_bytes.specs.InPlainWords as plain
 use Rattle.transcript_bytes.specs.Lists.{Lists, size, over}
 use Rattle.transcript_bytes.specs.Reading.{entries-read, read-answer}
-use Rattle.transcript_bytes.specs.Writing.{accepted, write-answer}
+use Rattle.transcript_bytes.specs.Writing.{accepted}
 use Rattle.transcript_bytes.specs.declared.Entry.{Entry}
 use Rattle.transcript_bytes.specs.declared.Transcribed.{Transcribed}
 use Rattle.transcript_bytes.proofs.OneEncoding.{transcript-sound, sound-is}
 use Rattle.transcript_bytes.proofs.ReadExactly.{reads-exactly, sound-exactly}
-use Rattle.transcript_bytes.proofs.ThroughRecords.{bad-record-number}
 use Rattle.transcript_bytes.proofs.WrittenExactly.{writes-exactly}
 use Rattle.transcript_lines.specs.Lines.{text-of, AllSayable}
 use Rattle.transcript_lines.specs.Putting.{put-answer}
 use Rattle.transcript_lines.specs.Taking.{Taking, taking, take-answer}
-use Rattle.transcript_lines.specs.declared.LinesPut.{LinesPut}
 use Rattle.transcript_lines.specs.declared.LinesPut.the-variants as put
 use Rattle.transcript_lines.specs.declared.LinesTaken.{LinesTaken}
 use Rattle.transcript_lines.specs.declared.LinesTaken.the-variants as taken
@@ -32,7 +30,7 @@ use Rattle.transcript_lines.proofs.TakenLines.{taken-back, nothing-there}
 use Rattle.exchange.specs.Turning.{by-answer, by-taken, by-put, written, bytes-turned, lines-turned, is-done, ToBytes, ToLines}
 use Rattle.exchange.specs.declared.Turned.{Turned}
 use Rattle.exchange.specs.declared.Turned.the-variants.{Done}
-use Rattle.exchange.proofs.Done.{bytes-are-done, lines-are-done}
+use Rattle.exchange.proofs.Done.{bytes-are-done, lines-are-done, read-all}
 
 -- the output's first bytes, where it is done
 first-bytes : (n : ℕ) (o : Turned) (text out : List ℕ) {out′ : List ℕ} → out′ ≡ cond (is-done o) (over text out) out → o ≡ Done n →
@@ -68,14 +66,6 @@ module _ {t out out′ : List ℕ} {l l′ : Lists} {n : ℕ} (p : ToBytes t l o
       (answer, first-bytes (length t) o (text-of (entries-read (take n out′))) text (q .output) answer (ap length text-is) ∙ text-is)
 
 -- ---- a transcript, lines, a transcript
-read-all : (s : List ℕ) (room : ℕ) {a : Transcribed} → ReadAs s room a → a .number ≡ 0 →
-    Sound s (entries-read s) × (length (entries-read s) ≤ room)
-read-all s room (plain.ReadAs.done {es} q h) z =
-    let e = sound-exactly s es .0 q .1 in
-    (subst (Sound s) (sym e) q, omega (arith, ap length e))
-read-all s room (plain.ReadAs.too-small q h) z = absurd (omega arith)
-read-all s room (plain.ReadAs.bad-record {es} {t} {u} {n} e q b) z = absurd (bad-record-number u n b z)
-
 module _ {s out out′ : List ℕ} {l l′ : Lists} {n : ℕ} (b : AreBytes s) (p : ToLines s l out (Done n) l′ out′) where
   -- A transcript that was turned comes back from its lines, exactly.
   pub bytes-come-back : {k k′ : Lists} {bytes bytes′ : List ℕ} {o : Turned} → ToBytes (take n out′) k bytes o k′ bytes′ →

@@ -36,6 +36,15 @@ transcript-sound [] g = nothing
 transcript-sound (e ∷ es) g = and-more (record-good e (g .0)) (transcript-sound es (g .1))
 
 -- ---- and the other way round
+-- The entries of good records are good.
+good-entry : {s : List ℕ} {e : Entry} → GoodRecord s e → Good e
+good-entry (a-read g z h) = g
+good-entry (a-write g o p q) = g
+
+pub good-entries : {s : List ℕ} {es : List Entry} → Sound s es → AllGood es
+good-entries nothing = tt
+good-entries (and-more g q) = (good-entry g, good-entries q)
+
 -- A good record is that of its entry, and the entry is good.
 pub good-record-is : (s : List ℕ) (e : Entry) → AreBytes s → GoodRecord s e → Good e × (s ≡ record-of e)
 good-record-is s e b (a-read g z h) =
