@@ -3,4 +3,5 @@ pub mod Outcomes
 -- what is promised
 pub mod Done
 pub mod ThereAndBack
+pub mod Examples
 pub mod One
