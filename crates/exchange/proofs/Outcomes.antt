@@ -1,5 +1,6 @@
 -- What becomes of an input, by the answers of the calls on the way: they are made on the lists' first places, which hold the entries.
 use Prim.Native.Nat.{ℕ, _≤_}
+use native.Mathlib.Omega.{arith}
 use mathlib.Core.Path.{_≡_, refl, sym, ap, _∙_}
 use mathlib.Core.Bool.{Bool, true, false, cond}
 use mathlib.Core.List.{List}
@@ -78,16 +79,26 @@ module _ {t : List ℕ} {l l′ : Lists} {n : ℕ} (p : TookLines t l (Taken n) 
             (same-or-not (a .number) 0);
       }
 
+abbrev of-lines : List ℕ → List ℕ → LinesTaken → Turned
+of-lines t out x = by-taken x (written (taking t .entries) (length out))
+
 module _ {t : List ℕ} {l l′ : Lists} (out : List ℕ) where
+  nothing-out : {x : LinesTaken} (y : Turned) → TookLines t l x l′ → of-lines t out x ≡ y → is-done y ≡ false → ToBytes t l out y l′ out
+  unfolding bytes-turned
+  nothing-out y p e d =
+      record {
+        answer = sym e ∙ ap (of-lines t out) (p .answer);
+        lists = p .lists;
+        output = sym (ap (λ (b : Bool). cond b (over (transcript-of (taking t .entries)) out) out) d);
+      }
+
   -- A bad line turns out nothing,
   pub bad-line : {k : ℕ} → TookLines t l (BadLine k) l′ → ToBytes t l out (turned.BadLine k) l′ out
-  unfolding bytes-turned
-  bad-line p = record { answer = ap (λ (x : LinesTaken). by-taken x (written (taking t .entries) (length out))) (p .answer); lists = p .lists; output = refl }
+  bad-line {k} p = nothing-out (turned.BadLine k) p refl refl
 
   -- nor do too many.
   pub no-places : TookLines t l NoPlaces l′ → ToBytes t l out turned.TooMany l′ out
-  unfolding bytes-turned
-  no-places p = record { answer = ap (λ (x : LinesTaken). by-taken x (written (taking t .entries) (length out))) (p .answer); lists = p .lists; output = refl }
+  no-places p = nothing-out turned.TooMany p refl refl
 
 -- ---- bytes to lines
 put-done : (q : LinesPut) → is-done (by-put q) ≡ is-written q
@@ -132,3 +143,15 @@ module _ {s : List ℕ} {l l′ : Lists} {a : Transcribed} (p : ReadTranscript s
   -- The places that are read are there.
   pub read-fits : a .number ≡ 0 → a .count ≤ size l
   read-fits z = reader-done p z .fits
+
+-- ---- what a refusal is
+-- 24 is too many,
+pub answer-too-many : (o : Transcribed) (x : Turned) → o .number ≡ 24 → by-answer o x ≡ turned.TooMany
+unfolding by-answer
+answer-too-many o x e = rw (ne-eqb (o .number) 0 (λ z. omega arith), eq-eqb (o .number) 24 e)
+
+-- and any other refusal goes out with its number and its place.
+pub answer-refuses : (o : Transcribed) (x : Turned) → o .number ≢ 0 → o .number ≢ 24 →
+    by-answer o x ≡ turned.Refused (o .number) (o .place)
+unfolding by-answer
+answer-refuses o x d e = rw (ne-eqb (o .number) 0 d, ne-eqb (o .number) 24 e)

@@ -4,7 +4,8 @@ use Prim.Native.Nat.{ℕ, zero, suc, _+_, _<_, _≤_}
 use native.Mathlib.Omega.{arith}
 use mathlib.Core.Path.{_≡_, refl, sym, ap, _∙_}
 use mathlib.Core.List.{List, [], _∷_, map}
-use lib.ListN.{length, take, drop, getD}
+use mathlib.Core.Logic.{_↔_}
+use lib.ListN.{length, take, drop, getD, length-map}
 use lib.Seq.{drop-cons, take-at, drop-at}
 use Rattle.transcript_bytes.specs.Lists.{Lists, lists, size, entry-at, entries-from, entries-in, over, columns, with-entries}
 use Rattle.transcript_bytes.specs.InPlainWords.{first-places, later-places}
@@ -47,17 +48,13 @@ unfolding entries-from
 shifted e es i zero = refl
 shifted e es i (suc n) = ap (λ (t : List Entry). entry-at (columns es) i ∷ t) (shifted e es (suc i) n)
 
-length-map : (f : Entry → ℕ) (es : List Entry) → length (map f es) ≡ length es
-length-map f [] = refl
-length-map f (e ∷ es) = ap suc (length-map f es)
-
 -- There are as many as there are entries,
 pub size-columns : (es : List Entry) → size (columns es) ≡ length es
 size-columns es =
-    let a = length-map (λ (e : Entry). e .kind) es in
-    let b = length-map (λ (e : Entry). e .register) es in
-    let c = length-map (λ (e : Entry). e .lanes) es in
-    let d = length-map (λ (e : Entry). e .word) es in
+    let a = length-map es (λ (e : Entry). e .kind) in
+    let b = length-map es (λ (e : Entry). e .register) in
+    let c = length-map es (λ (e : Entry). e .lanes) in
+    let d = length-map es (λ (e : Entry). e .word) in
     omega arith
 
 all-of : (es : List Entry) → entries-from (columns es) 0 (length es) ≡ es
@@ -74,7 +71,7 @@ same-lists : {k k′ r r′ n n′ w w′ : List ℕ} → k ≡ k′ → r ≡ r
 same-lists p q s t = cc
 
 front : (f : Entry → ℕ) (es : List Entry) (old : List ℕ) → take (length es) (over (map f es) old) ≡ map f es
-front f es old = take-at (map f es) (drop (length (map f es)) old) (length es) (length-map f es)
+front f es old = take-at (map f es) (drop (length (map f es)) old) (length es) (length-map es f)
 
 -- These places hold the entries' parts.
 pub first-are-columns : (es : List Entry) (l : Lists) → first-places (length es) (with-entries es l) ≡ columns es
@@ -84,8 +81,8 @@ first-are-columns es l =
 
 back : (f : Entry → ℕ) (es : List Entry) (old : List ℕ) → drop (length es) (over (map f es) old) ≡ drop (length es) old
 back f es old =
-    drop-at (map f es) (drop (length (map f es)) old) (length es) (length-map f es)
-    ∙ ap (λ (n : ℕ). drop n old) (length-map f es)
+    drop-at (map f es) (drop (length (map f es)) old) (length es) (length-map es f)
+    ∙ ap (λ (n : ℕ). drop n old) (length-map es f)
 
 -- The places after them stay.
 pub later-stay : (es : List Entry) (l : Lists) → later-places (length es) (with-entries es l) ≡ later-places (length es) l
@@ -96,3 +93,8 @@ later-stay es l =
 -- The first places of a list hold its entries' parts.
 pub columns-first : (l : Lists) → columns (entries-in l) ≡ first-places (size l) l
 columns-first l = same-lists (kinds-in l) (registers-in l) (lanes-in l) (words-in l)
+
+-- A list has n entries exactly if each of the four has n places.
+pub size-is-shortest : (l : Lists) (n : ℕ) →
+    n ≤ size l ↔ (n ≤ length (l .kinds)) × (n ≤ length (l .registers)) × (n ≤ length (l .lanes)) × (n ≤ length (l .words))
+size-is-shortest l n = (λ h. (omega arith, omega arith, omega arith, omega arith), λ h. omega arith)

@@ -1,10 +1,10 @@
 -- One list has one encoding: the transcript of good entries is sound, and a sound string of bytes is the transcript of its entries.
-use Prim.Native.Nat.{ℕ, _+_}
+use Prim.Native.Nat.{ℕ}
 use native.Mathlib.Omega.{arith}
 use mathlib.Core.Path.{_≡_, refl, sym, ap, _∙_, subst}
 use mathlib.Core.Bool.{Bool, true, false, cond}
 use mathlib.Core.List.{List, [], _∷_, _++_}
-use mathlib.Core.Logic.{_⊎_, ⊎-elim}
+use mathlib.Core.Logic.{⊎-elim}
 use lib.Dec.{eqb}
 use Rattle.words.specs.Bytes.{AreBytes}
 use Rattle.words.proofs.Choices.{same-or-not}

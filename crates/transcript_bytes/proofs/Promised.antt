@@ -5,7 +5,7 @@ use native.Mathlib.Omega.{arith}
 use mathlib.Core.Path.{_≡_, refl, sym, ap, _∙_, subst}
 use mathlib.Core.Bool.{Bool, cond}
 use mathlib.Core.List.{List}
-use mathlib.Core.Logic.{_≢_}
+use mathlib.Core.Logic.{_↔_, _≢_}
 use lib.ListN.{length, take, drop}
 use lib.Seq.{take-append-seam, drop-append-seam}
 use borrow.Author.Tests.{eq-eqb, ne-eqb}
@@ -32,6 +32,11 @@ module _ {l : Lists} {out out′ : List ℕ} {o : Transcribed} (p : WroteTranscr
   -- Its answer is the one that the entries call for.
   pub writer-answers : Written entries (length out) o
   writer-answers = writes-exactly entries (length out) o .0 (sym (p .answer))
+
+  -- And it is no other.
+  pub writer-exactly : (a : Transcribed) → o ≡ a ↔ Written entries (length out) a
+  writer-exactly a =
+      (λ e. subst (Written entries (length out)) e writer-answers, λ w. p .answer ∙ writes-exactly entries (length out) a .1 w)
 
   -- Refused, it leaves every byte, and counts none.
   pub writer-refused : o .number ≢ 0 → (out′ ≡ out) × (o .count ≡ 0)
@@ -78,6 +83,10 @@ module _ {s : List ℕ} {l l′ : Lists} {o : Transcribed} (p : ReadTranscript s
   pub reader-answers : ReadAs s (size l) o
   reader-answers = reads-exactly s (size l) o .0 (sym (p .answer))
 
+  -- And it is no other.
+  pub reader-exactly : (a : Transcribed) → o ≡ a ↔ ReadAs s (size l) a
+  reader-exactly a = (λ e. subst (ReadAs s (size l)) e reader-answers, λ w. p .answer ∙ reads-exactly s (size l) a .1 w)
+
   -- Refused, it leaves every place of the four lists, and counts none.
   pub reader-refused : o .number ≢ 0 → (l′ ≡ l) × (o .count ≡ 0)
   unfolding lists-after
@@ -112,7 +121,9 @@ module _ {s : List ℕ} {l l′ : Lists} {o : Transcribed} (p : ReadTranscript s
             count = n;
             place = refl;
             fits = h;
-            entries = ap (λ (k : ℕ). first-places k l′) n ∙ ap (first-places (length (entries-read s))) left ∙ first-are-columns (entries-read s) l;
+            entries =
+                ap (λ (k : ℕ). first-places k l′) n ∙ ap (first-places (length (entries-read s))) left
+                ∙ first-are-columns (entries-read s) l;
             rest =
                 ap (λ (k : ℕ). later-places k l′) n ∙ ap (later-places (length (entries-read s))) left
                 ∙ later-stay (entries-read s) l ∙ ap (λ (k : ℕ). later-places k l) (sym n);
@@ -139,7 +150,10 @@ returned {l} {k} {k′} {out} {out′} {o} {a} p z q room =
     let count : a .count ≡ size l = ap (λ (x : Transcribed). x .count) answer ∙ n in (
       ap (λ (x : Transcribed). x .number) answer,
       count,
-      ap (λ (j : ℕ). first-places j k′) (sym count) ∙ r .entries ∙ ap columns (sound-exactly (take (o .count) out′) es .0 sound .1) ∙ columns-first l,
+      ap (λ (j : ℕ). first-places j k′) (sym count)
+          ∙ r .entries
+          ∙ ap columns (sound-exactly (take (o .count) out′) es .0 sound .1)
+          ∙ columns-first l,
     )
 
 -- Writing what was read returns the bytes, into any that are as many.
@@ -154,7 +168,8 @@ given-back {s} {out} {out′} {l} {l′} {o} {a} b p z q room =
     let answer : a ≡ accepted (length (transcript-of es)) =
     q .answer
     ∙ ap (λ (x : List Entry). write-answer x (length out)) e
-    ∙ writes-exactly es (length out) (accepted (length (transcript-of es))) .1 (plain.Written.done (i .0) (subst (λ (t : List ℕ). length t ≤ length out) (i .1) room)) in
+    ∙ writes-exactly es (length out) (accepted (length (transcript-of es))) .1
+    (plain.Written.done (i .0) (subst (λ (t : List ℕ). length t ≤ length out) (i .1) room)) in
     let w = writer-done q (ap (λ (x : Transcribed). x .number) answer) in
     let count : a .count ≡ length s = ap (λ (x : Transcribed). x .count) answer ∙ ap length (sym (i .1)) in (
       ap (λ (x : Transcribed). x .number) answer,

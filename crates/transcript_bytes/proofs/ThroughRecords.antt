@@ -32,7 +32,7 @@ between got i = at got i i fresh 0
 -- ---- a head
 module _ (got : List Entry) (i : ℕ) (h : List ℕ) where
   -- A good even head is a whole record.
-  pub whole-read : (v : ℕ) (rest : List ℕ) → Says h v → 8 ≤ v → v ≤ 31 → v % 2 ≡ 0 →
+  whole-read : (v : ℕ) (rest : List ℕ) → Says h v → 8 ≤ v → v ≤ 31 → v % 2 ≡ 0 →
       feeds (between got i) (h ++ rest) ≡ feeds (between (got ++ (entry-of v 0 ∷ [])) (i + length h)) rest
   whole-read v rest q l m z =
       reads-number Head head-read head-rule got i i h rest (q .spelled)
@@ -40,7 +40,7 @@ module _ (got : List Entry) (i : ℕ) (h : List ℕ) where
       (head-accepted h v q l m ∙ ap (λ (t : Bool). cond t (Whole (entry-of v 0)) (Goes (Word v none))) (eq-eqb (v % 2) 0 z))
 
   -- A good odd head calls for a word.
-  pub write-begun : (v : ℕ) (rest : List ℕ) → Says h v → 8 ≤ v → v ≤ 31 → v % 2 ≡ 1 →
+  write-begun : (v : ℕ) (rest : List ℕ) → Says h v → 8 ≤ v → v ≤ 31 → v % 2 ≡ 1 →
       feeds (between got i) (h ++ rest) ≡ feeds (at got i (i + length h) (Word v none) 0) rest
   write-begun v rest q l m o =
       reads-number Head head-read head-rule got i i h rest (q .spelled)

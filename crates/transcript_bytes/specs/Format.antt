@@ -1,6 +1,6 @@
 -- What a transcript is written as: document 02, request (ii).
 --   head-of e         the head of an entry's record
---   groups v          a number below 2^21 in groups of seven bits: every head and every word is one
+--   groups v          a number below 2^21 in groups of seven bits: every head and every word that is written is one
 --   record-of e       the bytes of an entry
 --   transcript-of es  the bytes of a list
 use Prim.Native.Nat.{ℕ, _+_, _*_, _/_, _%_}

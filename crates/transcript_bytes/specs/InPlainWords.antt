@@ -5,6 +5,7 @@
 --   Padded s, Unpadded s  its first group is 0, and another follows; it is not so
 --   Says s v              s spells v, with no leading zero group
 --   Good e, AllGood es    an entry that has a record; a list of them
+--   OffLanes e            its lanes are not 1, 2 or 3
 --   BadEntry e n          an entry that has none, and the number with which it is refused
 --   first-places n l, later-places n l   the four lists: their first n places, and those after them
 --   GoodRecord s e        s is a record, that of the entry e
@@ -12,6 +13,7 @@
 --   WriteHead s           s is a good head, and a word must follow
 --   BadHead, BadWord s n  a number that is a bad head, a bad word, and its refusal
 --   BadRecord s n         the string s begins with a bad record, whose refusal is n
+--   answer n count place  an answer, by its parts
 --   Written, ReadAs       what the writer answers of a list, the reader of a string: each answer, when and only then
 --   WroteAll, ReadAll     what an accepted writing, an accepted reading leaves
 use Prim.Native.Nat.{ℕ, _+_, _*_, _%_, _^_, _<_, _≤_}
@@ -19,10 +21,9 @@ use mathlib.Core.Path.{_≡_}
 use mathlib.Core.List.{List, [], _∷_, _++_}
 use mathlib.Core.Logic.{_⊎_, _≢_}
 use lib.ListN.{length, take, drop, getD}
-use Rattle.transcript_bytes.specs.Format.{head-of, transcript-of}
+use Rattle.transcript_bytes.specs.Format.{transcript-of}
 use Rattle.transcript_bytes.specs.Lists.{Lists, lists, size, entries-in, columns}
 use Rattle.transcript_bytes.specs.Reading.{entries-read}
-use Rattle.transcript_bytes.specs.Writing.{refused, accepted}
 use Rattle.transcript_bytes.specs.declared.Entry.{Entry}
 use Rattle.transcript_bytes.specs.declared.Transcribed.{Transcribed}
 
@@ -88,11 +89,12 @@ first-places n l = lists (take n (l .kinds)) (take n (l .registers)) (take n (l 
 abbrev pub later-places : ℕ → Lists → Lists
 later-places n l = lists (drop n (l .kinds)) (drop n (l .registers)) (drop n (l .lanes)) (drop n (l .words))
 
--- ---- good records: "A record is a head, then for a write the word"
+-- ---- good records: "A record is a head, then for a write the word. The head is kind (0 read, 1 write) + 2 × register + 8 × lanes"
 
 pub data GoodRecord : List ℕ → Entry → Type 0 where
-  a-read : {s : List ℕ} {e : Entry} → Good e → e .kind ≡ 0 → Says s (head-of e) → GoodRecord s e
-  a-write : {h w : List ℕ} {e : Entry} → Good e → e .kind ≡ 1 → Says h (head-of e) → Says w (e .word) → GoodRecord (h ++ w) e
+  a-read : {s : List ℕ} {e : Entry} → Good e → e .kind ≡ 0 → Says s (e .kind + 2 * e .register + 8 * e .lanes) → GoodRecord s e
+  a-write : {h w : List ℕ} {e : Entry} → Good e → e .kind ≡ 1 → Says h (e .kind + 2 * e .register + 8 * e .lanes) →
+      Says w (e .word) → GoodRecord (h ++ w) e
 
 pub data Sound : List ℕ → List Entry → Type 0 where
   nothing : Sound [] []
@@ -126,17 +128,20 @@ pub data BadRecord : List ℕ → ℕ → Type 0 where
 
 -- ---- the answers
 
+abbrev pub answer : ℕ → ℕ → ℕ → Transcribed
+answer n count place = record { number = n; count = count; place = place }
+
 -- "24 list too small, exactly when all records are good and the whole result doesn't fit"
 pub data Written (es : List Entry) (room : ℕ) : Transcribed → Type 0 where
-  done : AllGood es → length (transcript-of es) ≤ room → Written es room (accepted (length (transcript-of es)))
-  too-small : AllGood es → room < length (transcript-of es) → Written es room (refused 24 0)
+  done : AllGood es → length (transcript-of es) ≤ room → Written es room (answer 0 (length (transcript-of es)) 0)
+  too-small : AllGood es → room < length (transcript-of es) → Written es room (answer 24 0 0)
   bad-entry : (xs ys : List Entry) {e : Entry} {n : ℕ} → es ≡ xs ++ (e ∷ ys) → AllGood xs → BadEntry e n →
-      Written es room (refused n (length xs))
+      Written es room (answer n 0 (length xs))
 
 pub data ReadAs (s : List ℕ) (room : ℕ) : Transcribed → Type 0 where
-  done : {es : List Entry} → Sound s es → length es ≤ room → ReadAs s room (accepted (length es))
-  too-small : {es : List Entry} → Sound s es → room < length es → ReadAs s room (refused 24 0)
-  bad-record : {es : List Entry} {t u : List ℕ} {n : ℕ} → s ≡ t ++ u → Sound t es → BadRecord u n → ReadAs s room (refused n (length t))
+  done : {es : List Entry} → Sound s es → length es ≤ room → ReadAs s room (answer 0 (length es) 0)
+  too-small : {es : List Entry} → Sound s es → room < length es → ReadAs s room (answer 24 0 0)
+  bad-record : {es : List Entry} {t u : List ℕ} {n : ℕ} → s ≡ t ++ u → Sound t es → BadRecord u n → ReadAs s room (answer n 0 (length t))
 
 -- ---- what an accepted call leaves
 

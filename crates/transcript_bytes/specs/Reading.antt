@@ -6,7 +6,7 @@
 --   step p b                  what the byte b makes of the part p
 --   Reading                   how far a transcript is read
 --   at, fed, feed, feeds      such a reading, by its parts; with what a byte made; with one byte more; with a whole string more
---   start, ended              before the first byte; the refusal when nothing follows, or 0
+--   start, cut-off, ended     before the first byte; the refusal of a part when nothing follows, or 0; that of a reading
 --   entries-read, place-read, refusal-read   of a whole string: the entries before the first bad record, where that begins, its refusal or 0
 --   read-answer s room        what the reader answers of a string, lent lists for so many entries
 --   lists-after s l           the lent lists afterwards

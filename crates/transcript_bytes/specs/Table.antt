@@ -3,20 +3,29 @@
 --   spare, blank            what lies in the lists and in the bytes before a call
 --   Row                     reading s es o es′: the string s is read over lists that hold es; the answer is o, and they hold es′
 --                           writing es s o s′: the entries es are written over the bytes s; the answer is o, and these are s′
+--   refused n place, accepted count   their answers
+--   refuses, gives, bars    a reading of one spare place that is refused, one that is accepted, and a writing that is refused
 --   worked row              the row with its answer, and what is left, by the definitions
 --   forty                   a number of forty bytes
 --   reads, writes, table    the rows
 use Prim.Native.Nat.{ℕ}
 use mathlib.Core.List.{List, [], _∷_, _++_}
 use lib.ListN.{length, replicate}
+use Rattle.transcript_bytes.specs.InPlainWords.{answer}
 use Rattle.transcript_bytes.specs.Lists.{columns, entries-in}
 use Rattle.transcript_bytes.specs.Reading.{read-answer, lists-after}
-use Rattle.transcript_bytes.specs.Writing.{refused, accepted, write-answer, bytes-after}
+use Rattle.transcript_bytes.specs.Writing.{write-answer, bytes-after}
 use Rattle.transcript_bytes.specs.declared.Entry.{Entry}
 use Rattle.transcript_bytes.specs.declared.Transcribed.{Transcribed}
 
 abbrev pub entry : ℕ → ℕ → ℕ → ℕ → Entry
 entry k r l w = record { kind = k; register = r; lanes = l; word = w }
+
+abbrev pub refused : ℕ → ℕ → Transcribed
+refused n place = answer n 0 place
+
+abbrev pub accepted : ℕ → Transcribed
+accepted count = answer 0 count 0
 
 abbrev pub spare : Entry
 spare = entry 7 7 7 7
@@ -53,9 +62,14 @@ reads =
     reading (0x1D ∷ 0xA4 ∷ 0x34 ∷ []) (spare ∷ spare ∷ []) (accepted 1) (entry 1 2 3 0x1234 ∷ spare ∷ []) ∷
     -- nothing at all is a good transcript
     reading [] (spare ∷ []) (accepted 0) (spare ∷ []) ∷
-    -- every good head by itself is a read; the least of them and the greatest
-    gives (0x08 ∷ []) (entry 0 0 1 0) ∷
-    gives (0x1E ∷ []) (entry 0 3 3 0) ∷
+    -- every good head: the twelve of reads, by themselves, and the twelve of writes, with a word each
+    reading (0x08 ∷ 0x0A ∷ 0x0C ∷ 0x0E ∷ 0x10 ∷ 0x12 ∷ 0x14 ∷ 0x16 ∷ 0x18 ∷ 0x1A ∷ 0x1C ∷ 0x1E ∷ []) (replicate 12 spare) (accepted 12)
+    (entry 0 0 1 0 ∷ entry 0 1 1 0 ∷ entry 0 2 1 0 ∷ entry 0 3 1 0 ∷ entry 0 0 2 0 ∷ entry 0 1 2 0 ∷
+    entry 0 2 2 0 ∷ entry 0 3 2 0 ∷ entry 0 0 3 0 ∷ entry 0 1 3 0 ∷ entry 0 2 3 0 ∷ entry 0 3 3 0 ∷ []) ∷
+    reading (0x09 ∷ 5 ∷ 0x0B ∷ 5 ∷ 0x0D ∷ 5 ∷ 0x0F ∷ 5 ∷ 0x11 ∷ 5 ∷ 0x13 ∷ 5 ∷ 0x15 ∷ 5 ∷ 0x17 ∷ 5 ∷ 0x19 ∷ 5 ∷ 0x1B ∷ 5 ∷
+    0x1D ∷ 5 ∷ 0x1F ∷ 5 ∷ []) (replicate 12 spare) (accepted 12)
+    (entry 1 0 1 5 ∷ entry 1 1 1 5 ∷ entry 1 2 1 5 ∷ entry 1 3 1 5 ∷ entry 1 0 2 5 ∷ entry 1 1 2 5 ∷
+    entry 1 2 2 5 ∷ entry 1 3 2 5 ∷ entry 1 0 3 5 ∷ entry 1 1 3 5 ∷ entry 1 2 3 5 ∷ entry 1 3 3 5 ∷ []) ∷
     -- words of one, two and three groups
     gives (0x1D ∷ 0x00 ∷ []) (entry 1 2 3 0) ∷
     gives (0x1D ∷ 0x7F ∷ []) (entry 1 2 3 127) ∷
@@ -67,6 +81,8 @@ reads =
     refuses (0xFF ∷ 0xFF ∷ 0xFF ∷ 0xFF ∷ []) 20 0 ∷
     refuses (0x1D ∷ []) 20 0 ∷
     refuses (0x1D ∷ 0xA4 ∷ []) 20 0 ∷
+    refuses (0x1D ∷ 0x80 ∷ []) 20 0 ∷
+    refuses (0x1D ∷ 0xFF ∷ 0xFF ∷ 0xFF ∷ 0xFF ∷ []) 20 0 ∷
     -- 21: before 22 and 23, of a head and of a word
     refuses (0x80 ∷ 0x1D ∷ []) 21 0 ∷
     refuses (0x80 ∷ 0x20 ∷ []) 21 0 ∷
@@ -75,11 +91,14 @@ reads =
     refuses (0x1D ∷ 0x80 ∷ 0x84 ∷ 0x80 ∷ 0x00 ∷ []) 21 0 ∷
     -- 22: head 32, head 128, word 65,536; forty bytes; a head that is 30 modulo 2^32
     refuses (0x20 ∷ []) 22 0 ∷
+    refuses (0x21 ∷ []) 22 0 ∷
     refuses (0x81 ∷ 0x00 ∷ []) 22 0 ∷
     refuses (0x1D ∷ 0x84 ∷ 0x80 ∷ 0x00 ∷ []) 22 0 ∷
     refuses forty 22 0 ∷
     refuses (0x1D ∷ forty) 22 0 ∷
     refuses (0x90 ∷ 0x80 ∷ 0x80 ∷ 0x80 ∷ 0x80 ∷ 0x1E ∷ []) 22 0 ∷
+    refuses (0x81 ∷ replicate 38 0x80 ++ (0x1E ∷ [])) 22 0 ∷
+    refuses (0x1D ∷ 0x81 ∷ replicate 38 0x80 ++ (0x34 ∷ [])) 22 0 ∷
     -- 23: heads 0 to 7, the odd ones before any word
     refuses (0 ∷ []) 23 0 ∷
     refuses (1 ∷ []) 23 0 ∷
@@ -119,6 +138,8 @@ writes =
     bars (entry 0 3 3 1 ∷ []) 22 0 ∷
     bars (entry 2 4 0 65536 ∷ []) 2 0 ∷
     bars (entry 2 3 0 65536 ∷ []) 3 0 ∷
+    bars (entry 0 4 0 1 ∷ []) 2 0 ∷
+    bars (entry 0 3 0 1 ∷ []) 3 0 ∷
     bars (entry 0 3 3 0 ∷ entry 0 3 4 0 ∷ entry 0 4 3 0 ∷ []) 3 1 ∷
     -- 24: five bytes for four; a bad entry comes first
     bars (entry 0 3 3 0 ∷ entry 1 0 1 65535 ∷ []) 24 0 ∷

@@ -25,7 +25,10 @@ returns-2 c = c .before .same2 .ensures .0 (c .if2 .taken)
 
 returns-3 : tie.Need-returns-3
 returns-3 c =
-    (λ e. true≢false (sym (c .before .before .before .before .same .ensures .1 e) ∙ c .before .before .before .if1 .left), λ e. true≢false (sym (c .before .same2 .ensures .1 e) ∙ c .if2 .left))
+    let second = c .before in
+    let other = second .before .before in
+    let first = other .before in
+    (λ e. true≢false (sym (first .same .ensures .1 e) ∙ other .if1 .left), λ e. true≢false (sym (second .same2 .ensures .1 e) ∙ c .if2 .left))
 
 pub way-of-spec : {M : Type 1} → statement M
 way-of-spec =

@@ -28,7 +28,12 @@ same-length-4 : tie.Need-same-length-4
 same-length-4 c = search needs
 
 returns : tie.Need-returns
-returns c = rw (c .before .before .before .before .before .before .before .before .before .before .before .before .before .before .put-number .ensures, c .before .before .before .before .before .before .before .before .before .before .put-number2 .ensures, c .before .before .before .before .before .before .put-number3 .ensures, c .before .before .put-number4 .ensures)
+returns c =
+    let fourth = c .before .before in
+    let third = fourth .before .before .before .before in
+    let second = third .before .before .before .before in
+    let first = second .before .before .before .before in
+    rw (first .put-number .ensures, second .put-number2 .ensures, third .put-number3 .ensures, fourth .put-number4 .ensures)
 
 pub put-entry-spec : {M : Type 1} → statement M
 put-entry-spec =

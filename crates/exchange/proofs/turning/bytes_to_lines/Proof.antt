@@ -25,13 +25,16 @@ same-length-4 c = search needs
 
 returns : tie.Need-returns
 returns c =
-    rw (c .judge .ensures) (lines-refused (c .before .before .before .before .before .before .before .before .before .before .before .read-transcript .ensures) _ _ (c .before .if1 .taken))
+    let refused = c .before in
+    let read = refused .before .before .before .before .before .before .before .before .before .before .read-transcript in
+    rw (c .judge .ensures) (lines-refused (read .ensures) _ _ (refused .if1 .taken))
 
 put-first-requires : tie.Need-put-first-requires
 put-first-requires c κs =
-    let read = c .before .before .before .before .before .before .before .before .before .before .before .before .before .before .before .read-transcript in
+    let good = c .before .before .before .before .before in
+    let read = good .before .before .before .before .before .before .before .before .before .before .read-transcript in
     let four = read .kept .1 in
-    omega (arith, read-fits (read .ensures) (c .before .before .before .before .before .if1 .left), four .0, four .1 .0, four .1 .1 .0, four .1 .1 .1 .0)
+    omega (arith, read-fits (read .ensures) (good .if1 .left), four .0, four .1 .0, four .1 .1 .0, four .1 .1 .1 .0)
 
 judge-lines-requires : tie.Need-judge-lines-requires
 judge-lines-requires c κs = search needs
@@ -53,7 +56,10 @@ same-length-9 c = search needs
 
 returns-2 : tie.Need-returns-2
 returns-2 c =
-    rw (c .judge-lines .ensures) (lines-done (c .before .before .before .before .before .before .before .before .before .before .before .before .before .before .before .before .before .before .before .read-transcript .ensures) (c .before .before .before .before .before .before .before .before .before .if1 .left) (c .before .before .before .put-first .ensures))
+    let put = c .before .before .before in
+    let good = put .before .before .before .before .before .before in
+    let read = good .before .before .before .before .before .before .before .before .before .before .read-transcript in
+    rw (c .judge-lines .ensures) (lines-done (read .ensures) (good .if1 .left) (put .put-first .ensures))
 
 pub bytes-to-lines-spec : {M : Type 1} → statement M
 bytes-to-lines-spec =

@@ -14,9 +14,11 @@ enum-known-taken c = search needs
 
 write-first-requires : tie.Need-write-first-requires
 write-first-requires c κs =
-    let took = c .before .before .before .before .before .before .before .before .before .before .before .before .before .before .before .before .take-lines in
+    let good = c .before .before .before .before .before .before in
+    let took = good .before .before .before .before .before .before .before .before .before .before .take-lines in
     let four = took .kept .1 in
-    omega (arith, took-entries (rw (c .before .before .before .before .before .before .taken .given .1) at (took .ensures)) .0, four .0, four .1 .0, four .1 .1 .0, four .1 .1 .1 .0)
+    let there = took-entries (rw (good .taken .given .1) at (took .ensures)) .0 in
+    omega (arith, there, four .0, four .1 .0, four .1 .1 .0, four .1 .1 .1 .0)
 
 judge-requires : tie.Need-judge-requires
 judge-requires c κs = search needs
@@ -44,7 +46,10 @@ same-length-5 c = search needs
 
 returns : tie.Need-returns
 returns c =
-    rw (c .judge .ensures) (bytes-done (rw (c .before .before .before .before .before .before .before .before .before .before .taken .given .1) at (c .before .before .before .before .before .before .before .before .before .before .before .before .before .before .before .before .before .before .before .before .take-lines .ensures)) (c .before .before .before .write-first .ensures))
+    let wrote = c .before .before .before in
+    let good = wrote .before .before .before .before .before .before .before in
+    let took = good .before .before .before .before .before .before .before .before .before .before .take-lines in
+    rw (c .judge .ensures) (bytes-done (rw (good .taken .given .1) at (took .ensures)) (wrote .write-first .ensures))
 
 same-length-6 : tie.Need-same-length-6
 same-length-6 c = search needs
@@ -60,7 +65,9 @@ same-length-9 c = search needs
 
 returns-2 : tie.Need-returns-2
 returns-2 c =
-    bad-line _ (rw (c .before .taken2 .given .1) at (c .before .before .before .before .before .before .before .before .before .before .before .take-lines .ensures))
+    let bad = c .before in
+    let took = bad .before .before .before .before .before .before .before .before .before .before .take-lines in
+    bad-line _ (rw (bad .taken2 .given .1) at (took .ensures))
 
 same-length-10 : tie.Need-same-length-10
 same-length-10 c = search needs
@@ -76,7 +83,8 @@ same-length-13 c = search needs
 
 returns-3 : tie.Need-returns-3
 returns-3 c =
-    no-places _ (rw (c .enum-told .given .1) at (c .before .before .before .before .before .before .before .before .before .before .take-lines .ensures))
+    let took = c .before .before .before .before .before .before .before .before .before .before .take-lines in
+    no-places _ (rw (c .enum-told .given .1) at (took .ensures))
 
 pub lines-to-bytes-spec : {M : Type 1} → statement M
 lines-to-bytes-spec =

@@ -60,7 +60,9 @@ same-length c = search needs
 
 returns : tie.Need-returns
 returns c =
-    rw (sub-zero (c .before .before .before .before .before .before .before .before .before .before .before .before .before .args .n)) at (c .before .before .put-lines .ensures)
+    let called = c .before .before in
+    let start = called .before .before .before .before .before .before .before .before .before .before .before in
+    rw (sub-zero (start .args .n)) at (called .put-lines .ensures)
 
 pub put-first-spec : {M : Type 1} → statement M
 put-first-spec =

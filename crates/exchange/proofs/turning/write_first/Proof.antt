@@ -60,7 +60,9 @@ same-length c = search needs
 
 returns : tie.Need-returns
 returns c =
-    rw (sub-zero (c .before .before .before .before .before .before .before .before .before .before .before .before .before .args .n)) at (c .before .before .write-transcript .ensures)
+    let called = c .before .before in
+    let start = called .before .before .before .before .before .before .before .before .before .before .before in
+    rw (sub-zero (start .args .n)) at (called .write-transcript .ensures)
 
 pub write-first-spec : {M : Type 1} → statement M
 write-first-spec =
