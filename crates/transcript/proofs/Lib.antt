@@ -4,5 +4,4 @@ pub mod Judging
 pub mod Putting
 pub mod Written
 -- ---- the reader
-pub mod Counting
 pub mod ReadOutcomes

@@ -10,8 +10,9 @@ use Rattle.words.proofs.Choices.{less-or-not, same-or-not}
 use Rattle.transcript_bytes.specs.Lists.{Lists, size, with-entries}
 use Rattle.transcript_bytes.specs.Reading.{entries-read, refusal-read, read-answer, lists-after, ReadTranscript}
 use Rattle.transcript_bytes.specs.declared.Transcribed.{Transcribed}
-use Rattle.transcript.specs.ReaderParts.{scanned, answer-for}
-use Rattle.transcript.specs.declared.scanning.Scanned.{Scanned}
+use Rattle.transcript_scan.specs.Scan.{scanned}
+use Rattle.transcript_scan.specs.declared.scanning.Scanned.{Scanned}
+use Rattle.transcript.specs.ReaderParts.{answer-for}
 
 -- The answer is right that follows from a scan and from the room of the shortest list.
 pub right-answer : {o : Transcribed} {found : Scanned} (s : List ℕ) (room : ℕ) {free : ℕ} →

@@ -6,14 +6,14 @@ ghost use Rattle.transcript_bytes.specs.Lists.{lists, size, with-entries};
 ghost use Rattle.transcript_bytes.specs.Reading.{entries-read, ReadTranscript};
 ghost use Rattle.transcript.specs.ReaderParts.{answer-for};
 use crate::answers::refuse;
-use crate::scanning::Scanned;
-use crate::scanning::scan;
-use crate::steps::fresh_part;
-use crate::steps::take_byte;
 use transcript_bytes::Step;
 use transcript_bytes::Transcribed;
 use transcript_lists::put_entry;
 use transcript_lists::shortest;
+use transcript_scan::Scanned;
+use transcript_scan::fresh_part;
+use transcript_scan::scan;
+use transcript_scan::take_byte;
 
 // What is answered of a string, by what the scan found and by how many entries have room: a bad record comes before lists that are too
 // small.

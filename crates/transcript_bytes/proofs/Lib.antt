@@ -4,6 +4,7 @@ pub mod Groups
 pub mod NumberRead
 -- ---- the reader, byte by byte, on a number, a record and a whole string
 pub mod BadNumbers
+pub mod GoesOn
 pub mod ReadingOn
 pub mod ThroughNumbers
 pub mod Judged

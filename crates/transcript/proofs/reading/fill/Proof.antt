@@ -11,7 +11,7 @@ use Rattle.transcript_bytes.specs.declared.Entry.{Entry}
 use Rattle.transcript_bytes.specs.declared.Part.{Part}
 use Rattle.transcript_bytes.specs.declared.Step.the-variants.{Goes, Whole, Bad}
 use Rattle.transcript_bytes.proofs.Filled.{SameLengths, lengths-stay, entry-more}
-use Rattle.transcript.proofs.Counting.{Counting, begun, goes-on, counted, stopped}
+use Rattle.transcript_scan.proofs.Counting.{Counting, begun, goes-on, counted, stopped}
 use Rattle.transcript_bytes.proofs.ReadingOn.{at-end, so-far}
 use Rattle.transcript.proofs.reading.fill.Statement.{statement}
 use Rattle.transcript.proofs.reading.fill.Tie as tie

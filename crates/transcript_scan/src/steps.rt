@@ -18,7 +18,7 @@ fn no_number() -> Number
 }
 
 // A record before its first byte.
-pub(crate) fn fresh_part() -> Part
+pub fn fresh_part() -> Part
     ensures { λ r. ⌜ r ≡ fresh ⌝ }
 {
     Part::Head(no_number())

@@ -1,7 +1,7 @@
--- `transcript::steps::grow` meets its contract: at the first byte, and after it.
+-- `transcript_scan::steps::grow` meets its contract: at the first byte, and after it.
 use borrow.Author.Needs.{needs}
-use Rattle.transcript.proofs.steps.grow.Statement.{statement}
-use Rattle.transcript.proofs.steps.grow.Tie as tie
+use Rattle.transcript_scan.proofs.steps.grow.Statement.{statement}
+use Rattle.transcript_scan.proofs.steps.grow.Tie as tie
 
 add-group-requires : tie.Need-add-group-requires
 add-group-requires c κs = search needs
