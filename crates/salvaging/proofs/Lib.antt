@@ -1,0 +1,4 @@
+-- ---- how a string divides, and what that makes of salvage
+pub mod Divides
+-- ---- the call
+pub mod Outcomes
