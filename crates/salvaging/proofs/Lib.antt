@@ -1,4 +1,9 @@
 -- ---- how a string divides, and what that makes of salvage
 pub mod Divides
+pub mod Exactly
+pub mod Longest
+pub mod Unchanged
+pub mod MoreBehind
+pub mod InPieces
 -- ---- the call
 pub mod Outcomes

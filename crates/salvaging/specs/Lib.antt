@@ -1,4 +1,6 @@
 -- ---- what the contract cites
 pub mod Salvage
+-- ---- what the program cites, and its law
+pub mod Pieces
 -- ---- the words of the laws
 pub mod InPlainWords

@@ -15,7 +15,7 @@ use Rattle.transcript_bytes.specs.Reading.{entry-of}
 use Rattle.transcript_bytes.specs.declared.Entry.{Entry}
 
 -- ---- the number at the front of a string
-data FrontNumber (s : List ℕ) : Type 0 where
+pub data FrontNumber (s : List ℕ) : Type 0 where
   cut : Continued s → FrontNumber s
   whole : (h rest : List ℕ) → s ≡ h ++ rest → Spelled h → FrontNumber s
 
@@ -31,7 +31,8 @@ one-byte b s (whole n rest e p) h =
       ends = p .ends;
     })
 
-front-number : (s : List ℕ) → FrontNumber s
+-- Every string begins with a whole number, or is cut off before one ends.
+pub front-number : (s : List ℕ) → FrontNumber s
 front-number [] = cut tt
 front-number (b ∷ s) =
     ⊎-elim
@@ -39,7 +40,7 @@ front-number (b ∷ s) =
     (one-byte b s (front-number s))
     (less-or-not b 128)
 
-has-a-byte : (h : List ℕ) → Spelled h → 1 ≤ length h
+pub has-a-byte : (h : List ℕ) → Spelled h → 1 ≤ length h
 has-a-byte h p = let e = ap length (p .all) ∙ length-append (p .first) (p .last ∷ []) in omega arith
 
 -- ---- the record at the front of a string

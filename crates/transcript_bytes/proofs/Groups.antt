@@ -109,16 +109,16 @@ groups-bytes v h =
     (less-or-not v 128)
 
 -- ---- whatever says a number is its groups
--- four groups or more make 128^3 at least
-long : (a : ℕ) (s : List ℕ) → 1 ≤ a % 128 → 3 ≤ length s → 2097152 ≤ value-of (a ∷ s)
+-- Four groups or more, the first not 0, make 128^3 at least.
+pub long : (a : ℕ) (s : List ℕ) → 1 ≤ a % 128 → 3 ≤ length s → 2097152 ≤ value-of (a ∷ s)
 unfolding value-of
 long a s h l =
     let p : 128 ^ 3 ≤ 128 ^ length s = pow-le-pow-right (omega arith) l in
     let q : 1 * 128 ^ 3 ≤ a % 128 * 128 ^ length s = mul-le-mul h p in
     omega arith
 
--- a first group that is not 0
-first-group : (a : ℕ) → a < 256 → 128 ≤ a → a ≢ 128 → (1 ≤ a % 128) × (128 + a % 128 ≡ a)
+-- Of a byte with the top bit set, other than 80h, the group is not 0.
+pub first-group : (a : ℕ) → a < 256 → 128 ≤ a → a ≢ 128 → (1 ≤ a % 128) × (128 + a % 128 ≡ a)
 first-group a h l d = (omega (arith, d), omega arith)
 
 only : (first : List ℕ) (g : ℕ) → AreBytes first → Continued first → g < 128 → getD (first ++ (g ∷ [])) 0 0 ≢ 128 →

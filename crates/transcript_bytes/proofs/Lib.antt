@@ -11,6 +11,7 @@ pub mod Judged
 pub mod ThroughRecords
 pub mod Divided
 pub mod ReadExactly
+pub mod LongRecords
 -- ---- the writer
 pub mod RecordBytes
 pub mod WrittenExactly
