@@ -7,3 +7,6 @@ pub mod MoreBehind
 pub mod InPieces
 -- ---- the call
 pub mod Outcomes
+pub mod Promised
+pub mod AfterSalvage
+pub mod One

@@ -4,7 +4,8 @@
 --   answer n kept left k   an answer, by its parts
 --   SalvagedAs          what salvage answers of a string: each answer, when and only then
 --   SalvagedAll         what a salvage leaves that is done
-use Prim.Native.Nat.{ℕ, _<_, _≤_}
+--   written s o out′    the bytes that it wrote: as many as it did not leave
+use Prim.Native.Nat.{ℕ, _-_, _<_, _≤_}
 use mathlib.Core.Path.{_≡_}
 use mathlib.Core.List.{List, [], _++_}
 use lib.ListN.{length, take, drop}
@@ -42,3 +43,6 @@ pub record SalvagedAll (s out : List ℕ) (o : Salvaged) (out′ : List ℕ) : T
   pub fits : length kept ≤ length out
   pub written : take (length kept) out′ ≡ kept
   pub later : drop (length kept) out′ ≡ drop (length kept) out
+
+abbrev pub written : List ℕ → Salvaged → List ℕ → List ℕ
+written s o out′ = take (length s - o .left) out′

@@ -1,0 +1,132 @@
+-- What was written, and what was left, said of any salvage that is done: what the reader says of both, what stopped it, and salvaging once
+-- more.
+use Prim.Native.Nat.{ℕ, _-_, _≤_}
+use native.Mathlib.Omega.{arith}
+use mathlib.Core.Path.{_≡_, refl, sym, ap, _∙_, subst}
+use mathlib.Core.List.{List, [], _∷_, _++_}
+use mathlib.Core.Logic.{_↔_, _≢_}
+use lib.ListN.{length, take, drop, length-append}
+use lib.Seq.{drop-append-seam}
+use Rattle.transcript_bytes.specs.InPlainWords.{Sound, BadRecord, first-places}
+use Rattle.transcript_bytes.specs.InPlainWords as format
+use Rattle.transcript_bytes.specs.Lists.{Lists, size, columns}
+use Rattle.transcript_bytes.specs.Reading.{entries-read, ReadTranscript}
+use Rattle.transcript_bytes.specs.declared.Entry.{Entry}
+use Rattle.transcript_bytes.specs.declared.Transcribed.{Transcribed}
+use Rattle.transcript_bytes.proofs.Promised.{reader-exactly, reader-done}
+use Rattle.transcript_bytes.proofs.ReadExactly.{sound-exactly}
+use Rattle.salvaging.specs.InPlainWords.{answer, SalvagedAll, written}
+use Rattle.salvaging.specs.InPlainWords as plain
+use Rattle.salvaging.specs.Salvage.{run, rest, SalvagedTranscript}
+use Rattle.salvaging.specs.declared.Salvaged.{Salvaged}
+use Rattle.salvaging.proofs.Divides.{Found, found}
+use Rattle.salvaging.proofs.Longest.{longest, next-is-bad, left-exactly, stopped-as-read}
+use Rattle.salvaging.proofs.Promised.{salvage-exactly, salvage-done}
+use Rattle.salvaging.proofs.Unchanged.{sound-divides, comes-out-same}
+
+-- A sound transcript comes out the same, with nothing left and no refusal.
+pub comes-out : {s out : List ℕ} {o : Salvaged} {out′ : List ℕ} {es : List Entry} → SalvagedTranscript s out o out′ → Sound s es →
+    length s ≤ length out → (o ≡ answer 0 (length es) 0 0) × (take (length s) out′ ≡ s)
+comes-out {s} {out} {o} {out′} {es} p q room =
+    let e = salvage-exactly p (answer 0 (length es) 0 0) .1 (plain.SalvagedAs.done (sound-divides q) room) in
+    let x = salvage-done p (ap (λ (a : Salvaged). a .number) e) in
+    let same : x .kept ≡ s = sym (found (x .divides) .kept) ∙ comes-out-same q .kept in
+    (e, subst (λ (t : List ℕ). take (length t) out′ ≡ t) same (x .written))
+
+module _ {s out : List ℕ} {o : Salvaged} {out′ : List ℕ} (p : SalvagedTranscript s out o out′) (z : o .number ≡ 0) where
+  -- ---- the parts of the string, by the answer
+  done : SalvagedAll s out o out′
+  done = salvage-done p z
+
+  parts : Found s (done .entries) (done .kept) (done .left) (o .stop)
+  parts = found (done .divides)
+
+  kept-length : length (done .kept) ≡ length s - o .left
+  kept-length =
+      let n = ap length (done .divides .all) ∙ length-append (done .kept) (done .left) in
+      omega (arith, n, done .bytes-left)
+
+  is-kept : written s o out′ ≡ done .kept
+  is-kept = ap (λ (n : ℕ). take n out′) (sym kept-length) ∙ done .written
+
+  is-left : drop (length s - o .left) s ≡ done .left
+  is-left =
+      ap (λ (n : ℕ). drop n s) (sym kept-length)
+      ∙ ap (drop (length (done .kept))) (done .divides .all)
+      ∙ drop-append-seam (done .kept) (done .left)
+
+  -- ---- what was written
+  -- It is the front of the string.
+  pub front : s ≡ written s o out′ ++ drop (length s - o .left) s
+  front =
+      done .divides .all ∙ ap (λ (l : List ℕ). l ++ done .left) (sym is-kept) ∙ ap (λ (l : List ℕ). written s o out′ ++ l) (sym is-left)
+
+  -- It is sound: its records are the first ones of the string, as many as were kept.
+  pub written-sound : Sound (written s o out′) (entries-read s) × (length (entries-read s) ≡ o .kept)
+  written-sound = (
+    subst (λ (t : List ℕ). Sound t (entries-read s)) (sym is-kept)
+        (subst (Sound (done .kept)) (sym (parts .entries)) (done .divides .good)),
+    ap length (parts .entries) ∙ sym (done .count),
+  )
+
+  -- No front of the string that is sound is longer.
+  pub none-longer : (t v : List ℕ) {es : List Entry} → s ≡ t ++ v → Sound t es → length t ≤ length s - o .left
+  none-longer t v e q =
+      let l = longest s t v e q in
+      let n = ap length (parts .kept) in
+      omega (arith, l .0, n, kept-length)
+
+  -- The reader accepts it, and has the records that were kept.
+  pub reads-kept : {l l′ : Lists} {a : Transcribed} → ReadTranscript (written s o out′) l a l′ → o .kept ≤ size l →
+      (a ≡ format.answer 0 (o .kept) 0) × (first-places (o .kept) l′ ≡ columns (entries-read s))
+  reads-kept {l} {l′} {a} q room =
+      let x = written-sound in
+      let e : a ≡ format.answer 0 (o .kept) 0 =
+      reader-exactly q (format.answer 0 (length (entries-read s)) 0) .1 (format.ReadAs.done (x .0) (omega (arith, x .1)))
+      ∙ ap (λ (n : ℕ). format.answer 0 n 0) (x .1) in
+      let r = reader-done q (ap (λ (y : Transcribed). y .number) e) in (
+        e,
+        ap (λ (n : ℕ). first-places n l′) (sym (ap (λ (y : Transcribed). y .count) e)) ∙ r .entries
+            ∙ ap columns (sound-exactly (written s o out′) (entries-read s) .0 (x .0) .1),
+      )
+
+  -- Salvaging it again changes nothing.
+  pub again : {out₂ out₂′ : List ℕ} {q : Salvaged} → SalvagedTranscript (written s o out′) out₂ q out₂′ →
+      length (written s o out′) ≤ length out₂ →
+      (q ≡ answer 0 (o .kept) 0 0) × (take (length (written s o out′)) out₂′ ≡ written s o out′)
+  again p₂ room = let x = written-sound in (comes-out p₂ (x .0) room .0 ∙ ap (λ (n : ℕ). answer 0 n 0 0) (x .1), comes-out p₂ (x .0) room .1)
+
+  -- ---- what was left
+  -- The next record, if any, is bad, with the refusal that is reported,
+  pub next-bad : o .left ≢ 0 → BadRecord (drop (length s - o .left) s) (o .stop)
+  next-bad d =
+      subst (λ (u : List ℕ). BadRecord u (o .stop)) (parts .left ∙ sym is-left)
+      (subst (BadRecord (rest s)) (parts .refusal)
+      (next-is-bad s (λ e. d (done .bytes-left ∙ ap length (sym (parts .left) ∙ e)))))
+
+  -- and the reader says so of the whole string, and names the place where the run ends.
+  pub reader-says-so : {l l′ : Lists} {a : Transcribed} → ReadTranscript s l a l′ → o .stop ≢ 0 →
+      a ≡ format.answer (o .stop) 0 (length s - o .left)
+  reader-says-so {l} q d =
+      q .answer
+      ∙ stopped-as-read s (size l) (λ e. d (sym (parts .refusal) ∙ e))
+      ∙ ap (λ (n : ℕ). format.answer n 0 (length (run s))) (parts .refusal)
+      ∙ ap (format.answer (o .stop) 0) (ap length (parts .kept) ∙ kept-length)
+
+  -- Nothing is left exactly if nothing stopped it,
+  pub left-by-stop : o .left ≡ 0 ↔ (o .stop ≡ 0)
+  left-by-stop = (
+    λ e. sym (parts .refusal) ∙ left-exactly s .0 (parts .left ∙ no-bytes (done .left) (sym (done .bytes-left) ∙ e)),
+    λ e. done .bytes-left ∙ ap length (sym (parts .left) ∙ left-exactly s .1 (parts .refusal ∙ e)),
+  )
+    where
+      no-bytes : (l : List ℕ) → length l ≡ 0 → l ≡ []
+      no-bytes [] e = refl
+      no-bytes (b ∷ l) e = absurd (omega arith)
+
+  -- and exactly if the string is sound.
+  pub left-by-soundness : o .left ≡ 0 ↔ Sound s (entries-read s)
+  left-by-soundness = (
+    λ e. sound-exactly s (entries-read s) .1 (parts .refusal ∙ left-by-stop .0 e, refl),
+    λ q. left-by-stop .1 (sym (parts .refusal) ∙ sound-exactly s (entries-read s) .0 q .0),
+  )
