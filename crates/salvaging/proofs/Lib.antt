@@ -10,3 +10,5 @@ pub mod Outcomes
 pub mod Promised
 pub mod AfterSalvage
 pub mod One
+-- ---- worked examples
+pub mod Holds
