@@ -10,7 +10,7 @@ use lib.Seq.{drop-append-seam}
 use Rattle.transcript_bytes.specs.InPlainWords.{Sound, BadRecord, first-places}
 use Rattle.transcript_bytes.specs.InPlainWords as format
 use Rattle.transcript_bytes.specs.Lists.{Lists, size, columns}
-use Rattle.transcript_bytes.specs.Reading.{entries-read, ReadTranscript}
+use Rattle.transcript_bytes.specs.Reading.{entries-read, refusal-read, ReadTranscript}
 use Rattle.transcript_bytes.specs.declared.Entry.{Entry}
 use Rattle.transcript_bytes.specs.declared.Transcribed.{Transcribed}
 use Rattle.transcript_bytes.proofs.Promised.{reader-exactly, reader-done}
@@ -19,19 +19,31 @@ use Rattle.salvaging.specs.InPlainWords.{answer, SalvagedAll, written}
 use Rattle.salvaging.specs.InPlainWords as plain
 use Rattle.salvaging.specs.Salvage.{run, rest, SalvagedTranscript}
 use Rattle.salvaging.specs.declared.Salvaged.{Salvaged}
-use Rattle.salvaging.proofs.Divides.{Found, found}
+use Rattle.salvaging.proofs.Divides.{Found, found, divides}
 use Rattle.salvaging.proofs.Longest.{longest, next-is-bad, left-exactly, stopped-as-read}
 use Rattle.salvaging.proofs.Promised.{salvage-exactly, salvage-done}
-use Rattle.salvaging.proofs.Unchanged.{sound-divides, comes-out-same}
+use Rattle.salvaging.proofs.Unchanged.{comes-out-same}
+
+-- Where the string would fit, so does its run: it is written, and the report speaks of all of the string.
+pub fits-if-all-would : {s out : List ℕ} {o : Salvaged} {out′ : List ℕ} → SalvagedTranscript s out o out′ → length s ≤ length out →
+    (o ≡ answer 0 (length (entries-read s)) (length (rest s)) (refusal-read s)) × (take (length (run s)) out′ ≡ run s)
+fits-if-all-would {s} {out} {o} {out′} p room =
+    let n = ap length (divides s .all) ∙ length-append (run s) (rest s) in
+    let e =
+    salvage-exactly p (answer 0 (length (entries-read s)) (length (rest s)) (refusal-read s)) .1
+    (plain.SalvagedAs.done (divides s) (omega (arith, n, room))) in
+    let x = salvage-done p (ap (λ (a : Salvaged). a .number) e) in
+    (e, subst (λ (t : List ℕ). take (length t) out′ ≡ t) (sym (found (x .divides) .kept)) (x .written))
 
 -- A sound transcript comes out the same, with nothing left and no refusal.
 pub comes-out : {s out : List ℕ} {o : Salvaged} {out′ : List ℕ} {es : List Entry} → SalvagedTranscript s out o out′ → Sound s es →
     length s ≤ length out → (o ≡ answer 0 (length es) 0 0) × (take (length s) out′ ≡ s)
 comes-out {s} {out} {o} {out′} {es} p q room =
-    let e = salvage-exactly p (answer 0 (length es) 0 0) .1 (plain.SalvagedAs.done (sound-divides q) room) in
-    let x = salvage-done p (ap (λ (a : Salvaged). a .number) e) in
-    let same : x .kept ≡ s = sym (found (x .divides) .kept) ∙ comes-out-same q .kept in
-    (e, subst (λ (t : List ℕ). take (length t) out′ ≡ t) same (x .written))
+    let f = comes-out-same q in
+    let x = fits-if-all-would p room in (
+      x .0 ∙ rw (f .entries, f .left, f .refusal),
+      subst (λ (t : List ℕ). take (length t) out′ ≡ t) (f .kept) (x .1),
+    )
 
 module _ {s out : List ℕ} {o : Salvaged} {out′ : List ℕ} (p : SalvagedTranscript s out o out′) (z : o .number ≡ 0) where
   -- ---- the parts of the string, by the answer

@@ -6,10 +6,11 @@ use mathlib.Core.Path.{_≡_, refl, sym, ap, _∙_, subst}
 use mathlib.Core.List.{List, [], _∷_, _++_, append-assoc}
 use mathlib.Core.Logic.{_≢_, _↔_}
 use lib.ListN.{length, length-append}
-use Rattle.transcript_bytes.specs.InPlainWords.{Sound, nothing, and-more, BadRecord, ReadAs}
+use Rattle.transcript_bytes.specs.InPlainWords.{GoodRecord, a-read, a-write, Sound, nothing, and-more, BadRecord, ReadAs}
 use Rattle.transcript_bytes.specs.InPlainWords as format
 use Rattle.transcript_bytes.specs.Reading.{entries-read, place-read, refusal-read, read-answer}
 use Rattle.transcript_bytes.specs.declared.Entry.{Entry}
+use Rattle.transcript_bytes.proofs.Divided.{has-a-byte}
 use Rattle.transcript_bytes.proofs.ReadExactly.{reads-exactly}
 use Rattle.transcript_bytes.proofs.ThroughRecords.{bad-record-number}
 use Rattle.salvaging.specs.InPlainWords.{Rest, none-left, next-bad, Divides}
@@ -22,6 +23,22 @@ pub sound-joined : {t v : List ℕ} {es fs : List Entry} → Sound t es → Soun
 sound-joined nothing q = q
 sound-joined {v = v} {fs = fs} (and-more {r} {s} {e} {es} g p) q =
     subst (λ (l : List ℕ). Sound l (e ∷ es ++ fs)) (sym (append-assoc r s v)) (and-more g (sound-joined p q))
+
+-- Each has a byte at least.
+pub no-more-than-bytes : {t : List ℕ} {es : List Entry} → Sound t es → length es ≤ length t
+no-more-than-bytes nothing = omega arith
+no-more-than-bytes (and-more {r} {s} g q) =
+    let a = record-has-a-byte g in
+    let n = length-append r s in
+    let k = no-more-than-bytes q in
+    omega arith
+  where
+    record-has-a-byte : {r : List ℕ} {e : Entry} → GoodRecord r e → 1 ≤ length r
+    record-has-a-byte (a-read {s} g z h) = has-a-byte s (h .spelled)
+    record-has-a-byte (a-write {h} {w} g o p q) =
+        let a = has-a-byte h (p .spelled) in
+        let n = length-append h w in
+        omega arith
 
 -- Salvage keeps good records in front, and goes on behind them as if they were not there.
 pub good-front : (t v : List ℕ) {es : List Entry} → Sound t es →

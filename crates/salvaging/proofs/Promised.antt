@@ -5,10 +5,11 @@ use native.Mathlib.Omega.{arith}
 use mathlib.Core.Path.{_≡_, refl, sym, ap, _∙_, subst}
 use mathlib.Core.Bool.{Bool, cond}
 use mathlib.Core.List.{List}
-use mathlib.Core.Logic.{_↔_, _≢_}
-use lib.ListN.{length, take, drop}
+use mathlib.Core.Logic.{⊎-elim, _↔_, _≢_}
+use lib.ListN.{length, take, drop, length-take, length-drop}
 use lib.Seq.{take-append-seam, drop-append-seam}
 use borrow.Author.Tests.{eq-eqb, ne-eqb}
+use Rattle.words.proofs.Choices.{same-or-not}
 use Rattle.transcript_bytes.specs.Lists.{over}
 use Rattle.salvaging.specs.InPlainWords.{answer, SalvagedAs, SalvagedAll}
 use Rattle.salvaging.specs.InPlainWords as plain
@@ -66,3 +67,18 @@ module _ {s out : List ℕ} {o : Salvaged} {out′ : List ℕ} (p : SalvagedTran
             written = ap (take (length t)) left ∙ take-append-seam t _;
             later = ap (drop (length t)) left ∙ drop-append-seam t _;
           }
+
+  -- Either way there are as many bytes as were lent.
+  pub as-many-bytes : length out′ ≡ length out
+  as-many-bytes = ⊎-elim written-over (λ d. ap length (salvage-refused d .1)) (same-or-not (o .number) 0)
+    where
+      written-over : o .number ≡ 0 → length out′ ≡ length out
+      written-over z =
+          let x = salvage-done z in
+          let n = length (x .kept) in
+          let front = ap length (x .written) in
+          let behind = ap length (x .later) in
+          let t = length-take n out′ in
+          let d = length-drop n out′ in
+          let e = length-drop n out in
+          omega (arith, x .fits)

@@ -1,0 +1,42 @@
+-- `salvage::pieces::take_piece` meets its contract: by whether the input may go on.
+use native.Mathlib.Omega.{arith}
+use mathlib.Core.Path.{sym, _∙_}
+use borrow.Author.Needs.{needs}
+use Rattle.salvage.proofs.OnePiece.{left}
+use Rattle.salvage.proofs.pieces.take_piece.Statement.{statement}
+use Rattle.salvage.proofs.pieces.take_piece.Tie as tie
+
+goes-on-requires : tie.Need-goes-on-requires
+goes-on-requires c κs = tt
+
+salvage-piece-requires : tie.Need-salvage-piece-requires
+salvage-piece-requires c κs = (c .before .before .before .before .before .before .pre, sym (c .before .before .before .goes-on .ensures) ∙ c .before .before .if1 .taken)
+
+same-length : tie.Need-same-length
+same-length c = search needs
+
+same-length-2 : tie.Need-same-length-2
+same-length-2 c = search needs
+
+returns : tie.Need-returns
+returns c = c .before .before .before .before .salvage-piece .ensures
+
+leave-piece-requires : tie.Need-leave-piece-requires
+leave-piece-requires c κs =
+    let ready = c .before .before .before .before .pre in
+    (ready .behind, omega (arith, ready .within, ready .room .gone))
+
+returns-2 : tie.Need-returns-2
+returns-2 c = rw (c .leave-piece .ensures) (left _ _ _ _ (c .before .before .before .before .before .pre) (sym (c .before .before .goes-on .ensures) ∙ c .before .if1 .left))
+
+pub take-piece-spec : {M : Type 1} → statement M
+take-piece-spec =
+    tie.close
+    (tie.spec
+    goes-on-requires
+    salvage-piece-requires
+    same-length
+    same-length-2
+    returns
+    leave-piece-requires
+    returns-2)

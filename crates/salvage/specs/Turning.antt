@@ -1,0 +1,56 @@
+-- One turn of `salvage`: what the bytes at hand leave for the next one, and what is written of them. Crate `salvaging` has the meaning.
+--   progress-of p piece    the progress p, with the bytes that are held at the front of the piece
+--   held-count k left      how many bytes are held, of so many that are left, where k stopped it
+--   leaving p all          what a turn leaves behind a bad record
+--   Room                   what a turn begins with: buffers, and counts that can grow by a piece
+--   Ready                  the same, when so many bytes are at hand: those that are held, and those that came behind them
+--   Took                   what is made of the bytes at hand
+--   TookTurn               a whole turn: some bytes came behind those that are held
+use Prim.Native.Nat.{ℕ, _+_, _-_, _<_, _≤_, min}
+use mathlib.Core.Bool.{cond}
+use mathlib.Core.List.{List}
+use mathlib.Core.Path.{_≡_}
+use lib.ListN.{length, take, drop}
+use Rattle.salvaging.specs.Pieces.{may-go-on, piece-taken, piece-written}
+use Rattle.salvaging.specs.Pieces.{Progress as Salvaging·Progress}
+use Rattle.salvage.specs.declared.Turn.{Turn}
+use Rattle.salvage.specs.declared.pieces.Progress.{Progress}
+use Rattle.salvage.specs.declared.pieces.Taken.{Taken}
+
+abbrev pub progress-of : Progress → List ℕ → Salvaging·Progress
+progress-of p piece = record { kept = p .kept; held = take (p .held) piece; gone = p .gone; stop = p .stop }
+
+abbrev pub held-count : ℕ → ℕ → ℕ
+held-count k left = cond (may-go-on k) (min 4 left) 0
+
+abbrev pub leaving : Progress → ℕ → Taken
+leaving p all =
+    record { progress = record { kept = p .kept; gone = p .gone + (all - p .held); held = p .held; stop = p .stop }; wrote = 0 }
+
+pub record Room (p : Progress) (piece sound : List ℕ) : Type 0 where
+  pub few : p .held ≤ 4
+  pub holds : 4 ≤ length piece
+  pub fits : length piece ≤ length sound
+  pub kept : p .kept + length piece < 18446744073709551616
+  pub gone : p .gone + length piece < 18446744073709551616
+
+pub record Ready (p : Progress) (piece sound : List ℕ) (all : ℕ) : Type 0 where
+  pub room : Room p piece sound
+  pub behind : p .held ≤ all
+  pub within : all ≤ length piece
+
+pub record Took (p : Progress) (bytes : List ℕ) (t : Taken) (piece′ sound′ : List ℕ) : Type 0 where
+  pub progress : progress-of (t .progress) piece′ ≡ piece-taken (progress-of p bytes) (drop (p .held) bytes)
+  pub written : take (t .wrote) sound′ ≡ piece-written (progress-of p bytes) (drop (p .held) bytes)
+  pub few : t .progress .held ≤ 4
+  pub fits : t .wrote ≤ length sound′
+  pub kept : t .progress .kept ≤ p .kept + length bytes
+  pub gone : t .progress .gone ≤ p .gone + length bytes
+
+-- what came is `came`; no contract says which bytes that is
+pub record TookTurn (p : Progress) (piece : List ℕ) (t : Turn) (piece′ : List ℕ) : Type 0 where
+  pub came : List ℕ
+  pub progress : progress-of (t .progress) piece′ ≡ piece-taken (progress-of p piece) came
+  pub few : t .progress .held ≤ 4
+  pub kept : t .progress .kept ≤ p .kept + length piece
+  pub gone : t .progress .gone ≤ p .gone + length piece
