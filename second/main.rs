@@ -1,6 +1,6 @@
 //! `second`: a model of the TMS34010 host port, its memory, fields, bus, blocks, strike sheets and
-//! transcripts, written from documents 01 and 02 without sight of the proved code, to compare the
-//! results of both by running.
+//! transcripts, sound or damaged, written from documents 01 and 02 without sight of the proved code,
+//! to compare the results of both by running.
 
 mod block;
 mod bus;
@@ -8,13 +8,22 @@ mod examples;
 mod fault;
 mod field;
 mod fields;
+mod good_run;
 mod groups;
 mod maker;
 mod port;
 mod random;
 mod records;
 mod refusal;
+mod rooms;
 mod run;
+mod salvage;
+mod salvage_examples;
+mod salvage_file;
+mod salvage_found;
+mod salvage_program;
+mod salvage_run;
+mod salvage_script;
 mod script;
 mod sheet;
 mod sheet_examples;
@@ -36,11 +45,13 @@ use std::process::ExitCode;
 
 const USAGE: &str = "second: script SEED CALLS | fields | answers [--fault NAME]
     | sheet-script SEED COUNT | sheet-answers [--fault NAME]
-    | transcript-script SEED COUNT | transcript-answers [--fault NAME] | faults | examples";
+    | transcript-script SEED COUNT | transcript-answers [--fault NAME]
+    | salvage-script SEED COUNT | salvage-answers [--fault NAME] | salvage-file SEED BYTES | salvage
+    | faults | examples";
 
 type Out = BufWriter<io::StdoutLock<'static>>;
 
-/// Carries out the script that is the input, by the function for its kind.
+/// Answers the input, a script or a damaged transcript, by the function for its kind.
 fn answers(carry_out: fn(&[u8], &mut Out) -> io::Result<()>) -> bool {
     let mut script = Vec::new();
     let mut out = BufWriter::with_capacity(1 << 16, io::stdout().lock());
@@ -51,7 +62,7 @@ fn answers(carry_out: fn(&[u8], &mut Out) -> io::Result<()>) -> bool {
         .is_ok()
 }
 
-/// Prints the script that a function makes from a seed and a count.
+/// Prints the script, or the damaged transcript, that a function makes from a seed and a count.
 fn made(make: fn(u64, u64) -> Vec<u8>, seed: &str, count: &str) -> bool {
     match (seed.parse(), count.parse()) {
         (Ok(seed), Ok(count)) => io::stdout().write_all(&make(seed, count)).is_ok(),
@@ -69,7 +80,8 @@ fn plant(name: &str) -> bool {
 fn examples() -> bool {
     let outcome = examples::run()
         .and_then(|count| Ok(count + sheet_examples::run()?))
-        .and_then(|count| Ok(count + transcript_examples::run()?));
+        .and_then(|count| Ok(count + transcript_examples::run()?))
+        .and_then(|count| Ok(count + salvage_examples::run()?));
     match outcome {
         Ok(count) => println!("second: {count} examples hold"),
         Err(name) => println!("second: example {name} fails"),
@@ -91,6 +103,11 @@ fn main() -> ExitCode {
         ["transcript-script", seed, count] => made(transcript_script::script, seed, count),
         ["transcript-answers"] => answers(transcript_run::answers),
         ["transcript-answers", "--fault", name] => plant(name) && answers(transcript_run::answers),
+        ["salvage-script", seed, count] => made(salvage_script::script, seed, count),
+        ["salvage-answers"] => answers(salvage_run::answers),
+        ["salvage-answers", "--fault", name] => plant(name) && answers(salvage_run::answers),
+        ["salvage-file", seed, bytes] => made(salvage_file::file, seed, bytes),
+        ["salvage"] => answers(salvage_program::run),
         ["faults"] => {
             fault::NAMED.iter().for_each(|(name, _)| println!("{name}"));
             true

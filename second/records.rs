@@ -1,4 +1,4 @@
-//! Scripts of records that are all of one size, strike sheets or transcripts.
+//! Scripts of records that are all of one size, strike sheets, transcripts or damaged ones.
 
 use std::io::{self, Write};
 

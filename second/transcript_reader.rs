@@ -34,7 +34,7 @@ pub fn read(bytes: &[u8], list: &mut List) -> Answer {
 
 /// The access of the record at the start of the bytes, and how many bytes it takes; or the number
 /// of its refusal, and how far beyond the record's first byte the refusal's place is: not at all.
-fn record(bytes: &[u8]) -> Result<(Access, usize), (u8, usize)> {
+pub fn record(bytes: &[u8]) -> Result<(Access, usize), (u8, usize)> {
     let head = Number::read(bytes);
     let tests = head_tests(&head);
     let before_word = instead(Fault::ReaderWordBeforeHead, 2, 4);

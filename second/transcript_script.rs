@@ -3,6 +3,7 @@
 
 use crate::groups;
 use crate::random::Random;
+use crate::rooms::{lent, room};
 use crate::transcript_accesses::{good, spoil, word};
 use crate::transcript_list::{Access, PLACES};
 use crate::transcript_run::{Record, BYTES, RECORD};
@@ -34,25 +35,6 @@ fn scene(random: &Random) -> Vec<Record> {
 fn filled(random: &Random) -> Record {
     let bytes: Vec<u8> = (0..RECORD).map(|_| random.bits() as u8).collect();
     Record::from(&bytes)
-}
-
-/// The room lent for a result that needs that much of it: just enough, more, one too few, or none.
-fn room(random: &Random, needed: usize, most: usize) -> usize {
-    let fewer = random.below(needed as u32 + 1) as usize;
-    let more = needed + random.below(8) as usize;
-    let one_less = needed.saturating_sub(1);
-    let rooms = [
-        needed, needed, needed, more, more, most, most, one_less, fewer, 0,
-    ];
-    random.pick(&rooms).min(most)
-}
-
-/// A room as it is lent: all that there is may be lent by a number above that.
-fn lent(random: &Random, room: usize, most: usize) -> u8 {
-    let above = most + random.below(256 - most as u32) as usize;
-    let all = random.pick(&[most, most + 1, above, 255]);
-    let lent = if room == most { all } else { room };
-    lent as u8
 }
 
 /// How much of each slice is lent to a list of that length: no less, and of one slice no more.

@@ -1,5 +1,5 @@
-//! Byte strings for the script of transcripts: whole transcripts, damaged ones, and such as hold a
-//! record that is bad in one way or another.
+//! Byte strings for the scripts of transcripts and of salvage: whole transcripts, damaged ones, and
+//! such as hold a record that is bad in one way or another.
 
 use crate::groups::{encoded, MORE};
 use crate::random::Random;
@@ -46,7 +46,7 @@ impl ByteString {
     }
 
     /// What comes before a bad record: good ones, perhaps none.
-    fn begun(random: &Random) -> ByteString {
+    pub fn begun(random: &Random) -> ByteString {
         ByteString::of(random, random.pick(&[0, 0, 1, 1, 2, 3, 5, 7]))
     }
 
@@ -89,18 +89,18 @@ fn read_head(random: &Random) -> u8 {
     (8 + 2 * random.below(12)) as u8
 }
 
-fn write_head(random: &Random) -> u8 {
+pub fn write_head(random: &Random) -> u8 {
     read_head(random) + 1
 }
 
 /// Bytes of a number that none of them ends.
-fn continued(random: &Random, length: usize) -> Vec<u8> {
+pub fn continued(random: &Random, length: usize) -> Vec<u8> {
     let byte = |_| MORE | random.bits() as u8;
     (0..length).map(byte).collect()
 }
 
 /// One byte changed, one bit flipped, a byte put in, one taken out, or two swapped.
-fn damage(random: &Random, bytes: &mut Vec<u8>) {
+pub fn damage(random: &Random, bytes: &mut Vec<u8>) {
     let length = bytes.len() as u32;
     let any = random.bits() as u8;
     let new = random.pick(&[any, MORE, any % 32]);
@@ -119,7 +119,7 @@ fn damage(random: &Random, bytes: &mut Vec<u8>) {
 }
 
 /// A bad record. What follows its bad number must not matter.
-fn bad(random: &Random) -> Vec<u8> {
+pub fn bad(random: &Random) -> Vec<u8> {
     if random.one_in(2) {
         let mut bytes = vec![write_head(random)];
         bytes.extend(bad_number(random, word(random), 65_536));
