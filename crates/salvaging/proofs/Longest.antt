@@ -84,8 +84,7 @@ module _ (s : List ℕ) where
   -- Nothing is left exactly if nothing stopped it.
   pub left-exactly : rest s ≡ [] ↔ (refusal-read s ≡ 0)
   left-exactly =
-      let d = divides s in
-      (
+      let d = divides s in (
         λ e. found (record { all = d .all ∙ ap (λ (l : List ℕ). run s ++ l) e; good = d .good; behind = none-left }) .refusal,
         rest-empty (d .behind),
       )

@@ -48,7 +48,7 @@ module _ (s : List ℕ) {f : Scanned} (e : f ≡ scanned s) where
     written h {out′} w =
         let t = le-ltb (length out) (length (run s)) (rw ends-with-run at h) in
         let parts : report 0 (f .entries) (length s - f .place) (f .refusal) ≡
-            report 0 (length (entries-read s)) (length (rest s)) (refusal-read s) =
+        report 0 (length (entries-read s)) (length (rest s)) (refusal-read s) =
         ap (λ (x : Scanned). report 0 (x .entries) (length s - f .place) (x .refusal)) e ∙
         ap (λ (n : ℕ). report 0 (length (entries-read s)) n (refusal-read s)) (sym rest-length) in
         record {

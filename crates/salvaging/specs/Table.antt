@@ -76,6 +76,8 @@ cuts =
     pieces ((0x1E ∷ replicate 6 0x80) ∷ replicate 6 0xFF ∷ []) (0x1E ∷ []) (answer 0 1 12 20) ∷
     pieces ((0x1D ∷ replicate 6 0x80) ∷ (0x81 ∷ 0x00 ∷ []) ∷ (0x1E ∷ []) ∷ []) [] (answer 0 0 10 21) ∷
     pieces (replicate 6 0x81 ∷ (0x81 ∷ 0x00 ∷ []) ∷ (0x1E ∷ []) ∷ []) [] (answer 0 0 9 22) ∷
+    -- four bytes tell that it is too large; of three, the next one could end a good word
+    pieces ((0x1D ∷ 0x81 ∷ 0x80 ∷ 0x80 ∷ []) ∷ (0x00 ∷ []) ∷ []) [] (answer 0 0 5 22) ∷
     -- behind a bad record all pieces are left
     pieces ((0x1E ∷ 0x07 ∷ []) ∷ (0x1E ∷ 0x1E ∷ []) ∷ (0x1E ∷ []) ∷ []) (0x1E ∷ []) (answer 0 1 4 23) ∷
     []
