@@ -4,20 +4,15 @@
 
 use crate::good_run::GoodRun;
 use crate::random::Random;
+use crate::records;
 use crate::rooms::{lent, room};
 use crate::salvage_run::{Record, BYTES, RECORD};
 use crate::transcript_strings::{bad, damage, write_head, ByteString};
 
 pub fn script(seed: u64, count: u64) -> Vec<u8> {
-    let random = Random::new(seed);
-    let mut script = Vec::new();
-    let length = count as usize * RECORD;
-    while script.len() < length {
-        let records = scene(&random);
-        script.extend(records.iter().flat_map(Record::to_bytes));
-    }
-    script.truncate(length);
-    script
+    records::script(seed, count, RECORD, |random| {
+        scene(random).iter().flat_map(Record::to_bytes).collect()
+    })
 }
 
 fn scene(random: &Random) -> Vec<Record> {

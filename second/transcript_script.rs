@@ -3,6 +3,7 @@
 
 use crate::groups;
 use crate::random::Random;
+use crate::records;
 use crate::rooms::{lent, room};
 use crate::transcript_accesses::{good, spoil, word};
 use crate::transcript_list::{Access, PLACES};
@@ -11,15 +12,9 @@ use crate::transcript_strings::ByteString;
 use crate::transcript_writer::encoded;
 
 pub fn script(seed: u64, count: u64) -> Vec<u8> {
-    let random = Random::new(seed);
-    let mut script = Vec::new();
-    let length = count as usize * RECORD;
-    while script.len() < length {
-        let records = scene(&random);
-        script.extend(records.iter().flat_map(Record::to_bytes));
-    }
-    script.truncate(length);
-    script
+    records::script(seed, count, RECORD, |random| {
+        scene(random).iter().flat_map(Record::to_bytes).collect()
+    })
 }
 
 fn scene(random: &Random) -> Vec<Record> {
