@@ -52,7 +52,8 @@ abbrev μ-loop : tie.MeasureT-loop
 
 loop-holds : tie.Need-loop-holds Inv-loop μ-loop
 loop-holds c =
-    record { few = omega arith; piece-long = c .before .before .pre .0; sound-long = c .before .before .pre .1; kept = omega arith; gone = omega arith }
+    let long = c .before .before .pre in
+    record { few = omega arith; piece-long = long .0; sound-long = long .1; kept = omega arith; gone = omega arith }
 
 sub-turns : tie.Need-sub-turns Inv-loop μ-loop
 sub-turns c = omega arith
@@ -64,23 +65,37 @@ say-stuck-requires : tie.Need-say-stuck-requires Inv-loop μ-loop
 say-stuck-requires c κs = tt
 
 same-length : tie.Need-same-length Inv-loop μ-loop
-same-length c = c .before .before .before .before .before .before .before .before .take-turn .kept .1 .0 ∙ c .before .before .before .before .before .before .before .before .before .before .before .before .loop .inv .piece-long ∙ sym (c .before .before .before .before .before .before .before .before .before .before .before .before .before .before .before .pre .0)
+same-length c =
+    let turned = c .before .before .before .before .before .before .before .before in
+    let begun = turned .before .before .before .before in
+    turned .take-turn .kept .1 .0 ∙ begun .loop .inv .piece-long ∙ sym (begun .before .before .before .pre .0)
 
 same-length-2 : tie.Need-same-length-2 Inv-loop μ-loop
-same-length-2 c = c .before .before .before .before .before .before .before .before .take-turn .kept .1 .1 .0 ∙ c .before .before .before .before .before .before .before .before .before .before .before .before .loop .inv .sound-long ∙ sym (c .before .before .before .before .before .before .before .before .before .before .before .before .before .before .before .pre .1)
+same-length-2 c =
+    let turned = c .before .before .before .before .before .before .before .before in
+    let begun = turned .before .before .before .before in
+    turned .take-turn .kept .1 .1 .0 ∙ begun .loop .inv .sound-long ∙ sym (begun .before .before .before .pre .1)
 
 returns : tie.Need-returns Inv-loop μ-loop
 returns c = tt
 
 say-requires : tie.Need-say-requires Inv-loop μ-loop
 say-requires c κs =
-    can-say (c .before .before .before .before .before .before .before .before .before .before .before .before .before .loop .inv) (c .before .before .before .before .before .before .before .before .before .before .before .before .loop-test .taken) (c .before .before .before .before .before .before .before .before .before .take-turn .ensures)
+    let turned = c .before .before .before .before .before .before .before .before .before in
+    let test = turned .before .before .before in
+    can-say (test .before .loop .inv) (test .loop-test .taken) (turned .take-turn .ensures)
 
 same-length-3 : tie.Need-same-length-3 Inv-loop μ-loop
-same-length-3 c = c .before .before .before .before .before .before .before .before .before .before .take-turn .kept .1 .0 ∙ c .before .before .before .before .before .before .before .before .before .before .before .before .before .before .loop .inv .piece-long ∙ sym (c .before .before .before .before .before .before .before .before .before .before .before .before .before .before .before .before .before .pre .0)
+same-length-3 c =
+    let turned = c .before .before .before .before .before .before .before .before .before .before in
+    let begun = turned .before .before .before .before in
+    turned .take-turn .kept .1 .0 ∙ begun .loop .inv .piece-long ∙ sym (begun .before .before .before .pre .0)
 
 same-length-4 : tie.Need-same-length-4 Inv-loop μ-loop
-same-length-4 c = c .before .before .before .before .before .before .before .before .before .before .take-turn .kept .1 .1 .0 ∙ c .before .before .before .before .before .before .before .before .before .before .before .before .before .before .loop .inv .sound-long ∙ sym (c .before .before .before .before .before .before .before .before .before .before .before .before .before .before .before .before .before .pre .1)
+same-length-4 c =
+    let turned = c .before .before .before .before .before .before .before .before .before .before in
+    let begun = turned .before .before .before .before in
+    turned .take-turn .kept .1 .1 .0 ∙ begun .loop .inv .sound-long ∙ sym (begun .before .before .before .pre .1)
 
 returns-2 : tie.Need-returns-2 Inv-loop μ-loop
 returns-2 c = tt
@@ -90,7 +105,10 @@ loop-less c = omega arith
 
 loop-again : tie.Need-loop-again Inv-loop μ-loop
 loop-again c =
-    goes-on (c .before .before .before .before .before .before .before .before .before .before .before .before .before .loop .inv) (c .before .before .before .before .before .before .before .before .before .before .before .before .loop-test .taken) (c .before .before .before .before .before .before .before .before .before .take-turn .ensures) (c .before .before .before .before .before .before .before .before .before .take-turn .kept .1 .0) (c .before .before .before .before .before .before .before .before .before .take-turn .kept .1 .1 .0)
+    let turned = c .before .before .before .before .before .before .before .before .before in
+    let test = turned .before .before .before in
+    let turn = turned .take-turn in
+    goes-on (test .before .loop .inv) (test .loop-test .taken) (turn .ensures) (turn .kept .1 .0) (turn .kept .1 .1 .0)
 
 same-length-5 : tie.Need-same-length-5 Inv-loop μ-loop
 same-length-5 c = c .before .loop .inv .piece-long ∙ sym (c .before .before .before .before .pre .0)

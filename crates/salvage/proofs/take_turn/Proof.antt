@@ -29,7 +29,10 @@ same-length-2 c = search needs
 
 returns : tie.Need-returns
 returns c =
-    turn-taken _ _ (c .before .before .before .before .before .before .before .before .before .before .before .before .fill .last .0) _ (c .before .before .before .before .before .before .before .before .before .before .before .before .fill .ensures .0 .0) (c .before .before .before .before .before .before .before .before .before .before .before .before .fill .ensures .0 .1) (c .before .before .before .before .before .before .before .before .before .before .before .before .fill .kept .0) (c .before .before .before .before .before .before .before .before .before .before .before .before .fill .ensures .1) (c .before .before .before .before .before .before .before .take-piece .ensures)
+    let taken = c .before .before .before .before .before .before .before in
+    let filled = taken .before .before .before .before .before .fill in
+    turn-taken _ _ (filled .last .0) _ (filled .ensures .0 .0) (filled .ensures .0 .1) (filled .kept .0) (filled .ensures .1)
+    (taken .take-piece .ensures)
 
 pub take-turn-spec : {M : Type 1} → statement M
 take-turn-spec =

@@ -24,7 +24,10 @@ same-length : tie.Need-same-length
 same-length c = search needs
 
 returns-2 : tie.Need-returns-2
-returns-2 c = written _ (c .before .before .before .before .before .before .scan .ensures) _ (c .before .before .before .before .before .if1 .left) (c .before .before .copy .ensures .1)
+returns-2 c =
+    let copied = c .before .before in
+    let test = copied .before .before .before in
+    written _ (test .before .scan .ensures) _ (test .if1 .left) (copied .copy .ensures .1)
 
 pub salvage-transcript-spec : {M : Type 1} → statement M
 salvage-transcript-spec =

@@ -27,16 +27,25 @@ array-share-prefix-four : tie.Need-array-share-prefix-four
 array-share-prefix-four c = search needs
 
 slice-aggregate-copy-2 : tie.Need-slice-aggregate-copy-2
-slice-aggregate-copy-2 c = as-many _ _ _ _ (c .before .before .before .before .before .before .before .pre .1) (c .before .before .copy .ensures .1)
+slice-aggregate-copy-2 c =
+    let filled = c .before .before in
+    as-many _ _ _ _ (filled .before .before .before .before .before .pre .1) (filled .copy .ensures .1)
 
 copy-requires-2 : tie.Need-copy-requires-2
-copy-requires-2 c κs = let e = as-many _ _ _ _ (c .before .before .before .before .before .before .before .before .pre .1) (c .before .before .before .copy .ensures .1) in omega (arith, c .before .before .before .before .before .before .before .before .pre .1)
+copy-requires-2 c κs =
+    let filled = c .before .before .before in
+    let within = filled .before .before .before .before .before .pre .1 in
+    let e = as-many _ _ _ _ within (filled .copy .ensures .1) in
+    omega (arith, within)
 
 same-length : tie.Need-same-length
 same-length c = search needs
 
 returns : tie.Need-returns
-returns c = moved _ _ _ _ (c .before .before .before .before .before .before .before .before .before .before .before .pre .1) (c .before .before .before .before .before .before .copy .ensures .1) (c .before .before .copy2 .ensures .1)
+returns c =
+    let back = c .before .before in
+    let filled = back .before .before .before .before in
+    moved _ _ _ _ (filled .before .before .before .before .before .pre .1) (filled .copy .ensures .1) (back .copy2 .ensures .1)
 
 pub move-to-front-spec : {M : Type 1} → statement M
 move-to-front-spec =

@@ -20,22 +20,36 @@ count-held-requires : tie.Need-count-held-requires
 count-held-requires c κs = tt
 
 sub-wrote : tie.Need-sub-wrote
-sub-wrote c = left-within _ _ _ _ (c .before .before .before .before .before .before .before .before .before .pre .0) (c .before .before .before .before .salvage-transcript .ensures)
+sub-wrote c =
+    let done = c .before .before .before .before in
+    left-within _ _ _ _ (done .before .before .before .before .before .pre .0) (done .salvage-transcript .ensures)
 
 sub-left : tie.Need-sub-left
-sub-left c = held-within _ _ _ _ (c .before .before .before .before .before .before .before .before .before .before .pre .0) (c .before .before .before .before .before .salvage-transcript .ensures) (c .before .before .count-held .ensures) .1
+sub-left c =
+    let counted = c .before .before in
+    let done = counted .before .before .before in
+    held-within _ _ _ _ (done .before .before .before .before .before .pre .0) (done .salvage-transcript .ensures) (counted .count-held .ensures) .1
 
 add-kept : tie.Need-add-kept
-add-kept c = omega (arith, kept-within _ _ _ _ (c .before .before .before .before .before .before .before .before .before .before .before .pre .0) (c .before .before .before .before .before .before .salvage-transcript .ensures), c .before .before .before .before .before .before .before .before .before .before .before .pre .0 .room .kept, c .before .before .before .before .before .before .before .before .before .before .before .pre .0 .within)
+add-kept c =
+    let done = c .before .before .before .before .before .before in
+    let ready = done .before .before .before .before .before .pre .0 in
+    omega (arith, kept-within _ _ _ _ ready (done .salvage-transcript .ensures), ready .room .kept, ready .within)
 
 add-gone : tie.Need-add-gone
-add-gone c = omega (arith, left-within _ _ _ _ (c .before .before .before .before .before .before .before .before .before .before .before .before .pre .0) (c .before .before .before .before .before .before .before .salvage-transcript .ensures), c .before .before .before .before .before .before .before .before .before .before .before .before .pre .0 .room .gone, c .before .before .before .before .before .before .before .before .before .before .before .before .pre .0 .within)
+add-gone c =
+    let done = c .before .before .before .before .before .before .before in
+    let ready = done .before .before .before .before .before .pre .0 in
+    omega (arith, left-within _ _ _ _ ready (done .salvage-transcript .ensures), ready .room .gone, ready .within)
 
 move-to-front-requires : tie.Need-move-to-front-requires
-move-to-front-requires c κs = (
-  held-within _ _ _ _ (c .before .before .before .before .before .before .before .before .before .before .before .before .before .pre .0) (c .before .before .before .before .before .before .before .before .salvage-transcript .ensures) (c .before .before .before .before .before .count-held .ensures) .0,
-  held-there _ _ _ _ (c .before .before .before .before .before .before .before .before .before .before .before .before .before .pre .0) (c .before .before .before .before .before .before .before .before .salvage-transcript .ensures) (c .before .before .before .before .before .count-held .ensures),
-)
+move-to-front-requires c κs =
+    let counted = c .before .before .before .before .before in
+    let done = counted .before .before .before in
+    let ready = done .before .before .before .before .before .pre .0 in (
+      held-within _ _ _ _ ready (done .salvage-transcript .ensures) (counted .count-held .ensures) .0,
+      held-there _ _ _ _ ready (done .salvage-transcript .ensures) (counted .count-held .ensures),
+    )
 
 same-length : tie.Need-same-length
 same-length c = search needs
@@ -45,7 +59,12 @@ same-length-2 c = search needs
 
 returns : tie.Need-returns
 returns c =
-    salvaged _ _ _ _ (c .before .before .before .before .before .before .before .before .before .before .before .before .before .before .before .before .pre .0) (c .before .before .before .before .before .before .before .before .before .before .before .salvage-transcript .ensures) (c .before .before .before .before .before .before .before .before .count-held .ensures) _ (c .before .before .move-to-front .ensures) (c .before .before .before .before .before .before .before .before .before .before .before .before .before .before .before .before .pre .1)
+    let moved = c .before .before in
+    let counted = moved .before .before .before .before .before .before in
+    let done = counted .before .before .before in
+    let start = done .before .before .before .before .before in
+    salvaged _ _ _ _ (start .pre .0) (done .salvage-transcript .ensures) (counted .count-held .ensures) _ (moved .move-to-front .ensures)
+    (start .pre .1)
 
 pub salvage-piece-spec : {M : Type 1} → statement M
 salvage-piece-spec =

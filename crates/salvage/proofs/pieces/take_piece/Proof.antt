@@ -10,7 +10,10 @@ goes-on-requires : tie.Need-goes-on-requires
 goes-on-requires c κs = tt
 
 salvage-piece-requires : tie.Need-salvage-piece-requires
-salvage-piece-requires c κs = (c .before .before .before .before .before .before .pre, sym (c .before .before .before .goes-on .ensures) ∙ c .before .before .if1 .taken)
+salvage-piece-requires c κs =
+    let test = c .before .before in
+    let asked = test .before in
+    (asked .before .before .before .pre, sym (asked .goes-on .ensures) ∙ test .if1 .taken)
 
 same-length : tie.Need-same-length
 same-length c = search needs
@@ -27,7 +30,10 @@ leave-piece-requires c κs =
     (ready .behind, omega (arith, ready .within, ready .room .gone))
 
 returns-2 : tie.Need-returns-2
-returns-2 c = rw (c .leave-piece .ensures) (left _ _ _ _ (c .before .before .before .before .before .pre) (sym (c .before .before .goes-on .ensures) ∙ c .before .if1 .left))
+returns-2 c =
+    let test = c .before in
+    let asked = test .before in
+    rw (c .leave-piece .ensures) (left _ _ _ _ (asked .before .before .before .pre) (sym (asked .goes-on .ensures) ∙ test .if1 .left))
 
 pub take-piece-spec : {M : Type 1} → statement M
 take-piece-spec =

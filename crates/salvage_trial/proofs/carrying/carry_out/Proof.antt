@@ -31,7 +31,10 @@ same-length : tie.Need-same-length
 same-length c = search needs
 
 returns : tie.Need-returns
-returns c = carried (c .before .before .before .before .before .before .least .ensures) (c .before .before .before .before .before .least2 .ensures) (c .before .before .salvage-transcript .ensures)
+returns c =
+    let done = c .before .before in
+    let counted = done .before .before .before in
+    carried (counted .before .least .ensures) (counted .least2 .ensures) (done .salvage-transcript .ensures)
 
 pub carry-out-spec : {M : Type 1} → statement M
 carry-out-spec =

@@ -114,7 +114,10 @@ groups-less : tie.Need-groups-less Inv-groups μ-groups Inv-records μ-records
 groups-less c = omega arith
 
 groups-again : tie.Need-groups-again Inv-groups μ-groups Inv-records μ-records
-groups-again c = longer (c .before .before .before .before .before .before .groups .inv) (c .before .before .before .before .before .groups-test .taken) (sym (c .before .before .before .take-byte .ensures) ∙ c .before .step .given .1)
+groups-again c =
+    let taken = c .before .before .before in
+    let test = taken .before .before in
+    longer (test .before .groups .inv) (test .groups-test .taken) (sym (taken .take-byte .ensures) ∙ c .before .step .given .1)
 
 enum-told : tie.Need-enum-told Inv-groups μ-groups Inv-records μ-records
 enum-told c = search needs
@@ -126,7 +129,10 @@ records-less : tie.Need-records-less Inv-groups μ-groups Inv-records μ-records
 records-less c = omega (arith, c .before .before .before .before .before .groups .inv .behind)
 
 records-again : tie.Need-records-again Inv-groups μ-groups Inv-records μ-records
-records-again c = closed (c .before .before .before .before .before .groups .inv) (c .before .before .before .before .groups-test .taken) (sym (c .before .before .take-byte .ensures) ∙ c .enum-told .given .1)
+records-again c =
+    let taken = c .before .before in
+    let test = taken .before .before in
+    closed (test .before .groups .inv) (test .groups-test .taken) (sym (taken .take-byte .ensures) ∙ c .enum-told .given .1)
 
 enum-known-step-2 : tie.Need-enum-known-step-2 Inv-groups μ-groups Inv-records μ-records
 enum-known-step-2 c = search needs
@@ -135,7 +141,10 @@ returns : tie.Need-returns Inv-groups μ-groups Inv-records μ-records
 returns c = all-found (c .before .records .inv) (c .records-test .left)
 
 returns-2 : tie.Need-returns-2 Inv-groups μ-groups Inv-records μ-records
-returns-2 c = bad-found (c .before .before .before .before .before .before .groups .inv) (c .before .before .before .before .before .groups-test .taken) (sym (c .before .before .before .take-byte .ensures) ∙ c .before .step2 .given .1)
+returns-2 c =
+    let taken = c .before .before .before in
+    let test = taken .before .before in
+    bad-found (test .before .groups .inv) (test .groups-test .taken) (sym (taken .take-byte .ensures) ∙ c .before .step2 .given .1)
 
 returns-3 : tie.Need-returns-3 Inv-groups μ-groups Inv-records μ-records
 returns-3 c = cut-found (c .before .groups .inv) (c .before .before .before .records-test .taken) (c .groups-test .left)
