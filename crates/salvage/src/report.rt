@@ -1,5 +1,4 @@
 // What is said on standard error: the report, when all of the input is read.
-ghost use mathlib.Core.Path.{_≡_};
 ghost use Prim.Native.Nat.{_+_, _<_};
 use crate::pieces::Progress;
 

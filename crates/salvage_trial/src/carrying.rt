@@ -1,5 +1,4 @@
 // A record of a script, carried out.
-ghost use mathlib.Core.Path.{_≡_};
 ghost use Rattle.salvage_trial.specs.Carried.{Carried};
 use salvaging::Salvaged;
 use salvaging::salvage_transcript;

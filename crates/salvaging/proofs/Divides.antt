@@ -1,10 +1,10 @@
 -- Every string divides into good records and a rest, in one way: the run of salvage is those records, and its rest is the rest.
 use Prim.Native.Nat.{ℕ}
-use mathlib.Core.Path.{_≡_, refl, sym, ap, _∙_, subst}
+use mathlib.Core.Path.{_≡_, sym, ap, _∙_, subst}
 use mathlib.Core.List.{List, [], _++_, append-nil}
 use lib.ListN.{length, take, drop}
 use lib.Seq.{take-append-seam, drop-append-seam}
-use Rattle.transcript_bytes.specs.InPlainWords.{Sound, BadRecord}
+use Rattle.transcript_bytes.specs.InPlainWords.{Sound}
 use Rattle.transcript_bytes.specs.Reading.{Reading, ended, entries-read, place-read, refusal-read}
 use Rattle.transcript_bytes.specs.declared.Entry.{Entry}
 use Rattle.transcript_bytes.proofs.Divided.{Divided, all-good, then-bad, divided}

@@ -1,5 +1,5 @@
 -- Demand 1 for salvage: its answer is o exactly if the string, in plain words and record by record, says so (`SalvagedAs`).
-use Prim.Native.Nat.{ℕ, _≤_, _<_}
+use Prim.Native.Nat.{ℕ}
 use mathlib.Core.Path.{_≡_, sym, ap, _∙_, subst}
 use mathlib.Core.Bool.{Bool, cond}
 use mathlib.Core.List.{List}

@@ -8,12 +8,12 @@ use mathlib.Core.Logic.{_≢_, _↔_}
 use lib.ListN.{length, length-append}
 use Rattle.transcript_bytes.specs.InPlainWords.{GoodRecord, a-read, a-write, Sound, nothing, and-more, BadRecord, ReadAs}
 use Rattle.transcript_bytes.specs.InPlainWords as format
-use Rattle.transcript_bytes.specs.Reading.{entries-read, place-read, refusal-read, read-answer}
+use Rattle.transcript_bytes.specs.Reading.{entries-read, refusal-read, read-answer}
 use Rattle.transcript_bytes.specs.declared.Entry.{Entry}
 use Rattle.transcript_bytes.proofs.Divided.{has-a-byte}
 use Rattle.transcript_bytes.proofs.ReadExactly.{reads-exactly}
 use Rattle.transcript_bytes.proofs.ThroughRecords.{bad-record-number}
-use Rattle.salvaging.specs.InPlainWords.{Rest, none-left, next-bad, Divides}
+use Rattle.salvaging.specs.InPlainWords.{Rest, none-left, next-bad}
 use Rattle.salvaging.specs.Salvage.{run, rest}
 use Rattle.salvaging.proofs.Divides.{Found, found, divides}
 

@@ -1,12 +1,12 @@
 -- What salvage leaves, by what the scan found: refused, with the bytes as they were, or the run written.
 use Prim.Native.Nat.{ℕ, _-_, _≤_, _<_}
 use native.Mathlib.Omega.{arith}
-use mathlib.Core.Path.{_≡_, refl, sym, ap, _∙_, subst}
+use mathlib.Core.Path.{_≡_, sym, ap, _∙_}
 use mathlib.Core.List.{List, _++_}
 use lib.ListN.{length, take, drop, length-append}
 use lib.Seq.{take-length, length-take-le}
 use borrow.Author.Tests.{lt-ltb, le-ltb}
-use Rattle.transcript_bytes.specs.Reading.{entries-read, place-read, refusal-read}
+use Rattle.transcript_bytes.specs.Reading.{entries-read, refusal-read}
 use Rattle.transcript_scan.specs.Scan.{scanned}
 use Rattle.transcript_scan.specs.declared.scanning.Scanned.{Scanned}
 use Rattle.salvaging.specs.Salvage.{run, rest, report, salvage-answer, bytes-after, SalvagedTranscript}

@@ -1,16 +1,15 @@
 -- A sound transcript comes out the same, with nothing left and no refusal, and no other does. What is kept is sound, so salvaging it again
 -- changes nothing.
 use Prim.Native.Nat.{ℕ}
-use mathlib.Core.Path.{_≡_, refl, sym, ap, _∙_, subst}
+use mathlib.Core.Path.{_≡_, sym, subst}
 use mathlib.Core.List.{List, [], append-nil}
 use mathlib.Core.Logic.{_↔_}
 use Rattle.transcript_bytes.specs.InPlainWords.{Sound}
 use Rattle.transcript_bytes.specs.Reading.{entries-read, refusal-read}
 use Rattle.transcript_bytes.specs.declared.Entry.{Entry}
 use Rattle.salvaging.specs.InPlainWords.{none-left, Divides}
-use Rattle.salvaging.specs.Salvage.{run, rest}
+use Rattle.salvaging.specs.Salvage.{run}
 use Rattle.salvaging.proofs.Divides.{Found, found, divides}
-use Rattle.salvaging.proofs.Longest.{left-exactly}
 
 -- A sound transcript comes out the same.
 pub sound-divides : {s : List ℕ} {es : List Entry} → Sound s es → Divides s es s [] 0

@@ -1,6 +1,5 @@
 // Salvage of a damaged transcript: document 02, request (xii). What a transcript is, and its refusals 20 to 23, are crate
 // `transcript_bytes`; how one is looked through is crate `transcript_scan`.
-ghost use mathlib.Core.Path.{_≡_};
 ghost use Rattle.salvaging.specs.Salvage.{SalvagedTranscript};
 use transcript_scan::scan;
 
