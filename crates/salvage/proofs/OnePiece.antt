@@ -4,6 +4,7 @@ use native.Mathlib.Omega.{arith}
 use mathlib.Core.Path.{_≡_, refl, sym, ap, _∙_}
 use mathlib.Core.Bool.{Bool, true, false, cond}
 use mathlib.Core.List.{List, []}
+use lib.Dec.{eqb}
 use lib.ListN.{length, take, drop, length-append, length-drop, take-append-drop}
 use lib.Seq.{length-take-le, take-take}
 use Rattle.transcript_bytes.specs.Reading.{entries-read, refusal-read}
@@ -167,17 +168,21 @@ left p piece sound all ready t =
 
 -- ---- a whole turn
 -- What came is what stands behind the bytes that were held, which stayed.
-pub turn-taken : (p : Progress) (piece filled : List ℕ) (all : ℕ) {t : Taken} {piece′ sound′ : List ℕ} {written more : Bool} →
+pub turn-taken : (p : Progress) (piece filled : List ℕ) (all : ℕ) {t : Taken} {piece′ sound′ : List ℕ} {written : Bool} →
     p .held ≤ all → all ≤ length filled → length filled ≡ length piece → take (p .held) filled ≡ take (p .held) piece →
-    Took p (take all filled) t piece′ sound′ → TookTurn p piece (record { progress = t .progress; written = written; more = more }) piece′
-turn-taken p piece filled all h k same front x =
+    Took p (take all filled) t piece′ sound′ → length piece′ ≡ length filled →
+    TookTurn p piece (record { progress = t .progress; written = written; more = eqb all (length piece′) }) piece′
+turn-taken p piece filled all {piece′ = piece′} h k same front x same′ =
     let long = length-take-le all filled k in
     let came = drop (p .held) (take all filled) in
+    let behind = length-drop (p .held) (take all filled) in
+    let count : all ≡ p .held + length came = omega (arith, behind, long, h) in
     record {
       came = came;
       progress =
           x .progress
           ∙ ap (λ (l : List ℕ). piece-taken (by-parts (p .kept) l (p .gone) (p .stop)) came) (take-take (p .held) all filled h ∙ front);
+      more = ap (λ (n : ℕ). eqb n (length piece′)) count ∙ ap (eqb (p .held + length came)) (same′ ∙ same);
       few = x .few;
       kept = omega (arith, x .kept, long, same);
       gone = omega (arith, x .gone, long, same);

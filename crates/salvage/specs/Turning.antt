@@ -10,6 +10,7 @@ use Prim.Native.Nat.{ℕ, _+_, _-_, _<_, _≤_, min}
 use mathlib.Core.Bool.{cond}
 use mathlib.Core.List.{List}
 use mathlib.Core.Path.{_≡_}
+use lib.Dec.{eqb}
 use lib.ListN.{length, take, drop}
 use Rattle.salvaging.specs.Pieces.{may-go-on, piece-taken, piece-written}
 use Rattle.salvaging.specs.Pieces.{Progress as Salvaging·Progress}
@@ -47,10 +48,11 @@ pub record Took (p : Progress) (bytes : List ℕ) (t : Taken) (piece′ sound′
   pub kept : t .progress .kept ≤ p .kept + length bytes
   pub gone : t .progress .gone ≤ p .gone + length bytes
 
--- what came is `came`; no contract says which bytes that is
+-- what came is `came`; no contract says which bytes that is. More may follow if it filled the buffer
 pub record TookTurn (p : Progress) (piece : List ℕ) (t : Turn) (piece′ : List ℕ) : Type 0 where
   pub came : List ℕ
   pub progress : progress-of (t .progress) piece′ ≡ piece-taken (progress-of p piece) came
+  pub more : t .more ≡ eqb (p .held + length came) (length piece)
   pub few : t .progress .held ≤ 4
   pub kept : t .progress .kept ≤ p .kept + length piece
   pub gone : t .progress .gone ≤ p .gone + length piece

@@ -32,7 +32,7 @@ returns c =
     let taken = c .before .before .before .before .before .before .before in
     let filled = taken .before .before .before .before .before .fill in
     turn-taken _ _ (filled .last .0) _ (filled .ensures .0 .0) (filled .ensures .0 .1) (filled .kept .0) (filled .ensures .1)
-    (taken .take-piece .ensures)
+    (taken .take-piece .ensures) (taken .take-piece .kept .1 .0)
 
 pub take-turn-spec : {M : Type 1} → statement M
 take-turn-spec =
