@@ -7,12 +7,16 @@ use mathlib.Core.List.{List, [], _∷_, _++_}
 use mathlib.Core.Logic.{_↔_, _≢_}
 use lib.ListN.{length, take, drop, length-append}
 use lib.Seq.{drop-append-seam}
+use Rattle.words.specs.Bytes.{AreBytes}
+use Rattle.transcript_bytes.specs.Format.{transcript-of}
 use Rattle.transcript_bytes.specs.InPlainWords.{Sound, BadRecord, first-places}
 use Rattle.transcript_bytes.specs.InPlainWords as format
 use Rattle.transcript_bytes.specs.Lists.{Lists, size, columns}
 use Rattle.transcript_bytes.specs.Reading.{entries-read, refusal-read, ReadTranscript}
 use Rattle.transcript_bytes.specs.declared.Entry.{Entry}
 use Rattle.transcript_bytes.specs.declared.Transcribed.{Transcribed}
+use Rattle.transcript_bytes.proofs.Bytes.{bytes-first}
+use Rattle.transcript_bytes.proofs.OneEncoding.{sound-is}
 use Rattle.transcript_bytes.proofs.Promised.{reader-exactly, reader-done}
 use Rattle.transcript_bytes.proofs.ReadExactly.{sound-exactly}
 use Rattle.salvaging.specs.InPlainWords.{answer, SalvagedAll, written}
@@ -80,6 +84,12 @@ module _ {s out : List ℕ} {o : Salvaged} {out′ : List ℕ} (p : SalvagedTran
         (subst (Sound (done .kept)) (sym (parts .entries)) (done .divides .good)),
     ap length (parts .entries) ∙ sym (done .count),
   )
+
+  -- The writer makes the same bytes of these records.
+  pub as-the-writer : AreBytes s → written s o out′ ≡ transcript-of (entries-read s)
+  as-the-writer b =
+      let parted : AreBytes (written s o out′ ++ drop (length s - o .left) s) = λ i. rw (sym front) (b i) in
+      sound-is (written s o out′) (entries-read s) (bytes-first (written s o out′) (drop (length s - o .left) s) parted) (written-sound .0) .1
 
   -- No front of the string that is sound is longer.
   pub none-longer : (t v : List ℕ) {es : List Entry} → s ≡ t ++ v → Sound t es → length t ≤ length s - o .left
