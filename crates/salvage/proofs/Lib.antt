@@ -1,2 +1,4 @@
 pub mod Fronts
 pub mod OnePiece
+pub mod OneTurn
+pub mod Going

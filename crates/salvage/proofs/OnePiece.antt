@@ -4,7 +4,6 @@ use native.Mathlib.Omega.{arith}
 use mathlib.Core.Path.{_≡_, refl, sym, ap, _∙_}
 use mathlib.Core.Bool.{Bool, true, false, cond}
 use mathlib.Core.List.{List, []}
-use lib.Dec.{eqb}
 use lib.ListN.{length, take, drop, length-append, length-drop, take-append-drop}
 use lib.Seq.{length-take-le, take-take}
 use Rattle.transcript_bytes.specs.Reading.{entries-read, refusal-read}
@@ -13,13 +12,12 @@ use Rattle.salvaging.specs.Pieces.{may-go-on, at-hand, held-of, piece-taken, pi
 use Rattle.salvaging.specs.Pieces.{Progress as Salvaging·Progress}
 use Rattle.salvaging.specs.Salvage.{run, rest, SalvagedTranscript}
 use Rattle.salvaging.specs.declared.Salvaged.{Salvaged}
-use Rattle.salvaging.proofs.AfterSalvage.{fits-if-all-would}
+use Rattle.salvaging.proofs.WhatWasWritten.{fits-if-all-would}
 use Rattle.salvaging.proofs.Divides.{divides, run-length}
 use Rattle.salvaging.proofs.Longest.{no-more-than-bytes}
 use Rattle.salvaging.proofs.Promised.{as-many-bytes}
-use Rattle.salvage.specs.Turning.{progress-of, held-count, leaving, Ready, Took, TookTurn}
+use Rattle.salvage.specs.Turning.{progress-of, held-count, leaving, Ready, Took}
 use Rattle.salvage.specs.declared.pieces.Progress.{Progress}
-use Rattle.salvage.specs.declared.pieces.Taken.{Taken}
 use Rattle.salvage.proofs.Fronts.{take-min, within-first}
 
 -- ---- the bytes at hand
@@ -51,7 +49,7 @@ module _ (p : Progress) (x : List ℕ) where
       sym (ap length held-first) ∙ length-take-le (held-count (refusal-read x) (length (rest x))) (rest x) (omega (arith, few))
 
 -- ---- a piece that is salvaged
-abbrev by-parts : ℕ → List ℕ → ℕ → ℕ → Salvaging·Progress
+abbrev pub by-parts : ℕ → List ℕ → ℕ → ℕ → Salvaging·Progress
 by-parts kept held gone stop = record { kept = kept; held = held; gone = gone; stop = stop }
 
 same-progress : {a a′ : ℕ} {b b′ : List ℕ} {c c′ d d′ : ℕ} → a ≡ a′ → b ≡ b′ → c ≡ c′ → d ≡ d′ → by-parts a b c d ≡ by-parts a′ b′ c′ d′
@@ -164,26 +162,4 @@ left p piece sound all ready t =
       fits = omega arith;
       kept = omega arith;
       gone = omega (arith, long);
-    }
-
--- ---- a whole turn
--- What came is what stands behind the bytes that were held, which stayed.
-pub turn-taken : (p : Progress) (piece filled : List ℕ) (all : ℕ) {t : Taken} {piece′ sound′ : List ℕ} {written : Bool} →
-    p .held ≤ all → all ≤ length filled → length filled ≡ length piece → take (p .held) filled ≡ take (p .held) piece →
-    Took p (take all filled) t piece′ sound′ → length piece′ ≡ length filled →
-    TookTurn p piece (record { progress = t .progress; written = written; more = eqb all (length piece′) }) piece′
-turn-taken p piece filled all {piece′ = piece′} h k same front x same′ =
-    let long = length-take-le all filled k in
-    let came = drop (p .held) (take all filled) in
-    let behind = length-drop (p .held) (take all filled) in
-    let count : all ≡ p .held + length came = omega (arith, behind, long, h) in
-    record {
-      came = came;
-      progress =
-          x .progress
-          ∙ ap (λ (l : List ℕ). piece-taken (by-parts (p .kept) l (p .gone) (p .stop)) came) (take-take (p .held) all filled h ∙ front);
-      more = ap (λ (n : ℕ). eqb n (length piece′)) count ∙ ap (eqb (p .held + length came)) (same′ ∙ same);
-      few = x .few;
-      kept = omega (arith, x .kept, long, same);
-      gone = omega (arith, x .gone, long, same);
     }

@@ -6,17 +6,21 @@
 --   Ready                  the same, when so many bytes are at hand: those that are held, and those that came behind them
 --   Took                   what is made of the bytes at hand
 --   TookTurn               a whole turn: some bytes came behind those that are held
+--   SoFar                  between two turns: some pieces came one after another, and the progress is theirs
+--   Tells                  a report of an input that came in pieces, what is held at the end being left too: `in-pieces` of crate
+--                          `salvaging` says that it is that of the whole
 use Prim.Native.Nat.{ℕ, _+_, _-_, _<_, _≤_, min}
 use mathlib.Core.Bool.{cond}
+use lib.Dec.{ltb}
 use mathlib.Core.List.{List}
 use mathlib.Core.Path.{_≡_}
-use lib.Dec.{eqb}
 use lib.ListN.{length, take, drop}
-use Rattle.salvaging.specs.Pieces.{may-go-on, piece-taken, piece-written}
+use Rattle.salvaging.specs.Pieces.{beginning, may-go-on, piece-taken, piece-written, pieces-taken}
 use Rattle.salvaging.specs.Pieces.{Progress as Salvaging·Progress}
 use Rattle.salvage.specs.declared.Turn.{Turn}
 use Rattle.salvage.specs.declared.pieces.Progress.{Progress}
 use Rattle.salvage.specs.declared.pieces.Taken.{Taken}
+use Rattle.salvage.specs.declared.report.Report.{Report}
 
 abbrev pub progress-of : Progress → List ℕ → Salvaging·Progress
 progress-of p piece = record { kept = p .kept; held = take (p .held) piece; gone = p .gone; stop = p .stop }
@@ -30,7 +34,7 @@ leaving p all =
 
 pub record Room (p : Progress) (piece sound : List ℕ) : Type 0 where
   pub few : p .held ≤ 4
-  pub holds : 4 ≤ length piece
+  pub holds : 4 < length piece
   pub fits : length piece ≤ length sound
   pub kept : p .kept + length piece < 18446744073709551616
   pub gone : p .gone + length piece < 18446744073709551616
@@ -48,11 +52,23 @@ pub record Took (p : Progress) (bytes : List ℕ) (t : Taken) (piece′ sound′
   pub kept : t .progress .kept ≤ p .kept + length bytes
   pub gone : t .progress .gone ≤ p .gone + length bytes
 
--- what came is `came`; no contract says which bytes that is. More may follow if it filled the buffer
-pub record TookTurn (p : Progress) (piece : List ℕ) (t : Turn) (piece′ : List ℕ) : Type 0 where
+-- what came is `came`; no contract says which bytes that is
+pub record TookTurn (p : Progress) (piece : List ℕ) (t : Turn) (piece′ sound′ : List ℕ) : Type 0 where
   pub came : List ℕ
   pub progress : progress-of (t .progress) piece′ ≡ piece-taken (progress-of p piece) came
-  pub more : t .more ≡ eqb (p .held + length came) (length piece)
+  pub written : take (t .wrote) sound′ ≡ piece-written (progress-of p piece) came
+  pub fits : t .wrote ≤ length sound′
+  pub more : t .more ≡ ltb 0 (length came)
   pub few : t .progress .held ≤ 4
   pub kept : t .progress .kept ≤ p .kept + length piece
   pub gone : t .progress .gone ≤ p .gone + length piece
+
+pub record SoFar (p : Progress) (piece : List ℕ) : Type 0 where
+  pub pieces : List (List ℕ)
+  pub made : progress-of p piece ≡ pieces-taken beginning pieces
+
+pub record Tells (r : Report) : Type 0 where
+  pub pieces : List (List ℕ)
+  pub kept : r .kept ≡ pieces-taken beginning pieces .kept
+  pub left : r .left ≡ pieces-taken beginning pieces .gone + length (pieces-taken beginning pieces .held)
+  pub stop : r .stop ≡ pieces-taken beginning pieces .stop

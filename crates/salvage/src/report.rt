@@ -1,6 +1,12 @@
 // What is said on standard error: the report, when all of the input is read.
-ghost use Prim.Native.Nat.{_+_, _<_};
-use crate::pieces::Progress;
+ghost use Rattle.salvage.specs.Turning.{Tells};
+
+// The records that were kept, the bytes that were left, and what stopped it.
+pub(crate) struct Report {
+    pub(crate) kept: u64,
+    pub(crate) left: u64,
+    pub(crate) stop: u8,
+}
 
 // Why it stopped, in document 02's words.
 fn say_why(stop: u8) {
@@ -21,17 +27,22 @@ fn say_why(stop: u8) {
     }
 }
 
-// The records that were kept, the bytes that were left, and why: what is held at the end is left too.
-pub(crate) fn say(p: Progress)
-    requires { ⌜ p .gone + p .held < 18446744073709551616 ⌝ }
+// Only a report of an input is said.
+pub(crate) fn say(r: Report)
+    requires { ⌜ Tells r ⌝ }
 {
     io::write_all(2, b"salvage: records kept ");
-    io::print_decimal(2, p.kept);
+    io::print_decimal(2, r.kept);
     io::write_all(2, b", bytes left ");
-    io::print_decimal(2, p.gone + p.held as u64);
+    io::print_decimal(2, r.left);
     io::write_all(2, b", stopped by ");
-    io::print_decimal(2, p.stop as u64);
-    say_why(p.stop);
+    io::print_decimal(2, r.stop as u64);
+    say_why(r.stop);
+}
+
+// The input can't be read to its end: there is no report of it then.
+pub(crate) fn say_unread() {
+    io::write_all(2, b"salvage: standard input can't be read to its end\n");
 }
 
 // What was salvaged can't be written: there is no report then.

@@ -4,11 +4,13 @@ pub mod Exactly
 pub mod Longest
 pub mod Unchanged
 pub mod MoreBehind
+pub mod OneMorePiece
 pub mod InPieces
 -- ---- the call
 pub mod Outcomes
 pub mod Promised
-pub mod AfterSalvage
+pub mod WhatWasWritten
+pub mod WhatWasLeft
 pub mod One
 -- ---- worked examples
 pub mod Holds

@@ -11,7 +11,7 @@ use lib.Seq.{take-append-seam, drop-append-seam}
 use borrow.Author.Tests.{eq-eqb, ne-eqb}
 use Rattle.words.proofs.Choices.{same-or-not}
 use Rattle.transcript_bytes.specs.Lists.{over}
-use Rattle.salvaging.specs.InPlainWords.{answer, SalvagedAs, SalvagedAll}
+use Rattle.salvaging.specs.InPlainWords.{SalvagedAs, SalvagedAll}
 use Rattle.salvaging.specs.InPlainWords as plain
 use Rattle.salvaging.specs.Salvage.{run, salvage-answer, bytes-after, SalvagedTranscript}
 use Rattle.salvaging.specs.declared.Salvaged.{Salvaged}
@@ -32,7 +32,7 @@ module _ {s out : List ℕ} {o : Salvaged} {out′ : List ℕ} (p : SalvagedTran
   number-is = ap (λ (a : Salvaged). a .number) (p .answer)
 
   -- Refused, it answers 24 and zeros, and leaves every byte.
-  pub salvage-refused : o .number ≢ 0 → (o ≡ answer 24 0 0 0) × (out′ ≡ out)
+  pub salvage-refused : o .number ≢ 0 → (o ≡ record { number = 24; kept = 0; left = 0; stop = 0 }) × (out′ ≡ out)
   unfolding bytes-after
   salvage-refused d = (
     zeros salvage-answers d,
@@ -40,7 +40,7 @@ module _ {s out : List ℕ} {o : Salvaged} {out′ : List ℕ} (p : SalvagedTran
         ∙ ap (λ (t : Bool). cond t (over (run s) out) out) (ne-eqb (salvage-answer s (length out) .number) 0 (λ z. d (number-is ∙ z))),
   )
     where
-      zeros : {a : Salvaged} → SalvagedAs s (length out) a → a .number ≢ 0 → a ≡ answer 24 0 0 0
+      zeros : {a : Salvaged} → SalvagedAs s (length out) a → a .number ≢ 0 → a ≡ record { number = 24; kept = 0; left = 0; stop = 0 }
       zeros (plain.SalvagedAs.done x h) d = absurd (d refl)
       zeros (plain.SalvagedAs.too-small x h) d = refl
 

@@ -1,4 +1,5 @@
--- A transcript that is read from its start, byte by byte, with its entries counted: what both loops of the reader keep.
+-- A transcript that is read from its start, byte by byte, with its entries counted: what the loops of the scan and of the
+-- reader keep.
 use Prim.Native.Nat.{ℕ, _+_, _≤_, _<_}
 use native.Mathlib.Omega.{arith}
 use mathlib.Core.Path.{_≡_, refl, sym, ap, _∙_}

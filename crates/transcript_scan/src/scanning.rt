@@ -5,7 +5,8 @@ use crate::steps::fresh_part;
 use crate::steps::take_byte;
 use transcript_bytes::Step;
 
-// What a string holds: how many good records up to the first bad one, where that one begins, and its refusal, or 0 where none is bad.
+// What a string holds: how many good records up to the first bad one, where that one begins, and its refusal. Where none is bad, that is
+// the end of the string, and 0.
 pub struct Scanned {
     pub entries: usize,
     pub place: usize,

@@ -1,15 +1,15 @@
--- What was written, and what was left, said of any salvage that is done: what the reader says of both, what stopped it, and salvaging once
--- more.
+-- What was written, said of any salvage that is done: it is the front of the string, sound, and no longer one is; what the reader says of it,
+-- and a second salvage. And when it is done.
 use Prim.Native.Nat.{ℕ, _-_, _≤_}
 use native.Mathlib.Omega.{arith}
-use mathlib.Core.Path.{_≡_, refl, sym, ap, _∙_, subst}
-use mathlib.Core.List.{List, [], _∷_, _++_}
-use mathlib.Core.Logic.{_↔_, _≢_}
+use mathlib.Core.Path.{_≡_, sym, ap, _∙_, subst}
+use mathlib.Core.List.{List, _++_}
+use mathlib.Core.Logic.{_↔_}
 use lib.ListN.{length, take, drop, length-append}
-use lib.Seq.{drop-append-seam}
+use lib.Seq.{take-append-seam, drop-append-seam}
 use Rattle.words.specs.Bytes.{AreBytes}
 use Rattle.transcript_bytes.specs.Format.{transcript-of}
-use Rattle.transcript_bytes.specs.InPlainWords.{Sound, BadRecord, first-places}
+use Rattle.transcript_bytes.specs.InPlainWords.{Sound, first-places}
 use Rattle.transcript_bytes.specs.InPlainWords as format
 use Rattle.transcript_bytes.specs.Lists.{Lists, size, columns}
 use Rattle.transcript_bytes.specs.Reading.{entries-read, refusal-read, ReadTranscript}
@@ -24,7 +24,7 @@ use Rattle.salvaging.specs.InPlainWords as plain
 use Rattle.salvaging.specs.Salvage.{run, rest, SalvagedTranscript}
 use Rattle.salvaging.specs.declared.Salvaged.{Salvaged}
 use Rattle.salvaging.proofs.Divides.{Found, found, divides}
-use Rattle.salvaging.proofs.Longest.{longest, next-is-bad, left-exactly, stopped-as-read}
+use Rattle.salvaging.proofs.Longest.{longest}
 use Rattle.salvaging.proofs.Promised.{salvage-exactly, salvage-done}
 use Rattle.salvaging.proofs.Unchanged.{comes-out-same}
 
@@ -51,13 +51,13 @@ comes-out {s} {out} {o} {out′} {es} p q room =
 
 module _ {s out : List ℕ} {o : Salvaged} {out′ : List ℕ} (p : SalvagedTranscript s out o out′) (z : o .number ≡ 0) where
   -- ---- the parts of the string, by the answer
-  done : SalvagedAll s out o out′
+  pub done : SalvagedAll s out o out′
   done = salvage-done p z
 
-  parts : Found s (done .entries) (done .kept) (done .left) (o .stop)
+  pub parts : Found s (done .entries) (done .kept) (done .left) (o .stop)
   parts = found (done .divides)
 
-  kept-length : length (done .kept) ≡ length s - o .left
+  pub kept-length : length (done .kept) ≡ length s - o .left
   kept-length =
       let n = ap length (done .divides .all) ∙ length-append (done .kept) (done .left) in
       omega (arith, n, done .bytes-left)
@@ -65,13 +65,24 @@ module _ {s out : List ℕ} {o : Salvaged} {out′ : List ℕ} (p : SalvagedTran
   is-kept : written s o out′ ≡ done .kept
   is-kept = ap (λ (n : ℕ). take n out′) (sym kept-length) ∙ done .written
 
-  is-left : drop (length s - o .left) s ≡ done .left
+  pub is-left : drop (length s - o .left) s ≡ done .left
   is-left =
       ap (λ (n : ℕ). drop n s) (sym kept-length)
       ∙ ap (drop (length (done .kept))) (done .divides .all)
       ∙ drop-append-seam (done .kept) (done .left)
 
   -- ---- what was written
+  -- It stands in the first of the lent bytes, and the later ones are as they were.
+  pub first-written : take (length s - o .left) out′ ≡ take (length s - o .left) s
+  first-written =
+      is-kept
+      ∙ sym (take-append-seam (done .kept) (done .left))
+      ∙ ap (take (length (done .kept))) (sym (done .divides .all))
+      ∙ ap (λ (n : ℕ). take n s) kept-length
+
+  pub later-stay : drop (length s - o .left) out′ ≡ drop (length s - o .left) out
+  later-stay = subst (λ (n : ℕ). drop n out′ ≡ drop n out) kept-length (done .later)
+
   -- It is the front of the string.
   pub front : s ≡ written s o out′ ++ drop (length s - o .left) s
   front =
@@ -118,37 +129,14 @@ module _ {s out : List ℕ} {o : Salvaged} {out′ : List ℕ} (p : SalvagedTran
       (q ≡ answer 0 (o .kept) 0 0) × (take (length (written s o out′)) out₂′ ≡ written s o out′)
   again p₂ room = let x = written-sound in (comes-out p₂ (x .0) room .0 ∙ ap (λ (n : ℕ). answer 0 n 0 0) (x .1), comes-out p₂ (x .0) room .1)
 
-  -- ---- what was left
-  -- The next record, if any, is bad, with the refusal that is reported,
-  pub next-bad : o .left ≢ 0 → BadRecord (drop (length s - o .left) s) (o .stop)
-  next-bad d =
-      subst (λ (u : List ℕ). BadRecord u (o .stop)) (parts .left ∙ sym is-left)
-      (subst (BadRecord (rest s)) (parts .refusal)
-      (next-is-bad s (λ e. d (done .bytes-left ∙ ap length (sym (parts .left) ∙ e)))))
-
-  -- and the reader says so of the whole string, and names the place where the run ends.
-  pub reader-says-so : {l l′ : Lists} {a : Transcribed} → ReadTranscript s l a l′ → o .stop ≢ 0 →
-      a ≡ format.answer (o .stop) 0 (length s - o .left)
-  reader-says-so {l} q d =
-      q .answer
-      ∙ stopped-as-read s (size l) (λ e. d (sym (parts .refusal) ∙ e))
-      ∙ ap (λ (n : ℕ). format.answer n 0 (length (run s))) (parts .refusal)
-      ∙ ap (format.answer (o .stop) 0) (ap length (parts .kept) ∙ kept-length)
-
-  -- Nothing is left exactly if nothing stopped it,
-  pub left-by-stop : o .left ≡ 0 ↔ (o .stop ≡ 0)
-  left-by-stop = (
-    λ e. sym (parts .refusal) ∙ left-exactly s .0 (parts .left ∙ no-bytes (done .left) (sym (done .bytes-left) ∙ e)),
-    λ e. done .bytes-left ∙ ap length (sym (parts .left) ∙ left-exactly s .1 (parts .refusal ∙ e)),
-  )
-    where
-      no-bytes : (l : List ℕ) → length l ≡ 0 → l ≡ []
-      no-bytes [] e = refl
-      no-bytes (b ∷ l) e = absurd (omega arith)
-
-  -- and exactly if the string is sound.
-  pub left-by-soundness : o .left ≡ 0 ↔ Sound s (entries-read s)
-  left-by-soundness = (
-    λ e. sound-exactly s (entries-read s) .1 (parts .refusal ∙ left-by-stop .0 e, refl),
-    λ q. left-by-stop .1 (sym (parts .refusal) ∙ sound-exactly s (entries-read s) .0 q .0),
-  )
+-- It is done exactly if every front of the string that is whole good records fits the bytes that are lent.
+pub done-exactly : {s out : List ℕ} {o : Salvaged} {out′ : List ℕ} → SalvagedTranscript s out o out′ →
+    o .number ≡ 0 ↔ ((t v : List ℕ) (es : List Entry) → s ≡ t ++ v → Sound t es → length t ≤ length out)
+done-exactly {s} p = (
+  λ z t v es e q. let n = kept-length p z in omega (arith, none-longer p z t v e q, n, done p z .fits),
+  λ h.
+      let d = divides s in
+      ap (λ (a : Salvaged). a .number)
+      (salvage-exactly p (answer 0 (length (entries-read s)) (length (rest s)) (refusal-read s)) .1
+      (plain.SalvagedAs.done d (h (run s) (rest s) (entries-read s) (d .all) (d .good)))),
+)
