@@ -2,6 +2,7 @@
 --   blank                  what lies in the bytes before a call
 --   Row                    whole s out o out′: the string s is salvaged into the bytes out; the answer is o, and these are out′
 --                          pieces vs out o: an input that comes in the pieces vs; out is written in all, and o is reported at the end
+--   answer n kept left k   an answer, by its parts
 --   saves, stops           a salvage into blank bytes that is done, and that is refused
 --   reported p             what is reported of an input that ends at the progress p
 --   worked row             the row with its answer, and what is left, by the definitions
@@ -9,7 +10,6 @@
 use Prim.Native.Nat.{ℕ, _+_}
 use mathlib.Core.List.{List, [], _∷_, _++_}
 use lib.ListN.{length, replicate}
-use Rattle.salvaging.specs.InPlainWords.{answer}
 use Rattle.salvaging.specs.Pieces.{Progress, beginning, pieces-taken, pieces-written}
 use Rattle.salvaging.specs.Salvage.{salvage-answer, bytes-after}
 use Rattle.salvaging.specs.declared.Salvaged.{Salvaged}
@@ -20,6 +20,9 @@ blank = 0xEE ∷ 0xEE ∷ 0xEE ∷ 0xEE ∷ 0xEE ∷ 0xEE ∷ []
 pub data Row : Type 0 where
   whole : List ℕ → List ℕ → Salvaged → List ℕ → Row
   pieces : List (List ℕ) → List ℕ → Salvaged → Row
+
+abbrev pub answer : ℕ → ℕ → ℕ → ℕ → Salvaged
+answer n kept left stop = record { number = n; kept = kept; left = left; stop = stop }
 
 abbrev pub reported : Progress → Salvaged
 reported p = answer 0 (p .kept) (p .gone + length (p .held)) (p .stop)

@@ -11,7 +11,6 @@
 use Prim.Native.Nat.{ℕ}
 use mathlib.Core.List.{List, [], _∷_, _++_}
 use lib.ListN.{length, replicate}
-use Rattle.transcript_bytes.specs.InPlainWords.{answer}
 use Rattle.transcript_bytes.specs.Lists.{columns, entries-in}
 use Rattle.transcript_bytes.specs.Reading.{read-answer, lists-after}
 use Rattle.transcript_bytes.specs.Writing.{write-answer, bytes-after}
@@ -22,10 +21,10 @@ abbrev pub entry : ℕ → ℕ → ℕ → ℕ → Entry
 entry k r l w = record { kind = k; register = r; lanes = l; word = w }
 
 abbrev pub refused : ℕ → ℕ → Transcribed
-refused n place = answer n 0 place
+refused n place = record { number = n; count = 0; place = place }
 
 abbrev pub accepted : ℕ → Transcribed
-accepted count = answer 0 count 0
+accepted count = record { number = 0; count = count; place = 0 }
 
 abbrev pub spare : Entry
 spare = entry 7 7 7 7
