@@ -11,9 +11,9 @@
 --                          `salvaging` says that it is that of the whole
 use Prim.Native.Nat.{ℕ, _+_, _-_, _<_, _≤_, min}
 use mathlib.Core.Bool.{cond}
-use lib.Dec.{ltb}
 use mathlib.Core.List.{List}
 use mathlib.Core.Path.{_≡_}
+use lib.Dec.{ltb}
 use lib.ListN.{length, take, drop}
 use Rattle.salvaging.specs.Pieces.{beginning, may-go-on, piece-taken, piece-written, pieces-taken}
 use Rattle.salvaging.specs.Pieces.{Progress as Salvaging·Progress}

@@ -1,4 +1,5 @@
-// One piece of an input that is salvaged piece by piece: crate `salvaging`, `Pieces`, says what that means, and that it ends like the whole.
+// One piece of an input that is salvaged piece by piece. What that means stands in crate `salvaging`, specs/Pieces, and that it ends like the
+// salvage of the whole in proofs/InPieces there.
 ghost use mathlib.Core.Path.{_≡_};
 ghost use Prim.Native.Nat.{_+_, _<_, _≤_};
 ghost use mathlib.Core.Bool.{true};
@@ -42,7 +43,7 @@ fn count_held(stop: u8, left: usize) -> usize
     0
 }
 
-// Moves n bytes, four at most, to the front.
+// Moves n bytes, four at most, to the front: by way of four others, since the two places may overlap.
 fn move_to_front(piece: &mut [u8], from: usize, n: usize)
     requires { ⌜ (n ≤ 4) × (from + n ≤ length (now piece)) ⌝ }
     ensures { λ _. ⌜ take n (now (piece .exit)) ≡ take n (drop from (now (piece .entry))) ⌝ }

@@ -1,4 +1,4 @@
-// What is said on standard error: the report, when all of the input is read.
+// What is said on standard error: the report, when all of the input is read, or why there is none.
 ghost use Rattle.salvage.specs.Turning.{Tells};
 
 // The records that were kept, the bytes that were left, and what stopped it.
@@ -27,7 +27,7 @@ fn say_why(stop: u8) {
     }
 }
 
-// Only a report of an input is said.
+// The report. Only that of an input that came in some pieces is said.
 pub(crate) fn say(r: Report)
     requires { ⌜ Tells r ⌝ }
 {

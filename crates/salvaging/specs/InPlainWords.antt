@@ -1,10 +1,10 @@
 -- Salvage in plain words, record by record: what the laws say of it. Document 02, request (xii).
---   Rest u n            what is left behind good records: nothing, with n 0, or a bad record, whose refusal is n
---   Divides s es t u n  the string s is good records t, those of the entries es, and the rest u, stopped by n
+--   Rest u n               what is left behind good records: nothing, with n 0, or a bad record, whose refusal is n
+--   Divides s es t u n     the string s is good records t, those of the entries es, and the rest u, stopped by n
 --   answer n kept left k   an answer, by its parts
---   SalvagedAs          what salvage answers of a string: each answer, when and only then
---   SalvagedAll         what a salvage leaves that is done
---   written s o out′    the bytes that it wrote: as many as it did not leave
+--   SalvagedAs             what salvage answers of a string: each answer, when and only then
+--   SalvagedAll            what a salvage leaves that is done
+--   written s o out′       the bytes that it wrote: as many as it did not leave
 use Prim.Native.Nat.{ℕ, _-_, _<_, _≤_}
 use mathlib.Core.Path.{_≡_}
 use mathlib.Core.List.{List, [], _++_}
