@@ -34,3 +34,26 @@ pub fn answers(
         writeln!(out, "bad script")
     }
 }
+
+/// A record of a script that one call carries out.
+pub trait Call {
+    const SIZE: usize;
+    type Answer;
+
+    fn parse(record: &[u8]) -> Self;
+
+    /// Carries out the record, which is left as the call leaves it.
+    fn call(&mut self) -> Self::Answer;
+
+    /// What is printed after a call that answered so.
+    fn printed(&self, answer: Self::Answer) -> Vec<u8>;
+}
+
+/// Carries out a script of such records.
+pub fn carry_out<R: Call>(script: &[u8], out: &mut impl Write) -> io::Result<()> {
+    answers(script, R::SIZE, out, |record| {
+        let mut record = R::parse(record);
+        let answer = record.call();
+        record.printed(answer)
+    })
+}

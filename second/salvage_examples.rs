@@ -5,6 +5,7 @@
 //! come strings with the line that the program must tell of them.
 
 use crate::examples::numbers;
+use crate::records::Call;
 use crate::salvage::Answer;
 use crate::salvage_program::salvaged;
 use crate::salvage_run::{answers, Record, BYTES};

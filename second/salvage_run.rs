@@ -10,7 +10,7 @@
 //! them.
 
 use crate::fault::{instead, Fault};
-use crate::records;
+use crate::records::{carry_out, Call};
 use crate::salvage::{salvage, Answer};
 use std::io::{self, Write};
 
@@ -31,7 +31,19 @@ pub struct Record {
 }
 
 impl Record {
-    pub fn from(record: &[u8]) -> Record {
+    pub fn to_bytes(&self) -> Vec<u8> {
+        let mut record = vec![self.damaged_lent, self.room_lent];
+        record.extend(self.damaged);
+        record.extend(self.room);
+        record
+    }
+}
+
+impl Call for Record {
+    const SIZE: usize = RECORD;
+    type Answer = Answer;
+
+    fn parse(record: &[u8]) -> Record {
         Record {
             damaged_lent: record[0],
             room_lent: record[1],
@@ -40,15 +52,7 @@ impl Record {
         }
     }
 
-    pub fn to_bytes(&self) -> Vec<u8> {
-        let mut record = vec![self.damaged_lent, self.room_lent];
-        record.extend(self.damaged);
-        record.extend(self.room);
-        record
-    }
-
-    /// Carries out the record, whose bytes to be written are left as the call leaves them.
-    pub fn call(&mut self) -> Answer {
+    fn call(&mut self) -> Answer {
         let [damaged, room] =
             [self.damaged_lent, self.room_lent].map(|lent| BYTES.min(lent.into()));
         let damaged = instead(Fault::SalvageLentIgnored, BYTES, damaged);
@@ -56,8 +60,7 @@ impl Record {
         salvage(&self.damaged[..damaged], &mut self.room[..room])
     }
 
-    /// What is printed after a call that answered so.
-    pub fn printed(&self, answer: Answer) -> Vec<u8> {
+    fn printed(&self, answer: Answer) -> Vec<u8> {
         let (number, kept, left, stop) = (answer.number, answer.kept, answer.left, answer.stop);
         let mut printed = format!("{number:02x}{kept:04x}{left:04x}{stop:02x}").into_bytes();
         printed.extend(self.room);
@@ -67,9 +70,5 @@ impl Record {
 
 /// Carries out a script.
 pub fn answers(script: &[u8], out: &mut impl Write) -> io::Result<()> {
-    records::answers(script, RECORD, out, |record| {
-        let mut record = Record::from(record);
-        let answer = record.call();
-        record.printed(answer)
-    })
+    carry_out::<Record>(script, out)
 }

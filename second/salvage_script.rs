@@ -4,7 +4,7 @@
 
 use crate::good_run::GoodRun;
 use crate::random::Random;
-use crate::records;
+use crate::records::{self, Call};
 use crate::rooms::{lent, room};
 use crate::salvage_run::{Record, BYTES, RECORD};
 use crate::transcript_strings::{bad, damage, write_head, ByteString};
@@ -29,7 +29,7 @@ fn scene(random: &Random) -> Vec<Record> {
 /// told from what it writes.
 fn filled(random: &Random, string: &[u8]) -> Record {
     let bytes: Vec<u8> = (0..RECORD).map(|_| random.bits() as u8).collect();
-    let mut record = Record::from(&bytes);
+    let mut record = Record::parse(&bytes);
     let length = string.len().min(BYTES);
     record.damaged[..length].copy_from_slice(&string[..length]);
     record

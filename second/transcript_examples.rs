@@ -6,6 +6,7 @@
 //! that must stay.
 
 use crate::examples::numbers;
+use crate::records::Call;
 use crate::transcript::Answer;
 use crate::transcript_list::{Access, PLACES};
 use crate::transcript_run::{answers, Record, BYTES};

@@ -11,7 +11,7 @@
 //! count (4) and place (4), then the lists and the 64 bytes as the call left them, laid out as in
 //! the record.
 
-use crate::records;
+use crate::records::{carry_out, Call};
 use crate::transcript::Answer;
 use crate::transcript_list::{List, PLACES};
 use crate::transcript_reader::read;
@@ -39,22 +39,6 @@ pub struct Record {
 }
 
 impl Record {
-    pub fn from(record: &[u8]) -> Record {
-        let number = |k: usize| {
-            let at = NUMBERS_AT + 4 * k;
-            u32::from_le_bytes(std::array::from_fn(|byte| record[at + byte]))
-        };
-        let part = |part: usize| std::array::from_fn(|k| number(PLACES * part + k));
-        Record {
-            side: record[0],
-            bytes_lent: record[1],
-            places_lent: std::array::from_fn(|k| record[2 + k]),
-            idle: [record[6], record[7]],
-            parts: std::array::from_fn(part),
-            bytes: std::array::from_fn(|k| record[BYTES_AT + k]),
-        }
-    }
-
     pub fn to_bytes(&self) -> Vec<u8> {
         let mut record = vec![self.side, self.bytes_lent];
         record.extend(self.places_lent);
@@ -70,9 +54,29 @@ impl Record {
         contents.extend(self.bytes);
         contents
     }
+}
 
-    /// Carries out the record, whose lists and bytes are left as the call leaves them.
-    pub fn call(&mut self) -> Answer {
+impl Call for Record {
+    const SIZE: usize = RECORD;
+    type Answer = Answer;
+
+    fn parse(record: &[u8]) -> Record {
+        let number = |k: usize| {
+            let at = NUMBERS_AT + 4 * k;
+            u32::from_le_bytes(std::array::from_fn(|byte| record[at + byte]))
+        };
+        let part = |part: usize| std::array::from_fn(|k| number(PLACES * part + k));
+        Record {
+            side: record[0],
+            bytes_lent: record[1],
+            places_lent: std::array::from_fn(|k| record[2 + k]),
+            idle: [record[6], record[7]],
+            parts: std::array::from_fn(part),
+            bytes: std::array::from_fn(|k| record[BYTES_AT + k]),
+        }
+    }
+
+    fn call(&mut self) -> Answer {
         let lent = self.places_lent.map(usize::from);
         let mut list = List {
             parts: self.parts,
@@ -87,8 +91,7 @@ impl Record {
         answer
     }
 
-    /// What is printed after a call that answered so.
-    pub fn printed(&self, answer: Answer) -> Vec<u8> {
+    fn printed(&self, answer: Answer) -> Vec<u8> {
         let (number, count, place) = (answer.number, answer.count, answer.place);
         let mut printed = format!("{number:02x}{count:04x}{place:04x}").into_bytes();
         printed.extend(self.contents());
@@ -98,9 +101,5 @@ impl Record {
 
 /// Carries out a script.
 pub fn answers(script: &[u8], out: &mut impl Write) -> io::Result<()> {
-    records::answers(script, RECORD, out, |record| {
-        let mut record = Record::from(record);
-        let answer = record.call();
-        record.printed(answer)
-    })
+    carry_out::<Record>(script, out)
 }

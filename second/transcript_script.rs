@@ -3,7 +3,7 @@
 
 use crate::groups;
 use crate::random::Random;
-use crate::records;
+use crate::records::{self, Call};
 use crate::rooms::{lent, room};
 use crate::transcript_accesses::{good, spoil, word};
 use crate::transcript_list::{Access, PLACES};
@@ -29,7 +29,7 @@ fn scene(random: &Random) -> Vec<Record> {
 /// A record with random contents, so that what a call must leave can be told from what it writes.
 fn filled(random: &Random) -> Record {
     let bytes: Vec<u8> = (0..RECORD).map(|_| random.bits() as u8).collect();
-    Record::from(&bytes)
+    Record::parse(&bytes)
 }
 
 /// How much of each slice is lent to a list of that length: no less, and of one slice no more.

@@ -81,6 +81,8 @@ cuts =
     pieces (replicate 6 0x81 ∷ (0x81 ∷ 0x00 ∷ []) ∷ (0x1E ∷ []) ∷ []) [] (answer 0 0 9 22) ∷
     -- four bytes tell that it is too large; of three, the next one could end a good word
     pieces ((0x1D ∷ 0x81 ∷ 0x80 ∷ 0x80 ∷ []) ∷ (0x00 ∷ []) ∷ []) [] (answer 0 0 5 22) ∷
+    -- a record that is over is judged once: by its first four bytes alone it would be cut off
+    pieces ((replicate 6 0x81 ++ (0x00 ∷ [])) ∷ [] ∷ []) [] (answer 0 0 7 22) ∷
     -- behind a bad record all pieces are left
     pieces ((0x1E ∷ 0x07 ∷ []) ∷ (0x1E ∷ 0x1E ∷ []) ∷ (0x1E ∷ []) ∷ []) (0x1E ∷ []) (answer 0 1 4 23) ∷
     []
