@@ -7,9 +7,10 @@ use mathlib.Core.Logic.{_≢_, ⊎-elim}
 use lib.ListN.{length}
 use borrow.Author.Tests.{lt-ltb, eq-eqb, ne-eqb}
 use Rattle.words.proofs.Choices.{less-or-not, same-or-not}
-use Rattle.transcript_bytes.specs.Lists.{Lists, size, with-entries}
+use Rattle.transcript_bytes.specs.Lists.{Lists, size, with-each}
 use Rattle.transcript_bytes.specs.Reading.{entries-read, refusal-read, read-answer, lists-after, ReadTranscript}
 use Rattle.transcript_bytes.specs.declared.Transcribed.{Transcribed}
+use Rattle.transcript_bytes.proofs.Filled.{each-fits}
 use Rattle.transcript_scan.specs.Scan.{scanned}
 use Rattle.transcript_scan.specs.declared.scanning.Scanned.{Scanned}
 use Rattle.transcript.specs.ReaderParts.{answer-for}
@@ -31,8 +32,8 @@ module _ (s : List ℕ) (room : ℕ) where
       let never : _≡_ {A = ℕ} 24 0 = rw (eq-eqb (refusal-read s) 0 good, lt-ltb room (length (entries-read s)) more) at e in omega arith)
       (λ bad. bad (rw (ne-eqb (refusal-read s) 0 bad) at e)) (same-or-not (refusal-read s) 0)
 
-  -- What is accepted has room.
-  pub all-fit : read-answer s room .number ≡ 0 → length (entries-read s) ≤ room
+  -- what is accepted has room
+  all-fit : read-answer s room .number ≡ 0 → length (entries-read s) ≤ room
   all-fit e =
       ⊎-elim (λ more. omega (arith, number-if-more more e)) (λ fits. fits) (less-or-not room (length (entries-read s)))
 
@@ -45,7 +46,14 @@ module _ (s : List ℕ) (l : Lists) {o : Transcribed} (right : o ≡ read-answer
   unfolding lists-after
   nothing-put h = record { answer = right; lists = rw (ne-eqb (read-answer s (size l) .number) 0 (λ z. h (number-is ∙ z))) }
 
-  -- Otherwise the entries are put into them.
-  pub all-put : {l′ : Lists} → o .number ≡ 0 → l′ ≡ with-entries (entries-read s) l → ReadTranscript s l o l′
+  -- Otherwise the entries are put into them, and all of them fit.
+  pub all-put : {l′ : Lists} → o .number ≡ 0 → l′ ≡ with-each l 0 (entries-read s) → ReadTranscript s l o l′
   unfolding lists-after
-  all-put good e = record { answer = right; lists = rw (eq-eqb (read-answer s (size l) .number) 0 (sym number-is ∙ good)) e }
+  all-put good e =
+      let accepted = sym number-is ∙ good in
+      record {
+        answer = right;
+        lists =
+            rw (eq-eqb (read-answer s (size l) .number) 0 accepted)
+            (e ∙ each-fits (entries-read s) l (all-fit s (size l) accepted));
+      }

@@ -1,19 +1,15 @@
 // The reader: a string of bytes to the four lists of a transcript's entries, or to a refusal with the lists as they were.
 ghost use mathlib.Core.Path.{_≡_};
-ghost use Prim.Native.Nat.{_≤_};
-ghost use lib.ListN.{length};
-ghost use Rattle.transcript_bytes.specs.Lists.{lists, size, with-entries};
-ghost use Rattle.transcript_bytes.specs.Reading.{entries-read, ReadTranscript};
+ghost use Rattle.transcript_bytes.specs.Lists.{lists};
+ghost use Rattle.transcript_bytes.specs.Reading.{ReadTranscript};
 ghost use Rattle.transcript.specs.ReaderParts.{answer-for};
 use crate::answers::refuse;
-use transcript_bytes::Step;
 use transcript_bytes::Transcribed;
-use transcript_lists::put_entry;
 use transcript_lists::shortest;
 use transcript_scan::Scanned;
+use transcript_scan::fill_on;
 use transcript_scan::fresh_part;
 use transcript_scan::scan;
-use transcript_scan::take_byte;
 
 // What is answered of a string, by what the scan found and by how many entries have room: a bad record comes before lists that are too
 // small.
@@ -30,41 +26,6 @@ fn answer_for(found: Scanned, room: usize) -> Transcribed
         number: 0,
         count: found.entries,
         place: 0,
-    }
-}
-
-// The entries of a string, up to its first bad record, in the first places of the four lists.
-fn fill(
-    bytes: &[u8],
-    kinds: &mut [u32],
-    registers: &mut [u32],
-    lanes: &mut [u32],
-    words: &mut [u32],
-)
-    requires { ⌜ length (entries-read (now bytes)) ≤ size (lists (now kinds) (now registers) (now lanes) (now words)) ⌝ }
-    ensures { λ _. ⌜ lists (now (kinds .exit)) (now (registers .exit)) (now (lanes .exit)) (now (words .exit))
-        ≡ with-entries (entries-read (now (bytes .entry)))
-        (lists (now (kinds .entry)) (now (registers .entry)) (now (lanes .entry)) (now (words .entry))) ⌝ }
-{
-    let mut part = fresh_part();
-    let mut entries: usize = 0;
-    let mut i: usize = 0;
-    while i < bytes.len() {
-        let step = take_byte(part, bytes[i]);
-        i += 1;
-        match step {
-            Step::Goes(p) => {
-                part = p;
-            }
-            Step::Whole(e) => {
-                part = fresh_part();
-                put_entry(kinds, registers, lanes, words, entries, e);
-                entries += 1;
-            }
-            Step::Bad(_) => {
-                return;
-            }
-        }
     }
 }
 
@@ -86,6 +47,6 @@ pub fn read_transcript(
     if answer.number != 0 {
         return answer;
     }
-    fill(bytes, kinds, registers, lanes, words);
+    fill_on(fresh_part(), bytes, kinds, registers, lanes, words);
     answer
 }

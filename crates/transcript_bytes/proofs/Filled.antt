@@ -1,12 +1,13 @@
 -- The four lists as entries take their first places, one after the other.
-use Prim.Native.Nat.{ℕ, suc, _≤_, _<_}
+use Prim.Native.Nat.{ℕ, suc, _+_, _≤_, _<_}
+use native.Mathlib.Nat.{add-zero}
 use native.Mathlib.Numerals.{add-one}
 use native.Mathlib.Omega.{arith}
 use mathlib.Core.Path.{_≡_, refl, sym, ap, _∙_}
-use mathlib.Core.List.{List, [], _∷_, _++_, map, map-append}
-use lib.ListN.{length, drop, getD, set, length-append, length-drop, length-map}
+use mathlib.Core.List.{List, [], _∷_, _++_, append-nil, map, map-append}
+use lib.ListN.{length, drop, getD, set, length-append, length-drop, length-map, length-set}
 use lib.Seq.{drop-cons, set-at, append-snoc}
-use Rattle.transcript_bytes.specs.Lists.{Lists, size, over, with-entries, with-entry}
+use Rattle.transcript_bytes.specs.Lists.{Lists, size, over, with-entries, with-entry, with-each}
 use Rattle.transcript_bytes.specs.declared.Entry.{Entry}
 
 -- ---- one column
@@ -63,3 +64,43 @@ module _ (got : List Entry) (l : Lists) where
         column-more (λ x. x .lanes) got (l .lanes) e (omega arith),
         column-more (λ x. x .word) got (l .words) e (omega arith),
       )
+
+-- ---- entries that are put in one after the other, whether they fit or not
+
+-- They leave the lists as long as they were.
+pub each-lengths : (l : Lists) (i : ℕ) (es : List Entry) → SameLengths l (with-each l i es)
+unfolding with-each
+each-lengths l i [] = record { kinds = refl; registers = refl; lanes = refl; words = refl }
+each-lengths l i (e ∷ es) =
+    let h = each-lengths (with-entry l i e) (suc i) es in
+    record {
+      kinds = h .kinds ∙ length-set (l .kinds) i (e .kind);
+      registers = h .registers ∙ length-set (l .registers) i (e .register);
+      lanes = h .lanes ∙ length-set (l .lanes) i (e .lanes);
+      words = h .words ∙ length-set (l .words) i (e .word);
+    }
+
+-- One entry more is put at the next place.
+pub each-more : (l : Lists) (i : ℕ) (es : List Entry) (e : Entry) →
+    with-each l i (es ++ (e ∷ [])) ≡ with-entry (with-each l i es) (i + length es) e
+unfolding with-each
+each-more l i [] e = ap (λ (n : ℕ). with-entry l n e) (sym (add-zero i))
+each-more l i (x ∷ es) e =
+    let next : suc i + length es ≡ i + suc (length es) = omega arith in
+    each-more (with-entry l i x) (suc i) es e
+    ∙ ap (λ (n : ℕ). with-entry (with-each (with-entry l i x) (suc i) es) n e) next
+
+each-behind : (got : List Entry) (l : Lists) (es : List Entry) → length got + length es ≤ size l →
+    with-each (with-entries got l) (length got) es ≡ with-entries (got ++ es) l
+unfolding with-each
+each-behind got l [] h = ap (λ (x : List Entry). with-entries x l) (sym (append-nil got))
+each-behind got l (e ∷ es) h =
+    let n : length (got ++ (e ∷ [])) ≡ suc (length got) = length-append got (e ∷ []) ∙ add-one (length got) in
+    ap (λ (x : Lists). with-each x (suc (length got)) es) (entry-more got l e (omega arith))
+    ∙ ap (λ (k : ℕ). with-each (with-entries (got ++ (e ∷ [])) l) k es) (sym n)
+    ∙ each-behind (got ++ (e ∷ [])) l es (omega arith)
+    ∙ ap (λ (x : List Entry). with-entries x l) (append-snoc got e es)
+
+-- Entries that fit take the lists' first places.
+pub each-fits : (es : List Entry) (l : Lists) → length es ≤ size l → with-each l 0 es ≡ with-entries es l
+each-fits es l h = each-behind [] l es (omega arith)

@@ -4,8 +4,8 @@ pub mod Groups
 pub mod NumberRead
 -- ---- the reader, byte by byte, on a number, a record and a whole string
 pub mod BadNumbers
-pub mod GoesOn
 pub mod ReadingOn
+pub mod Elsewhere
 pub mod ThroughNumbers
 pub mod Judged
 pub mod ThroughRecords

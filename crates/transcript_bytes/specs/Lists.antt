@@ -9,6 +9,7 @@
 --   columns es          the four lists of some entries' parts
 --   with-entries es l   the four lists when entries take their first places
 --   with-entry l i e    the four lists when an entry takes place i
+--   with-each l i es    the four lists when entries are put in one after the other, from place i on
 use Prim.Native.Nat.{ℕ, zero, suc, min}
 use mathlib.Core.List.{List, [], _∷_, _++_, map}
 use lib.ListN.{length, drop, getD, set}
@@ -58,3 +59,8 @@ with-entries es l =
 abbrev pub with-entry : Lists → ℕ → Entry → Lists
 with-entry l i e =
     lists (set (l .kinds) i (e .kind)) (set (l .registers) i (e .register)) (set (l .lanes) i (e .lanes)) (set (l .words) i (e .word))
+
+-- beyond a list's end a number is dropped, as the library's `set` does
+unfoldable pub with-each : Lists → ℕ → List Entry → Lists
+with-each l i [] = l
+with-each l i (e ∷ rest) = with-each (with-entry l i e) (suc i) rest

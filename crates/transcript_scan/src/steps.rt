@@ -1,6 +1,6 @@
 // What one byte more makes of a record: its numbers grow group by group, and each is judged when its last group is there.
 ghost use mathlib.Core.Path.{_≡_};
-ghost use Rattle.transcript_bytes.specs.Reading.{none, fresh, with-group, grown, entry-of, head-read, word-read, step};
+ghost use Rattle.transcript_bytes.specs.Reading.{none, fresh, with-group, grown, entry-of, head-read, word-read, step, cut-off};
 use transcript_bytes::Entry;
 use transcript_bytes::Number;
 use transcript_bytes::Part;
@@ -115,5 +115,20 @@ pub fn take_byte(p: Part, b: u8) -> Step
             }
             Step::Goes(Part::Word(head, more))
         }
+    }
+}
+
+// The refusal of a record that the end of the string finds at this part: a number is cut off or missing. Between two records nothing is.
+pub fn cut_off(p: Part) -> u8
+    ensures { λ r. ⌜ r ≡ cut-off p ⌝ }
+{
+    match p {
+        Part::Head(n) => {
+            if n.begun {
+                return 20;
+            }
+            0
+        }
+        Part::Word(_, _) => 20,
     }
 }

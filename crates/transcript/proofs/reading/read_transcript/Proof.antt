@@ -1,10 +1,9 @@
 -- `transcript::reading::read_transcript` meets its contract: its answer is right, and by that answer the lists are filled or left.
 use native.Mathlib.Omega.{arith}
-use mathlib.Core.Path.{_≡_, sym, ap, _∙_}
+use mathlib.Core.Path.{_≡_}
 use Rattle.transcript_bytes.specs.Lists.{lists, size}
 use Rattle.transcript_bytes.specs.Reading.{read-answer}
-use Rattle.transcript_bytes.specs.declared.Transcribed.{Transcribed}
-use Rattle.transcript.proofs.ReadOutcomes.{right-answer, nothing-put, all-fit, all-put}
+use Rattle.transcript.proofs.ReadOutcomes.{right-answer, nothing-put, all-put}
 use Rattle.transcript.proofs.reading.read_transcript.Statement.{statement}
 use Rattle.transcript.proofs.reading.read_transcript.Tie as tie
 
@@ -27,10 +26,11 @@ answer-for-requires c κs = tt
 returns : tie.Need-returns
 returns c = nothing-put _ _ (right (c .before .before)) (c .if1 .taken)
 
-fill-requires : tie.Need-fill-requires
-fill-requires c κs =
-    let passed = c .before .before .before .before in
-    all-fit _ _ (sym (ap (λ (o : Transcribed). o .number) (right (passed .before .before))) ∙ passed .if1 .left)
+fresh-part-requires : tie.Need-fresh-part-requires
+fresh-part-requires c κs = tt
+
+fill-on-requires : tie.Need-fill-on-requires
+fill-on-requires c κs = tt
 
 same-length : tie.Need-same-length
 same-length c = omega arith
@@ -47,10 +47,10 @@ same-length-4 c = omega arith
 returns-2 : tie.Need-returns-2
 returns-2 c =
     let filled = c .before .before .before .before .before .before .before .before in
-    let passed = filled .before .before .before .before .before in
-    let last = filled .fill .last .1 in
-    all-put _ _ (right (passed .before .before)) {l′ = lists (last .0) (last .1 .0) (last .1 .1 .0) (last .1 .1 .1 .0)} (passed .if1 .left)
-    (filled .fill .ensures)
+    let fresh = filled .before .before .before .before .before in
+    let last = filled .fill-on .last .1 .1 in
+    all-put _ _ (right (fresh .before .before .before)) {l′ = lists (last .0) (last .1 .0) (last .1 .1 .0) (last .1 .1 .1 .0)}
+    (fresh .before .if1 .left) (rw (fresh .fresh-part .ensures) at (filled .fill-on .ensures))
 
 pub read-transcript-spec : {M : Type 1} → statement M
 read-transcript-spec =
@@ -60,7 +60,8 @@ read-transcript-spec =
     scan-requires
     answer-for-requires
     returns
-    fill-requires
+    fresh-part-requires
+    fill-on-requires
     same-length
     same-length-2
     same-length-3

@@ -1,75 +1,70 @@
--- `transcript::reading::fill` meets its contract: at each turn the entries so far stand in the first places of the lists.
+-- `transcript_scan::filling::fill_on` meets its contract: at each turn the entries so far are put into the lists.
 use Prim.Native.Nat.{ℕ, _+_, _-_, _≤_, _<_}
+use native.Mathlib.Nat.{zero-add}
 use native.Mathlib.Omega.{arith}
 use mathlib.Core.Path.{_≡_, refl, sym, ap, _∙_}
 use mathlib.Core.List.{List, [], _∷_}
-use lib.ListN.{length, getD, length-append}
+use lib.ListN.{length, getD}
 use borrow.Author.Needs.{needs}
-use Rattle.transcript_bytes.specs.Lists.{Lists, lists, size, with-entries, with-entry}
-use Rattle.transcript_bytes.specs.Reading.{Reading, fresh, step, entries-read}
+use Rattle.transcript_bytes.specs.Lists.{Lists, lists, with-entry, with-each}
+use Rattle.transcript_bytes.specs.Reading.{Reading, fresh, step}
 use Rattle.transcript_bytes.specs.declared.Entry.{Entry}
 use Rattle.transcript_bytes.specs.declared.Part.{Part}
 use Rattle.transcript_bytes.specs.declared.Step.the-variants.{Goes, Whole, Bad}
-use Rattle.transcript_bytes.proofs.Filled.{SameLengths, lengths-stay, entry-more}
+use Rattle.transcript_bytes.proofs.Filled.{SameLengths, each-lengths, each-more}
+use Rattle.transcript_bytes.proofs.ReadingOn.{at-end}
+use Rattle.transcript_scan.specs.Scan.{read-on}
 use Rattle.transcript_scan.proofs.Counting.{Counting, begun, goes-on, counted, stopped}
-use Rattle.transcript_bytes.proofs.ReadingOn.{at-end, so-far}
-use Rattle.transcript.proofs.reading.fill.Statement.{statement}
-use Rattle.transcript.proofs.reading.fill.Tie as tie
+use Rattle.transcript_scan.proofs.filling.fill_on.Statement.{statement}
+use Rattle.transcript_scan.proofs.filling.fill_on.Tie as tie
 
-record Filling (s : List ℕ) (l₀ l : Lists) (p : Part) (entries i : ℕ) : Type 0 where
+record Filling (p₀ : Part) (s : List ℕ) (l₀ l : Lists) (p : Part) (entries i : ℕ) : Type 0 where
   place : ℕ
-  reads : Counting s p entries place i
-  fit : length (entries-read s) ≤ size l₀
-  filled : l ≡ with-entries (reads .got) l₀
+  reads : Counting p₀ s p entries place i
+  filled : l ≡ with-each l₀ 0 (reads .got)
 
-none-put : (s : List ℕ) (l : Lists) → length (entries-read s) ≤ size l → Filling s l l fresh 0 0
-none-put s l h = record { place = 0; reads = begun s; fit = h; filled = refl }
+none-put : (p₀ : Part) (s : List ℕ) (l : Lists) → Filling p₀ s l l p₀ 0 0
+unfolding with-each
+none-put p₀ s l = record { place = 0; reads = begun p₀ s; filled = refl }
 
-module _ {s : List ℕ} {l₀ l : Lists} {p : Part} {entries i : ℕ} (f : Filling s l₀ l p entries i) where
+module _ {p₀ : Part} {s : List ℕ} {l₀ l : Lists} {p : Part} {entries i : ℕ} (f : Filling p₀ s l₀ l p entries i) where
   -- the lists are as long as they were
   lengths : SameLengths l₀ l
-  lengths = rw (f .filled) (lengths-stay (f .reads .got) l₀ (omega (arith, so-far (f .reads .here), f .fit)))
+  lengths = rw (f .filled) (each-lengths l₀ 0 (f .reads .got))
 
   module _ (more : i < length s) where
-    still-filled : {q : Part} → step p (getD s i 0) ≡ Goes q → Filling s l₀ l q entries (i + 1)
-    still-filled e = record { place = f .place; reads = goes-on (f .reads) more e; fit = f .fit; filled = f .filled }
+    still-filled : {q : Part} → step p (getD s i 0) ≡ Goes q → Filling p₀ s l₀ l q entries (i + 1)
+    still-filled e = record { place = f .place; reads = goes-on (f .reads) more e; filled = f .filled }
 
-    -- a good record: its entry is one of those that fit, and takes the next place
-    module _ {e : Entry} (w : step p (getD s i 0) ≡ Whole e) where
-      next-fits : entries < size l₀
-      next-fits = omega (arith, so-far (counted (f .reads) more w .here), length-append (f .reads .got) (e ∷ []), f .reads .count, f .fit)
+    -- a good record's entry takes the next place
+    one-put : {e : Entry} → step p (getD s i 0) ≡ Whole e → {l′ : Lists} → l′ ≡ with-entry l entries e →
+        Filling p₀ s l₀ l′ fresh (entries + 1) (i + 1)
+    one-put {e} w x =
+        record {
+          place = i + 1;
+          reads = counted (f .reads) more w;
+          filled =
+              x ∙
+              ap (λ (y : Lists). with-entry y entries e) (f .filled) ∙
+              ap (λ (n : ℕ). with-entry (with-each l₀ 0 (f .reads .got)) n e) (f .reads .count ∙ sym (zero-add (length (f .reads .got)))) ∙
+              sym (each-more l₀ 0 (f .reads .got) e);
+        }
 
-      one-put : {l′ : Lists} → l′ ≡ with-entry l entries e → Filling s l₀ l′ fresh (entries + 1) (i + 1)
-      one-put x =
-          record {
-            place = i + 1;
-            reads = counted (f .reads) more w;
-            fit = f .fit;
-            filled =
-                x ∙
-                ap (λ (y : Lists). with-entry y entries e) (f .filled) ∙
-                ap (λ (n : ℕ). with-entry (with-entries (f .reads .got) l₀) n e) (f .reads .count) ∙
-                entry-more (f .reads .got) l₀ e (omega (arith, next-fits, f .reads .count));
-          }
+    bad-ends : {n : ℕ} → step p (getD s i 0) ≡ Bad n → l ≡ with-each l₀ 0 (read-on p₀ s .got)
+    bad-ends b = f .filled ∙ ap (λ (r : Reading). with-each l₀ 0 (r .got)) (sym (stopped (f .reads) more b))
 
-    bad-ends : {n : ℕ} → step p (getD s i 0) ≡ Bad n → l ≡ with-entries (entries-read s) l₀
-    bad-ends b = f .filled ∙ ap (λ (r : Reading). with-entries (r .got) l₀) (sym (stopped (f .reads) more b))
-
-  all-put : length s ≤ i → l ≡ with-entries (entries-read s) l₀
-  all-put h = f .filled ∙ ap (λ (r : Reading). with-entries (r .got) l₀) (sym (at-end (f .reads .here) h))
+  all-put : length s ≤ i → l ≡ with-each l₀ 0 (read-on p₀ s .got)
+  all-put h = f .filled ∙ ap (λ (r : Reading). with-each l₀ 0 (r .got)) (sym (at-end (f .reads .here) h))
 
 abbrev Inv-loop : tie.InvT-loop
 Inv-loop bytes kinds₀ registers₀ lanes₀ words₀ part₀ entries₀ i₀ kinds registers lanes words part entries i =
-    Filling bytes (lists kinds₀ registers₀ lanes₀ words₀) (lists kinds registers lanes words) part entries i
+    Filling part₀ bytes (lists kinds₀ registers₀ lanes₀ words₀) (lists kinds registers lanes words) part entries i
 
 abbrev μ-loop : tie.MeasureT-loop
 μ-loop bytes kinds₀ registers₀ lanes₀ words₀ part₀ entries₀ i₀ kinds registers lanes words part entries i = length bytes - i
 
-fresh-part-requires : tie.Need-fresh-part-requires Inv-loop μ-loop
-fresh-part-requires c κs = tt
-
 loop-holds : tie.Need-loop-holds Inv-loop μ-loop
-loop-holds c = rw (c .fresh-part .ensures) (none-put _ _ (c .before .before .before .before .before .before .pre))
+loop-holds c = none-put _ _ _
 
 shared-slice-read-take-byte : tie.Need-shared-slice-read-take-byte Inv-loop μ-loop
 shared-slice-read-take-byte c = omega arith
@@ -95,8 +90,8 @@ loop-again c =
 enum-known-step-2 : tie.Need-enum-known-step-2 Inv-loop μ-loop
 enum-known-step-2 c = search needs
 
-fresh-part-requires-2 : tie.Need-fresh-part-requires-2 Inv-loop μ-loop
-fresh-part-requires-2 c κs = tt
+fresh-part-requires : tie.Need-fresh-part-requires Inv-loop μ-loop
+fresh-part-requires c κs = tt
 
 put-entry-requires : tie.Need-put-entry-requires Inv-loop μ-loop
 put-entry-requires c κs = tt
@@ -115,7 +110,7 @@ loop-again-2 c =
     let test = taken .before .before in
     let last = put .put-entry .last in
     let filled = lists (last .0) (last .1 .0) (last .1 .1 .0) (last .1 .1 .1 .0) in
-    rw (at-fresh .fresh-part2 .ensures)
+    rw (at-fresh .fresh-part .ensures)
     (one-put (test .before .loop .inv) (test .loop-test .taken)
     (sym (taken .take-byte .ensures) ∙ at-fresh .before .before .step2 .given .1) {l′ = filled} (put .put-entry .ensures))
 
@@ -155,13 +150,12 @@ same-length-8 c = lengths (c .before .loop .inv) .words
 returns-2 : tie.Need-returns-2 Inv-loop μ-loop
 returns-2 c = all-put (c .before .loop .inv) (c .loop-test .left)
 
-pub fill-spec : {M : Type 1} → statement M
-fill-spec =
+pub fill-on-spec : {M : Type 1} → statement M
+fill-on-spec =
     tie.close
     (tie.spec
     Inv-loop
     μ-loop
-    fresh-part-requires
     loop-holds
     shared-slice-read-take-byte
     take-byte-requires
@@ -170,7 +164,7 @@ fill-spec =
     loop-less
     loop-again
     enum-known-step-2
-    fresh-part-requires-2
+    fresh-part-requires
     put-entry-requires
     add-entries
     loop-less-2
