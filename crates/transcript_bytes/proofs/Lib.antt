@@ -6,6 +6,7 @@ pub mod NumberRead
 pub mod BadNumbers
 pub mod ReadingOn
 pub mod Elsewhere
+pub mod HowFar
 pub mod ThroughNumbers
 pub mod Judged
 pub mod ThroughRecords

@@ -1,0 +1,2 @@
+-- what only private functions state
+pub mod Parts
