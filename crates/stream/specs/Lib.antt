@@ -1,2 +1,4 @@
 -- ---- what the contracts cite
 pub mod Stream
+-- ---- the words of the laws
+pub mod InPlainWords
