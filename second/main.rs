@@ -1,6 +1,6 @@
 //! `second`: a model of the TMS34010 host port, its memory, fields, bus, blocks, strike sheets and
-//! transcripts, sound or damaged, written from documents 01 and 02 without sight of the proved code,
-//! to compare the results of both by running.
+//! transcripts, sound, damaged or in deliveries, written from documents 01 and 02 without sight of
+//! the proved code, to compare the results of both by running.
 
 mod block;
 mod bus;
@@ -29,6 +29,19 @@ mod sheet;
 mod sheet_examples;
 mod sheet_run;
 mod sheet_script;
+mod stream;
+mod stream_cuts;
+mod stream_end;
+mod stream_examples;
+mod stream_found;
+mod stream_joined;
+mod stream_part;
+mod stream_place;
+mod stream_run;
+mod stream_script;
+mod stream_sender;
+mod stream_tests;
+mod stream_unchanged;
 mod struck;
 mod transcript;
 mod transcript_accesses;
@@ -47,6 +60,7 @@ const USAGE: &str = "second: script SEED CALLS | fields | answers [--fault NAME]
     | sheet-script SEED COUNT | sheet-answers [--fault NAME]
     | transcript-script SEED COUNT | transcript-answers [--fault NAME]
     | salvage-script SEED COUNT | salvage-answers [--fault NAME] | salvage-file SEED BYTES | salvage
+    | stream-script SEED COUNT | stream-answers [--fault NAME]
     | faults | examples";
 
 type Out = BufWriter<io::StdoutLock<'static>>;
@@ -81,7 +95,8 @@ fn examples() -> bool {
     let outcome = examples::run()
         .and_then(|count| Ok(count + sheet_examples::run()?))
         .and_then(|count| Ok(count + transcript_examples::run()?))
-        .and_then(|count| Ok(count + salvage_examples::run()?));
+        .and_then(|count| Ok(count + salvage_examples::run()?))
+        .and_then(|count| Ok(count + stream_examples::run()?));
     match outcome {
         Ok(count) => println!("second: {count} examples hold"),
         Err(name) => println!("second: example {name} fails"),
@@ -108,6 +123,9 @@ fn main() -> ExitCode {
         ["salvage-answers", "--fault", name] => plant(name) && answers(salvage_run::answers),
         ["salvage-file", seed, bytes] => made(salvage_file::file, seed, bytes),
         ["salvage"] => answers(salvage_program::run),
+        ["stream-script", seed, count] => made(stream_script::script, seed, count),
+        ["stream-answers"] => answers(stream_run::answers),
+        ["stream-answers", "--fault", name] => plant(name) && answers(stream_run::answers),
         ["faults"] => {
             fault::NAMED.iter().for_each(|(name, _)| println!("{name}"));
             true

@@ -7,7 +7,7 @@ use crate::random::Random;
 use crate::records::{self, Call};
 use crate::rooms::{lent, room};
 use crate::salvage_run::{Record, BYTES, RECORD};
-use crate::transcript_strings::{bad, damage, write_head, ByteString};
+use crate::transcript_strings::{cut, damage, stopped, ByteString};
 
 pub fn script(seed: u64, count: u64) -> Vec<u8> {
     records::script(seed, count, RECORD, |random| {
@@ -74,30 +74,6 @@ fn filling(random: &Random) -> Vec<u8> {
         0 => damage(random, &mut bytes),
         1 => {}
         _ => bytes.truncate(GoodRun::at(0, &bytes).end),
-    }
-    bytes
-}
-
-/// A transcript that ends too early, perhaps after the head of a write.
-fn cut(random: &Random) -> Vec<u8> {
-    let mut bytes = ByteString::begun(random).bytes;
-    match random.below(3) {
-        0 => bytes.push(write_head(random)),
-        _ => bytes.truncate(random.below(bytes.len() as u32 + 1) as usize),
-    }
-    bytes
-}
-
-/// Good records, a bad one, and then the end, good records, more bad ones or anything. None of what
-/// follows the bad one may be kept.
-fn stopped(random: &Random) -> Vec<u8> {
-    let mut bytes = ByteString::begun(random).bytes;
-    bytes.extend(bad(random));
-    match random.below(6) {
-        0 | 1 => {}
-        2 | 3 => bytes.extend(ByteString::of(random, 1 + random.below(9) as usize).bytes),
-        4 => bytes.extend([bad(random), ByteString::whole(random).bytes].concat()),
-        _ => bytes.extend(ByteString::noise(random).bytes),
     }
     bytes
 }

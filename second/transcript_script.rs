@@ -4,7 +4,7 @@
 use crate::groups;
 use crate::random::Random;
 use crate::records::{self, Call};
-use crate::rooms::{lent, room};
+use crate::rooms::{lent, lent_slices, room};
 use crate::transcript_accesses::{good, spoil, word};
 use crate::transcript_list::{Access, PLACES};
 use crate::transcript_run::{Record, BYTES, RECORD};
@@ -30,18 +30,6 @@ fn scene(random: &Random) -> Vec<Record> {
 fn filled(random: &Random) -> Record {
     let bytes: Vec<u8> = (0..RECORD).map(|_| random.bits() as u8).collect();
     Record::parse(&bytes)
-}
-
-/// How much of each slice is lent to a list of that length: no less, and of one slice no more.
-fn lent_slices(random: &Random, length: usize) -> [u8; 4] {
-    let shortest = random.below(4) as usize;
-    let alike = random.one_in(3);
-    std::array::from_fn(|slice| {
-        let more = random.below((PLACES - length) as u32 + 1) as usize;
-        let more = random.pick(&[more, PLACES - length]);
-        let more = if alike || slice == shortest { 0 } else { more };
-        lent(random, length + more, PLACES)
-    })
 }
 
 /// A list for the writer: good, or bad in one or two points.

@@ -1,5 +1,5 @@
-//! Byte strings for the scripts of transcripts and of salvage: whole transcripts, damaged ones, and
-//! such as hold a record that is bad in one way or another.
+//! Byte strings for the scripts of transcripts, of salvage and of streams: whole transcripts,
+//! damaged ones, and such as hold a record that is bad in one way or another.
 
 use crate::groups::{encoded, MORE};
 use crate::random::Random;
@@ -116,6 +116,30 @@ pub fn damage(random: &Random, bytes: &mut Vec<u8>) {
         3 => drop(bytes.remove(place)),
         _ => bytes.swap(place, other),
     }
+}
+
+/// A transcript that ends too early, perhaps after the head of a write.
+pub fn cut(random: &Random) -> Vec<u8> {
+    let mut bytes = ByteString::begun(random).bytes;
+    match random.below(3) {
+        0 => bytes.push(write_head(random)),
+        _ => bytes.truncate(random.below(bytes.len() as u32 + 1) as usize),
+    }
+    bytes
+}
+
+/// Good records, a bad one, and then the end, good records, more bad ones or anything. None of what
+/// follows the bad one may be kept.
+pub fn stopped(random: &Random) -> Vec<u8> {
+    let mut bytes = ByteString::begun(random).bytes;
+    bytes.extend(bad(random));
+    match random.below(6) {
+        0 | 1 => {}
+        2 | 3 => bytes.extend(ByteString::of(random, 1 + random.below(9) as usize).bytes),
+        4 => bytes.extend([bad(random), ByteString::whole(random).bytes].concat()),
+        _ => bytes.extend(ByteString::noise(random).bytes),
+    }
+    bytes
 }
 
 /// A bad record. What follows its bad number must not matter.
