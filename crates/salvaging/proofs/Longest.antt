@@ -10,7 +10,7 @@ use Rattle.transcript_bytes.specs.InPlainWords.{GoodRecord, a-read, a-write, So
 use Rattle.transcript_bytes.specs.InPlainWords as format
 use Rattle.transcript_bytes.specs.Reading.{entries-read, refusal-read, read-answer}
 use Rattle.transcript_bytes.specs.declared.Entry.{Entry}
-use Rattle.transcript_bytes.proofs.Divided.{has-a-byte}
+use Rattle.transcript_bytes.proofs.Divided.{has-a-byte, sound-joined}
 use Rattle.transcript_bytes.proofs.ReadExactly.{reads-exactly}
 use Rattle.transcript_bytes.proofs.ThroughRecords.{bad-record-number}
 use Rattle.salvaging.specs.InPlainWords.{Rest, none-left, next-bad}
@@ -18,13 +18,7 @@ use Rattle.salvaging.specs.Salvage.{run, rest}
 use Rattle.salvaging.proofs.Divides.{Found, found, divides}
 
 -- ---- fronts
--- Good records behind good records are good records.
-pub sound-joined : {t v : List ℕ} {es fs : List Entry} → Sound t es → Sound v fs → Sound (t ++ v) (es ++ fs)
-sound-joined nothing q = q
-sound-joined {v = v} {fs = fs} (and-more {r} {s} {e} {es} g p) q =
-    subst (λ (l : List ℕ). Sound l (e ∷ es ++ fs)) (sym (append-assoc r s v)) (and-more g (sound-joined p q))
-
--- Each has a byte at least.
+-- Each good record has a byte at least.
 pub no-more-than-bytes : {t : List ℕ} {es : List Entry} → Sound t es → length es ≤ length t
 no-more-than-bytes nothing = omega arith
 no-more-than-bytes (and-more {r} {s} g q) =

@@ -12,19 +12,15 @@ use Rattle.transcript_bytes.specs.Reading.{start, feeds}
 use Rattle.transcript_bytes.proofs.HowFar.{goes-further}
 use Rattle.stream.specs.InPlainWords.{Came, ended-before, too-long, too-small, taken-in, then-bad, Turn, Took, none, and-then}
 use Rattle.stream.specs.InPlainWords.{sent-back, kept, joined, handed-out, answers-of, verdict-of, Holds, delivered, Roomy}
-use Rattle.stream.specs.Stream.{resumed, fresh-stream, heard, end-answer, TookDelivery}
+use Rattle.stream.specs.Stream.{fresh-stream, end-answer, TookDelivery}
 use Rattle.stream.specs.declared.Stream.{Stream}
 use Rattle.stream.specs.declared.Streamed.{Streamed}
 use Rattle.stream.proofs.AsTheReader.{off-the-line}
 use Rattle.stream.proofs.OneTurn.{read, stands-for, OneTurn, one-turn}
-use Rattle.stream.proofs.Outcomes.{comes-exactly}
+use Rattle.stream.proofs.Outcomes.{no-more-than-bytes, comes-exactly}
 use Rattle.stream.proofs.Told.{early-kept}
 
--- A delivery finishes no more records than it has bytes.
-pub no-more-than-bytes : (st : Stream) (s : List ℕ) → length (heard st s .got) ≤ length s
-no-more-than-bytes st s = omega (arith, goes-further (resumed st) s .few)
-
--- So with a place for each byte, and within the limit, it is not sent back.
+-- With a place for each byte, and within the limit, a delivery is not sent back.
 pub not-sent-back : {st : Stream} {s : List ℕ} {l l′ : Lists} {o : Streamed} → TookDelivery st s l o l′ → length s ≤ size l →
     st .taken + length s ≤ 4294967295 → sent-back (o .number) ≡ false
 not-sent-back {st} {s} {l} p room short = by-row (comes-exactly .0 p)

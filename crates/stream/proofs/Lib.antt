@@ -4,8 +4,15 @@ pub mod Outcomes
 pub mod Resumed
 pub mod Told
 pub mod TheEnd
+pub mod Refused
+pub mod AfterTheEnd
+pub mod CutInTwo
 -- ---- a whole stream
 pub mod OneTurn
 pub mod OffTheLine
 pub mod AsTheReader
 pub mod HoweverCut
+-- ---- open streams, record by record
+pub mod OpenStreams
+pub mod Answered
+pub mod Reached

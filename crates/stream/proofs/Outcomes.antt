@@ -10,7 +10,7 @@ use lib.ListN.{length}
 use borrow.Author.Tests.{lt-ltb, le-ltb, ne-eqb}
 use Rattle.words.proofs.Choices.{either-way, less-or-not}
 use Rattle.transcript_bytes.specs.Lists.{Lists, size, with-entries}
-use Rattle.transcript_bytes.proofs.HowFar.{EarlyRefusal, early-refusal}
+use Rattle.transcript_bytes.proofs.HowFar.{EarlyRefusal, early-refusal, goes-further}
 use Rattle.stream.specs.InPlainWords.{answer, after, Came, ended-before, too-long, too-small, taken-in, then-bad}
 use Rattle.stream.specs.Stream.{resumed, heard, barred, streamed, told, delivery-answer, lists-after, TookDelivery}
 use Rattle.stream.specs.declared.Stream.{Stream}
@@ -105,3 +105,7 @@ comes-exactly {st} {s} {l} {l′} {o} = (
       subst (λ (k : Lists). Came st s l o k) (same .1) (subst (λ (a : Streamed). Came st s l a (x .1)) (same .0) (x .2)),
   row-holds st s l,
 )
+
+-- It finishes no more records than it has bytes.
+pub no-more-than-bytes : (st : Stream) (s : List ℕ) → length (heard st s .got) ≤ length s
+no-more-than-bytes st s = omega (arith, goes-further (resumed st) s .few)

@@ -18,8 +18,8 @@ use Rattle.stream.specs.declared.Streamed.{Streamed}
 use Rattle.stream.proofs.Resumed.{open-if-good}
 use Rattle.stream.proofs.Told.{verdict, or-else}
 
--- the end of a part is no refusal, or 20
-zero-or-20 : (p : Part) → (cut-off p ≡ 0) ⊎ (cut-off p ≡ 20)
+-- The end of a part is no refusal, or 20.
+pub zero-or-20 : (p : Part) → (cut-off p ≡ 0) ⊎ (cut-off p ≡ 20)
 zero-or-20 (Head n) = begun-or-not (n .begun)
   where
     begun-or-not : (b : Bool) → (cond {A = ℕ} b 20 0 ≡ 0) ⊎ (cond {A = ℕ} b 20 0 ≡ 20)

@@ -3,6 +3,7 @@
 --   Came st s l o l′          what a delivery comes to, whatever the stream: each answer, when and only then, and the lists
 --   EndCame st o              what the end comes to, whatever the stream: each answer, when and only then
 --   handed o l′               the accesses that a delivery handed out: those in the first places of its lists, as many as it says
+--   Unchanged                 an answer that changes nothing
 --   Turn, Took                a delivery as it was made, with what came of it; deliveries one after another
 --   sent-back n               24 or 26: the delivery is no part of the stream, and may be sent again
 --   kept o s                  the bytes of a delivery, or none if it was sent back
@@ -10,6 +11,7 @@
 --   handed-out ts             the accesses that were handed out, in their order
 --   Verdict, verdict-of       a refusal and its place; the first one among some answers that is a record's: 20 to 23
 --   answers-of ts             the answers of some turns
+--   CutAlike                  a delivery, and the same bytes in two deliveries
 --   read-verdict s            the refusal that the reader of request (ii) gives a string, with its place
 --   Holds s es v              a string holds good records, those of the entries es, and then nothing, or a bad one, of which v tells
 --   delivered ts, Roomy ts    all bytes that were delivered; each list that was lent has a place for each byte that came with it
@@ -64,6 +66,13 @@ pub data EndCame (st : Stream) : Streamed → Type 0 where
   -- "A number cut off is refused only when the sender says that nothing follows"
   number-missing : st .ended ≡ false → cut-off (st .part) ≡ 20 → EndCame st (answer 20 0 (st .from) (shut st))
 
+-- the answer of a call that changes nothing: the stream and the lists stay as they stood
+pub record Unchanged (st : Stream) (l : Lists) (o : Streamed) (l′ : Lists) : Type 0 where
+  pub stream : o .stream ≡ st
+  pub lists : l′ ≡ l
+  pub count : o .count ≡ 0
+  pub place : o .place ≡ 0
+
 -- ---- deliveries, one after another
 
 -- the bytes that were delivered, the lists that were lent, what was answered, and the lists that were left
@@ -109,6 +118,14 @@ of-a-record n = ltb 19 n && ltb n 24
 unfoldable pub verdict-of : List Streamed → Verdict
 verdict-of [] = record { number = 0; place = 0 }
 verdict-of (o ∷ rest) = cond (of-a-record (o .number)) (record { number = o .number; place = o .place }) (verdict-of rest)
+
+-- a delivery, with its answer and its lists, and its two parts: what they hand out, the stream afterwards, the refusal that is told, and that
+-- neither is sent back
+pub record CutAlike (o : Streamed) (l′ : Lists) (o₁ : Streamed) (k₁′ : Lists) (o₂ : Streamed) (k₂′ : Lists) : Type 0 where
+  pub stream : o₂ .stream ≡ o .stream
+  pub entries : handed o₁ k₁′ ++ handed o₂ k₂′ ≡ handed o l′
+  pub refusal : verdict-of (o₁ ∷ o₂ ∷ []) ≡ verdict-of (o ∷ [])
+  pub both-join : (sent-back (o₁ .number) ≡ false) × (sent-back (o₂ .number) ≡ false)
 
 -- ---- what the joined bytes hold, by the reader of request (ii), and record by record
 

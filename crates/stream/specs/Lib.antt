@@ -2,3 +2,4 @@
 pub mod Stream
 -- ---- the words of the laws
 pub mod InPlainWords
+pub mod OpenStreams

@@ -145,3 +145,9 @@ divide (suc fuel) (b ∷ s) h = go-on fuel (λ t k. divide fuel t k) (b ∷ s) h
 -- Every string divides.
 pub divided : (s : List ℕ) → Divided s
 divided s = divide (length s) s (omega arith)
+
+-- Good records behind good records are good records.
+pub sound-joined : {t v : List ℕ} {es fs : List Entry} → Sound t es → Sound v fs → Sound (t ++ v) (es ++ fs)
+sound-joined nothing q = q
+sound-joined {v = v} {fs = fs} (and-more {r} {s} {e} {es} g p) q =
+    subst (λ (l : List ℕ). Sound l (e ∷ es ++ fs)) (sym (append-assoc r s v)) (and-more g (sound-joined p q))

@@ -1,0 +1,79 @@
+-- What a refused delivery leaves, and that it can be sent again; which numbers there are; and that the lists' later places stay.
+use Prim.Native.Nat.{ℕ, _+_, _≤_, _<_}
+use native.Mathlib.Omega.{arith}
+use mathlib.Core.Path.{_≡_, refl, sym, ap, _∙_, subst}
+use mathlib.Core.Bool.{true, false, true≢false}
+use mathlib.Core.List.{List}
+use mathlib.Core.Logic.{_⊎_, inl, inr}
+use lib.ListN.{length}
+use Rattle.transcript_bytes.specs.InPlainWords.{later-places}
+use Rattle.transcript_bytes.specs.Lists.{Lists, size}
+use Rattle.transcript_bytes.proofs.Columns.{later-stay}
+use Rattle.stream.specs.InPlainWords.{Came, ended-before, too-long, too-small, taken-in, then-bad, Unchanged}
+use Rattle.stream.specs.Stream.{heard, TookDelivery}
+use Rattle.stream.specs.declared.Stream.{Stream}
+use Rattle.stream.specs.declared.Streamed.{Streamed}
+use Rattle.stream.proofs.Outcomes.{no-more-than-bytes, comes-exactly}
+
+module _ {st : Stream} {s : List ℕ} {l l′ : Lists} {o : Streamed} (p : TookDelivery st s l o l′) where
+  -- Under 24, 25 and 26 stream and lists stay as they stood, and the answer has zeros.
+  pub refused-leaves : 24 ≤ o .number → Unchanged st l o l′
+  refused-leaves = by-row (comes-exactly .0 p)
+    where
+      by-row : {o : Streamed} {l′ : Lists} → Came st s l o l′ → 24 ≤ o .number → Unchanged st l o l′
+      by-row (ended-before z) h = record { stream = refl; lists = refl; count = refl; place = refl }
+      by-row (too-long z k) h = record { stream = refl; lists = refl; count = refl; place = refl }
+      by-row (too-small z k m) h = record { stream = refl; lists = refl; count = refl; place = refl }
+      by-row (taken-in z k m e) h = absurd (omega arith)
+      by-row (then-bad z k m e i j) h = absurd (omega arith)
+
+  -- So whatever is delivered next comes to what it would have come to at first.
+  pub sent-again : 24 ≤ o .number → {t : List ℕ} {k k′ : Lists} {a : Streamed} → TookDelivery (o .stream) t k a k′ → TookDelivery st t k a k′
+  sent-again h {t} {k} {k′} {a} q = subst (λ (x : Stream). TookDelivery x t k a k′) (refused-leaves h .stream) q
+
+  -- The number is 0, 21, 22, 23, 24, 25 or 26: never 20.
+  pub delivery-numbers : (o .number ≡ 0) ⊎ ((21 ≤ o .number) × (o .number ≤ 26))
+  delivery-numbers = by-row (comes-exactly .0 p)
+    where
+      by-row : {o : Streamed} {l′ : Lists} → Came st s l o l′ → (o .number ≡ 0) ⊎ ((21 ≤ o .number) × (o .number ≤ 26))
+      by-row (ended-before z) = inr (omega arith, omega arith)
+      by-row (too-long z k) = inr (omega arith, omega arith)
+      by-row (too-small z k m) = inr (omega arith, omega arith)
+      by-row (taken-in z k m e) = inl refl
+      by-row (then-bad z k m e i j) = inr (i, omega arith)
+
+  -- Whatever it comes to, the places behind the entries that were handed out stay.
+  pub places-stay : later-places (o .count) l′ ≡ later-places (o .count) l
+  places-stay = by-row (comes-exactly .0 p)
+    where
+      by-row : {o : Streamed} {l′ : Lists} → Came st s l o l′ → later-places (o .count) l′ ≡ later-places (o .count) l
+      by-row (ended-before z) = refl
+      by-row (too-long z k) = refl
+      by-row (too-small z k m) = refl
+      by-row (taken-in z k m e) = later-stay (heard st s .got) l
+      by-row (then-bad z k m e i j) = later-stay (heard st s .got) l
+
+-- ---- 24, and the same bytes again with larger lists
+
+was-small : {st : Stream} {s : List ℕ} {l l′ : Lists} {o : Streamed} → Came st s l o l′ → o .number ≡ 24 →
+    (st .ended ≡ false) × (st .taken + length s ≤ 4294967295)
+was-small (ended-before z) h = absurd (omega arith)
+was-small (too-long z k) h = absurd (omega arith)
+was-small (too-small z k m) h = (z, k)
+was-small (taken-in z k m e) h = absurd (omega arith)
+was-small (then-bad z k m e i j) h = absurd (omega arith)
+
+now-taken : {st : Stream} {s : List ℕ} {k k′ : Lists} {a : Streamed} → st .ended ≡ false → st .taken + length s ≤ 4294967295 →
+    length s ≤ size k → Came st s k a k′ → a .number ≤ 23
+now-taken z short room (ended-before t) = absurd (true≢false (sym t ∙ z))
+now-taken z short room (too-long t h) = absurd (omega arith)
+now-taken {st} {s} z short room (too-small t h m) = absurd (omega (arith, no-more-than-bytes st s))
+now-taken z short room (taken-in t h m e) = omega arith
+now-taken z short room (then-bad t h m e i j) = j
+
+-- Lists with a place for each byte are always large enough.
+pub larger-lists : {st : Stream} {s : List ℕ} {l l′ k k′ : Lists} {o a : Streamed} → TookDelivery st s l o l′ → o .number ≡ 24 →
+    TookDelivery (o .stream) s k a k′ → length s ≤ size k → a .number ≤ 23
+larger-lists p h q room =
+    let x = was-small (comes-exactly .0 p) h in
+    now-taken (x .0) (x .1) room (comes-exactly .0 (sent-again p (omega arith) q))

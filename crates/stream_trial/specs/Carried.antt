@@ -1,0 +1,37 @@
+-- A record carried out: crates/stream_trial/src/main.rt.
+--   delivered-answer, delivered-lists   of the record's delivery, which is lent parts: what it answers, and the lists afterwards
+--   answer-from, lists-from             the same of the record, whichever of the three it is
+--   Delivered, Carried                  these, as the contracts of a delivery and of carrying out a record
+use Prim.Native.Nat.{ℕ}
+use mathlib.Core.Path.{_≡_}
+use mathlib.Core.Bool.{cond}
+use mathlib.Core.List.{List}
+use Rattle.transcript_bytes.specs.Lists.{Lists, size}
+use Rattle.stream.specs.Stream.{streamed, delivery-answer, lists-after, end-answer}
+use Rattle.stream.specs.declared.Stream.{Stream}
+use Rattle.stream.specs.declared.Streamed.{Streamed}
+use Rattle.stream_trial.specs.Record.{starts, delivers, number, begun, string-lent, lists-lent, lists-back}
+
+-- the record b, to the stream st, with the lists l
+module _ (st : Stream) (b : List ℕ) (l : Lists) where
+  unfoldable pub delivered-answer : Streamed
+  delivered-answer = delivery-answer st (string-lent b) (size (lists-lent b l))
+
+  unfoldable pub delivered-lists : Lists
+  delivered-lists = lists-back b l (lists-after st (string-lent b) (lists-lent b l))
+
+  -- "0 a fresh start, 1 a delivery, 2 the end"; "A fresh start answers number 0, count 0, place 0"
+  unfoldable pub answer-from : Streamed
+  answer-from = cond (starts b) (streamed 0 0 0 (begun (number b))) (cond (delivers b) delivered-answer (end-answer st))
+
+  -- a fresh start and the end leave them "untouched"
+  unfoldable pub lists-from : Lists
+  lists-from = cond (starts b) l (cond (delivers b) delivered-lists l)
+
+pub record Delivered (st : Stream) (b : List ℕ) (l : Lists) (o : Streamed) (l′ : Lists) : Type 0 where
+  pub answer : o ≡ delivered-answer st b l
+  pub lists : l′ ≡ delivered-lists st b l
+
+pub record Carried (st : Stream) (b : List ℕ) (l : Lists) (o : Streamed) (l′ : Lists) : Type 0 where
+  pub answer : o ≡ answer-from st b l
+  pub lists : l′ ≡ lists-from st b l

@@ -1,0 +1,58 @@
+-- What a record of a script says: crates/stream_trial/src/main.rt, the table of 'A script'. Here it is the list of its bytes.
+--   byte b k           byte k of the record b
+--   starts b           it is a fresh start
+--   delivers b         it is a delivery
+--   number b           how many bytes the stream had already
+--   begun n            a stream that had so many, of whole good records
+--   string-lent b      what is delivered of its string
+--   blank              the four lists as they are before each record
+--   lists-lent b l     what is lent of the four lists l
+--   lists-back b l part    l when these come back as part
+use Prim.Native.Nat.{ℕ, _+_, _*_, _%_, min}
+use mathlib.Core.Bool.{Bool, false}
+use mathlib.Core.List.{List, [], _∷_}
+use lib.Dec.{eqb}
+use lib.ListN.{take, drop, getD}
+use Rattle.words.specs.Lent.{lent, given-back}
+use Rattle.transcript_bytes.specs.Lists.{Lists, lists}
+use Rattle.transcript_bytes.specs.Reading.{fresh}
+use Rattle.stream.specs.declared.Stream.{Stream}
+
+abbrev pub byte : List ℕ → ℕ → ℕ
+byte b k = getD b k 0
+
+-- "what is done, modulo 3: 0 a fresh start, 1 a delivery"
+abbrev pub starts : List ℕ → Bool
+starts b = eqb (byte b 0 % 3) 0
+
+abbrev pub delivers : List ℕ → Bool
+delivers b = eqb (byte b 0 % 3) 1
+
+-- "32 bits, low byte first"
+abbrev pub number : List ℕ → ℕ
+number b = byte b 8 + 256 * byte b 9 + 65536 * byte b 10 + 16777216 * byte b 11
+
+-- "`from` and `taken` begin with that number"
+abbrev pub begun : ℕ → Stream
+begun n = record { part = fresh; from = n; taken = n; ended = false }
+
+-- "bytes 12 to 35"; "how many of the string's bytes are delivered; above 24 it counts as 24"
+abbrev pub string-lent : List ℕ → List ℕ
+string-lent b = take (min (byte b 1) 24) (drop 12 b)
+
+-- "every place of the four lists, six places each, holds EEEEEEEEh"
+abbrev pub blank-list : List ℕ
+blank-list = 0xEEEEEEEE ∷ 0xEEEEEEEE ∷ 0xEEEEEEEE ∷ 0xEEEEEEEE ∷ 0xEEEEEEEE ∷ 0xEEEEEEEE ∷ []
+
+abbrev pub blank : Lists
+blank = lists blank-list blank-list blank-list blank-list
+
+-- "how many places of the lists of kinds, registers, lanes and words are lent"
+abbrev pub lists-lent : List ℕ → Lists → Lists
+lists-lent b l =
+    lists (lent (byte b 2) (l .kinds)) (lent (byte b 3) (l .registers)) (lent (byte b 4) (l .lanes)) (lent (byte b 5) (l .words))
+
+abbrev pub lists-back : List ℕ → Lists → Lists → Lists
+lists-back b l part =
+    lists (given-back (byte b 2) (l .kinds) (part .kinds)) (given-back (byte b 3) (l .registers) (part .registers))
+    (given-back (byte b 4) (l .lanes) (part .lanes)) (given-back (byte b 5) (l .words) (part .words))
