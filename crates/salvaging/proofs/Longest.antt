@@ -2,8 +2,8 @@
 -- bad, as the reader says at that place.
 use Prim.Native.Nat.{ℕ, _≤_}
 use native.Mathlib.Omega.{arith}
-use mathlib.Core.Path.{_≡_, refl, sym, ap, _∙_, subst}
-use mathlib.Core.List.{List, [], _∷_, _++_, append-assoc}
+use mathlib.Core.Path.{_≡_, refl, sym, ap, _∙_}
+use mathlib.Core.List.{List, [], _++_, append-assoc}
 use mathlib.Core.Logic.{_≢_, _↔_}
 use lib.ListN.{length, length-append}
 use Rattle.transcript_bytes.specs.InPlainWords.{GoodRecord, a-read, a-write, Sound, nothing, and-more, BadRecord, ReadAs}

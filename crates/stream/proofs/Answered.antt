@@ -1,16 +1,16 @@
 -- Demand 1 for a delivery and for the end of an open stream, record by record: the number, the entries handed out and the place are these exactly if
 -- the begun record and the delivery together, in plain words, say so (`AnsweredAs`, `EndedAs`).
-use Prim.Native.Nat.{ℕ, _+_, _<_, _≤_}
+use Prim.Native.Nat.{ℕ, _+_, _≤_}
 use native.Mathlib.Omega.{arith}
 use mathlib.Core.Path.{_≡_, refl, sym, ap, _∙_, subst}
-use mathlib.Core.Bool.{Bool, false, cond}
+use mathlib.Core.Bool.{Bool, cond}
 use mathlib.Core.List.{List, [], _++_, append-nil, append-assoc}
 use mathlib.Core.Logic.{_↔_, _≢_, inl, inr, ⊎-elim}
 use lib.ListN.{length, length-append}
 use borrow.Author.Tests.{ne-eqb}
 use Rattle.words.proofs.Choices.{less-or-not, same-or-not}
 use Rattle.transcript_bytes.specs.InPlainWords.{nothing, BadRecord}
-use Rattle.transcript_bytes.specs.Lists.{Lists, size, with-entries}
+use Rattle.transcript_bytes.specs.Lists.{Lists, size}
 use Rattle.transcript_bytes.specs.Reading.{Reading, start, feeds, cut-off, ended}
 use Rattle.transcript_bytes.specs.declared.Entry.{Entry}
 use Rattle.transcript_bytes.proofs.Divided.{Divided, all-good, then-bad, divided, sound-joined}

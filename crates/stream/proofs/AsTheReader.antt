@@ -8,9 +8,9 @@ use mathlib.Core.Logic.{_↔_}
 use lib.Dec.{eqb}
 use lib.ListN.{length}
 use borrow.Author.Tests.{le-ltb, ne-eqb, eqb-true}
-use Rattle.transcript_bytes.specs.InPlainWords.{Sound, BadRecord, first-places}
+use Rattle.transcript_bytes.specs.InPlainWords.{first-places}
 use Rattle.transcript_bytes.specs.Lists.{Lists, size, columns}
-use Rattle.transcript_bytes.specs.Reading.{Reading, feeds, start, ended, entries-read, place-read, refusal-read, read-answer, ReadTranscript}
+use Rattle.transcript_bytes.specs.Reading.{Reading, ended, entries-read, place-read, refusal-read, read-answer, ReadTranscript}
 use Rattle.transcript_bytes.specs.Writing.{refused, accepted, fitting}
 use Rattle.transcript_bytes.specs.declared.Entry.{Entry}
 use Rattle.transcript_bytes.specs.declared.Transcribed.{Transcribed}

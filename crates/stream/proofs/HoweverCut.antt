@@ -1,8 +1,8 @@
 -- Where each list has a place for each byte that comes with it, and the stream stays within its limit, nothing is sent back: then the joined bytes
 -- are all bytes that were delivered.
-use Prim.Native.Nat.{ℕ, _+_, _≤_, _<_}
+use Prim.Native.Nat.{ℕ, _+_, _≤_}
 use native.Mathlib.Omega.{arith}
-use mathlib.Core.Path.{_≡_, refl, sym, ap, _∙_, subst}
+use mathlib.Core.Path.{_≡_, refl, ap, _∙_, subst}
 use mathlib.Core.Bool.{Bool, false, cond}
 use mathlib.Core.List.{List, [], _∷_, _++_}
 use mathlib.Core.Logic.{inr}
@@ -16,7 +16,7 @@ use Rattle.stream.specs.Stream.{fresh-stream, end-answer, TookDelivery}
 use Rattle.stream.specs.declared.Stream.{Stream}
 use Rattle.stream.specs.declared.Streamed.{Streamed}
 use Rattle.stream.proofs.AsTheReader.{off-the-line}
-use Rattle.stream.proofs.OneTurn.{read, stands-for, OneTurn, one-turn}
+use Rattle.stream.proofs.OneTurn.{read, stands-for, one-turn}
 use Rattle.stream.proofs.Outcomes.{no-more-than-bytes, comes-exactly}
 use Rattle.stream.proofs.Told.{early-kept}
 

@@ -16,3 +16,5 @@ pub mod HoweverCut
 pub mod OpenStreams
 pub mod Answered
 pub mod Reached
+-- ---- worked examples
+pub mod Holds

@@ -3,18 +3,11 @@
 -- that are joined so far, and each delivery joins its own.
 use Prim.Native.Nat.{ℕ}
 use mathlib.Core.Path.{_≡_, refl, sym, ap, _∙_, subst}
-use mathlib.Core.Bool.{Bool, cond}
 use mathlib.Core.List.{List, [], _∷_, _++_, append-assoc, append-nil}
-use mathlib.Core.Logic.{_⊎_, inl, inr, ⊎-elim}
-use lib.Dec.{eqb}
-use borrow.Author.Tests.{eq-eqb, ne-eqb}
-use Rattle.words.proofs.Choices.{same-or-not}
-use Rattle.transcript_bytes.specs.Reading.{Reading, feeds, cut-off, entries-read, refusal-read}
+use Rattle.transcript_bytes.specs.Reading.{feeds, entries-read}
 use Rattle.transcript_bytes.specs.declared.Entry.{Entry}
-use Rattle.transcript_bytes.specs.declared.Part.{Part}
-use Rattle.transcript_bytes.specs.declared.Part.the-variants.{Head, Word}
 use Rattle.stream.specs.InPlainWords.{Came, handed, Turn, Took, none, and-then, kept, joined, handed-out, answers-of, verdict-of, read-verdict}
-use Rattle.stream.specs.Stream.{fresh-stream, place-of, end-answer}
+use Rattle.stream.specs.Stream.{fresh-stream, end-answer}
 use Rattle.stream.specs.declared.Stream.{Stream}
 use Rattle.stream.specs.declared.Streamed.{Streamed}
 use Rattle.stream.proofs.OneTurn.{read, stands-for, so-far, OneTurn, one-turn}

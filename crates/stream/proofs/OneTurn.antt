@@ -5,7 +5,7 @@ use mathlib.Core.Path.{_≡_, refl, sym, ap, _∙_, subst}
 use mathlib.Core.Bool.{Bool, true, false, cond}
 use mathlib.Core.List.{List, [], _∷_, _++_, append-nil}
 use mathlib.Core.Logic.{_≢_, inl}
-use borrow.Author.Tests.{eq-eqb, ne-eqb}
+use borrow.Author.Tests.{eq-eqb}
 use Rattle.transcript_bytes.specs.Lists.{Lists, with-entries}
 use Rattle.transcript_bytes.specs.Reading.{Reading, start, feeds, entries-read}
 use Rattle.transcript_bytes.specs.declared.Entry.{Entry}

@@ -1,10 +1,10 @@
 -- An open stream, record by record: what it stands for, and that a delivery to it is read as the begun record and the delivery together are.
-use Prim.Native.Nat.{ℕ, _+_, _≤_}
+use Prim.Native.Nat.{ℕ, _+_}
 use native.Mathlib.Nat.{zero-add, add-assoc}
 use native.Mathlib.Omega.{arith}
 use mathlib.Core.Path.{_≡_, refl, sym, ap, _∙_, subst}
 use mathlib.Core.Bool.{Bool, true, false, cond}
-use mathlib.Core.List.{List, [], _∷_, _++_, append-nil}
+use mathlib.Core.List.{List, [], _++_, append-nil}
 use mathlib.Core.Logic.{_≢_, inl, inr, ⊎-elim}
 use lib.Dec.{eqb}
 use lib.ListN.{length, length-append}
@@ -17,7 +17,7 @@ use Rattle.transcript_bytes.proofs.Divided.{Divided, all-good, then-bad, divide
 use Rattle.transcript_bytes.proofs.Elsewhere.{elsewhere, feeds-joined, reads-elsewhere}
 use Rattle.transcript_bytes.proofs.HowFar.{EarlyRefusal, early-refusal, goes-further}
 use Rattle.transcript_bytes.proofs.ReadExactly.{reads-sound, reads-bad}
-use Rattle.transcript_bytes.proofs.ThroughRecords.{between, adds-entries, Stopped}
+use Rattle.transcript_bytes.proofs.ThroughRecords.{between, adds-entries}
 use Rattle.stream.specs.OpenStreams.{Begun, within, OpenAt}
 use Rattle.stream.specs.OpenStreams as plain
 use Rattle.stream.specs.Stream.{heard}

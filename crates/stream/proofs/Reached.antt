@@ -5,17 +5,16 @@ use Prim.Native.Nat.{ℕ, _+_, _≤_}
 use native.Mathlib.Nat.{zero-add}
 use native.Mathlib.Omega.{arith}
 use mathlib.Core.Path.{_≡_, refl, sym, ap, _∙_, subst}
-use mathlib.Core.Bool.{Bool, true, false, cond, true≢false}
+use mathlib.Core.Bool.{Bool, false, cond, true≢false}
 use mathlib.Core.List.{List, [], _++_}
-use mathlib.Core.Logic.{_↔_, inr, ⊎-elim}
+use mathlib.Core.Logic.{_↔_, inr}
 use lib.ListN.{length, length-append, replicate, length-replicate}
 use Rattle.words.specs.Bytes.{AreBytes}
-use Rattle.words.proofs.Choices.{either-way}
 use Rattle.transcript_bytes.specs.Lists.{Lists, lists, size}
 use Rattle.transcript_bytes.specs.Reading.{start, feeds}
 use Rattle.transcript_bytes.proofs.Bytes.{bytes-none, bytes-joined}
 use Rattle.transcript_bytes.proofs.HowFar.{goes-further}
-use Rattle.stream.specs.InPlainWords.{Came, ended-before, too-long, too-small, taken-in, then-bad, kept, sent-back}
+use Rattle.stream.specs.InPlainWords.{Came, ended-before, too-long, too-small, taken-in, then-bad, sent-back}
 use Rattle.stream.specs.InPlainWords.{EndCame, already-ended, nothing-missing, number-missing}
 use Rattle.stream.specs.OpenStreams.{Reached, by-delivery, by-end, StandsForBytes, as-read, and-ended, OpenAt}
 use Rattle.stream.specs.OpenStreams as plain

@@ -5,13 +5,12 @@ use mathlib.Core.Path.{_≡_, refl, sym, ap, _∙_, subst}
 use mathlib.Core.Bool.{Bool, true, false, cond}
 use mathlib.Core.List.{[], _∷_}
 use mathlib.Core.Logic.{_↔_, _≢_, _⊎_, inl, inr, ⊎-elim}
-use lib.Dec.{eqb}
 use borrow.Author.Tests.{eq-eqb, ne-eqb}
 use Rattle.words.proofs.Choices.{either-way, same-or-not}
 use Rattle.transcript_bytes.specs.Reading.{Reading, cut-off, ended}
 use Rattle.transcript_bytes.specs.declared.Part.{Part}
 use Rattle.transcript_bytes.specs.declared.Part.the-variants.{Head, Word}
-use Rattle.stream.specs.InPlainWords.{answer, shut, EndCame, already-ended, nothing-missing, number-missing, Verdict, verdict-of}
+use Rattle.stream.specs.InPlainWords.{answer, shut, EndCame, already-ended, nothing-missing, number-missing, verdict-of}
 use Rattle.stream.specs.Stream.{streamed, standing, place-of, end-told, end-answer}
 use Rattle.stream.specs.declared.Stream.{Stream}
 use Rattle.stream.specs.declared.Streamed.{Streamed}

@@ -1,19 +1,17 @@
 -- What an answer tells: the entries that it handed out, whether its bytes join the stream, and whether it is a record's refusal.
-use Prim.Native.Nat.{ℕ, _≤_}
+use Prim.Native.Nat.{ℕ}
 use native.Mathlib.Omega.{arith}
 use mathlib.Core.Path.{_≡_, refl, sym, ap, _∙_}
 use mathlib.Core.Bool.{Bool, true, false, cond}
 use mathlib.Core.List.{List, [], _∷_}
 use mathlib.Core.Logic.{inl, inr}
 use lib.Dec.{eqb}
-use lib.ListN.{length}
 use borrow.Author.Tests.{lt-ltb, ne-eqb}
 use Rattle.transcript_bytes.specs.Lists.{Lists, entries-from, entries-in, with-entries}
 use Rattle.transcript_bytes.specs.Reading.{Reading}
-use Rattle.transcript_bytes.specs.declared.Entry.{Entry}
 use Rattle.transcript_bytes.proofs.Columns.{entries-columns, first-are-columns}
 use Rattle.transcript_bytes.proofs.HowFar.{EarlyRefusal}
-use Rattle.stream.specs.InPlainWords.{answer, handed, sent-back, kept, Verdict, of-a-record, verdict-of}
+use Rattle.stream.specs.InPlainWords.{answer, handed, sent-back, Verdict, of-a-record, verdict-of}
 use Rattle.stream.specs.Stream.{place-of, told}
 use Rattle.stream.specs.declared.Stream.{Stream}
 use Rattle.stream.specs.declared.Streamed.{Streamed}

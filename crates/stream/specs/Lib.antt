@@ -3,3 +3,4 @@ pub mod Stream
 -- ---- the words of the laws
 pub mod InPlainWords
 pub mod OpenStreams
+pub mod Table

@@ -1,17 +1,15 @@
 -- What a delivery leaves, by the tests that it came through: refused, with stream and lists as they were, or its entries put into the lists. And
 -- what the end answers.
-use Prim.Native.Nat.{ℕ, _+_, _-_, _≤_, _<_}
-use native.Mathlib.Nat.{zero-add}
+use Prim.Native.Nat.{ℕ, _+_, _≤_, _<_}
 use native.Mathlib.Omega.{arith}
 use mathlib.Core.Path.{_≡_, refl, sym, ap, _∙_}
 use mathlib.Core.Bool.{Bool, true, false, cond}
 use mathlib.Core.List.{List, []}
-use lib.Dec.{eqb, ltb}
+use lib.Dec.{eqb}
 use lib.ListN.{length}
 use borrow.Author.Tests.{lt-ltb, le-ltb}
 use Rattle.transcript_bytes.specs.Lists.{Lists, size, with-entries, with-each}
 use Rattle.transcript_bytes.specs.Reading.{Reading, at}
-use Rattle.transcript_bytes.specs.declared.Entry.{Entry}
 use Rattle.transcript_bytes.proofs.Elsewhere.{elsewhere, reads-elsewhere}
 use Rattle.transcript_bytes.proofs.Filled.{each-fits}
 use Rattle.transcript_bytes.proofs.HowFar.{goes-further}

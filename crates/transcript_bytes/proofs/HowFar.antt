@@ -5,13 +5,12 @@ use native.Mathlib.Omega.{arith}
 use mathlib.Core.Path.{_≡_, refl, sym, ap, _∙_}
 use mathlib.Core.Bool.{Bool, true, false, cond}
 use mathlib.Core.List.{List, [], _∷_}
-use mathlib.Core.Logic.{_⊎_, inl, inr, ⊎-elim, _≢_}
+use mathlib.Core.Logic.{_⊎_, inl, inr, ⊎-elim}
 use lib.Dec.{eqb}
 use lib.ListN.{length, length-append}
-use borrow.Author.Tests.{eqb-true, eqb-false}
+use borrow.Author.Tests.{eqb-false}
 use Rattle.words.proofs.Choices.{either-way, same-or-not}
 use Rattle.transcript_bytes.specs.Reading.{Reading, step, fed, feed, feeds}
-use Rattle.transcript_bytes.specs.declared.Entry.{Entry}
 use Rattle.transcript_bytes.specs.declared.Step.{Step}
 use Rattle.transcript_bytes.specs.declared.Step.the-variants.{Goes, Whole, Bad}
 use Rattle.transcript_bytes.proofs.BadNumbers.{bad-range}

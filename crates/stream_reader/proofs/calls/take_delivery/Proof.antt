@@ -1,10 +1,9 @@
 -- `stream_reader::calls::take_delivery` meets its contract: each way out is one of `Outcomes`.
 use Prim.Native.Nat.{_+_, _≤_}
 use native.Mathlib.Omega.{arith}
-use mathlib.Core.Path.{_≡_}
 use lib.ListN.{length}
 use borrow.Author.Needs.{needs}
-use Rattle.transcript_bytes.specs.Lists.{lists, size}
+use Rattle.transcript_bytes.specs.Lists.{lists}
 use Rattle.stream_reader.proofs.Outcomes.{found-within, refused-ended, refused-long, refused-small, taken-in}
 use Rattle.stream_reader.proofs.calls.take_delivery.Statement.{statement}
 use Rattle.stream_reader.proofs.calls.take_delivery.Tie as tie
