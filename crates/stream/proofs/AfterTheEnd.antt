@@ -18,7 +18,10 @@ use Rattle.stream.proofs.TheEnd.{ends-exactly}
 module _ {st : Stream} {s : List ℕ} {l l′ : Lists} {o : Streamed} (p : TookDelivery st s l o l′) where
   -- A delivery is refused with 25 exactly if the stream had ended.
   pub refused-25 : o .number ≡ 25 ↔ (st .ended ≡ true)
-  refused-25 = (by-row (comes-exactly .0 p), λ z. sym (ap (λ (x : Streamed). x .number) (one-delivery (comes-exactly .1 (ended-before z)) p .0)))
+  refused-25 = (
+    by-row (comes-exactly .0 p),
+    λ z. sym (ap (λ (x : Streamed). x .number) (one-delivery (comes-exactly .1 (ended-before z)) p .0)),
+  )
     where
       by-row : {o : Streamed} {l′ : Lists} → Came st s l o l′ → o .number ≡ 25 → st .ended ≡ true
       by-row (ended-before z) h = z
@@ -31,7 +34,8 @@ module _ {st : Stream} {s : List ℕ} {l l′ : Lists} {o : Streamed} (p : TookD
   pub ends-the-stream : st .ended ≡ false → o .stream .ended ≡ true ↔ ((21 ≤ o .number) × (o .number ≤ 23))
   ends-the-stream = by-row (comes-exactly .0 p)
     where
-      by-row : {o : Streamed} {l′ : Lists} → Came st s l o l′ → st .ended ≡ false → o .stream .ended ≡ true ↔ ((21 ≤ o .number) × (o .number ≤ 23))
+      by-row : {o : Streamed} {l′ : Lists} → Came st s l o l′ → st .ended ≡ false →
+          o .stream .ended ≡ true ↔ ((21 ≤ o .number) × (o .number ≤ 23))
       by-row (ended-before t) z = absurd (true≢false (sym t ∙ z))
       by-row (too-long t k) z = (λ e. absurd (true≢false (sym e ∙ z)), λ h. absurd (omega (arith, h .1)))
       by-row (too-small t k m) z = (λ e. absurd (true≢false (sym e ∙ z)), λ h. absurd (omega (arith, h .1)))
@@ -50,7 +54,10 @@ module _ (st : Stream) {o : Streamed} (p : o ≡ end-answer st) where
 
   -- It is refused with 25 exactly if the stream had ended.
   pub end-refused-25 : o .number ≡ 25 ↔ (st .ended ≡ true)
-  end-refused-25 = (by-row (ends-exactly st .0 p), λ z. ap (λ (x : Streamed). x .number) (p ∙ sym (ends-exactly st .1 (already-ended z))))
+  end-refused-25 = (
+    by-row (ends-exactly st .0 p),
+    λ z. ap (λ (x : Streamed). x .number) (p ∙ sym (ends-exactly st .1 (already-ended z))),
+  )
     where
       by-row : {o : Streamed} → EndCame st o → o .number ≡ 25 → st .ended ≡ true
       by-row (already-ended z) h = z

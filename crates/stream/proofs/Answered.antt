@@ -32,10 +32,12 @@ use Rattle.stream.proofs.TheEnd.{ends-exactly}
 use Rattle.stream.proofs.Told.{handed-none, handed-all}
 
 -- ---- a bad record that is not cut off is refused where it is judged
-bad-read : (r : Reading) (n : ℕ) → EarlyRefusal (r .refusal) → ended r ≡ n → n ≢ 0 → n ≢ 20 → (r .refusal ≡ n) × (21 ≤ n) × (n ≤ 23)
+bad-read : (r : Reading) (n : ℕ) → EarlyRefusal (r .refusal) → ended r ≡ n → n ≢ 0 → n ≢ 20 →
+    (r .refusal ≡ n) × (21 ≤ n) × (n ≤ 23)
 bad-read r n (inl z) e d c = absurd (c (cut-at-end r n z e d))
 bad-read r n (inr h) e d c =
-    let k : r .refusal ≡ n = sym (ap (λ (b : Bool). cond b (cut-off (r .part)) (r .refusal)) (ne-eqb (r .refusal) 0 (λ z. omega (arith, h .0, z)))) ∙ e in
+    let judged = ne-eqb (r .refusal) 0 (λ z. omega (arith, h .0, z)) in
+    let k : r .refusal ≡ n = sym (ap (λ (b : Bool). cond b (cut-off (r .part)) (r .refusal)) judged) ∙ e in
     (k, omega (arith, h .0, k), omega (arith, h .1, k))
 
 module _ {t u : List ℕ} {st : Stream} (a : OpenAt t u st) (s : List ℕ) where
@@ -45,8 +47,8 @@ module _ {t u : List ℕ} {st : Stream} (a : OpenAt t u st) (s : List ℕ) where
     place : heard st s .from ≡ length (t ++ v)
     refusal : heard st s .refusal ≡ n
 
-  hears : {v : List ℕ} {es : List Entry} {n : ℕ} → read (u ++ s) .got ≡ es → read (u ++ s) .from ≡ length v → read (u ++ s) .refusal ≡ n →
-      Hears es v n
+  hears : {v : List ℕ} {es : List Entry} {n : ℕ} → read (u ++ s) .got ≡ es → read (u ++ s) .from ≡ length v →
+      read (u ++ s) .refusal ≡ n → Hears es v n
   hears {v} g f r =
       let e = heard-together a s in
       record {
@@ -59,9 +61,11 @@ module _ {t u : List ℕ} {st : Stream} (a : OpenAt t u st) (s : List ℕ) where
   hears-good {v} {w} {es} d b =
       let x = reads-to v w es (d .good) b in
       let e = ap read (d .all) in
-      hears (ap (λ (r : Reading). r .got) e ∙ x .got) (ap (λ (r : Reading). r .from) e ∙ x .from) (ap (λ (r : Reading). r .refusal) e ∙ x .refusal)
+      hears (ap (λ (r : Reading). r .got) e ∙ x .got) (ap (λ (r : Reading). r .from) e ∙ x .from)
+      (ap (λ (r : Reading). r .refusal) e ∙ x .refusal)
 
-  hears-bad : {v w : List ℕ} {es : List Entry} {n : ℕ} → Divides u s v w es → BadRecord w n → n ≢ 20 → Hears es v n × (21 ≤ n) × (n ≤ 23)
+  hears-bad : {v w : List ℕ} {es : List Entry} {n : ℕ} → Divides u s v w es → BadRecord w n → n ≢ 20 →
+      Hears es v n × (21 ≤ n) × (n ≤ 23)
   hears-bad {v} {w} {es} {n} d b c =
       let x = reads-bad (u ++ s) v w es n (d .all) (d .good) b in
       let y = bad-read (read (u ++ s)) n (early-refusal start (u ++ s) (inl refl)) (x .refusal) (x .refuses) c in
@@ -102,7 +106,11 @@ module _ {t u : List ℕ} {st : Stream} (a : OpenAt t u st) (s : List ℕ) where
 
     -- ---- and one row or another holds
     some-row : (n : ℕ) × (es : List Entry) × (place : ℕ) × AnsweredAs t u s (size l) n es place
-    some-row = ⊎-elim (λ h. (_, _, _, plain.AnsweredAs.too-long h)) (λ h. by-parts h (divided (u ++ s))) (less-or-not 4294967295 (length (t ++ u) + length s))
+    some-row =
+        ⊎-elim
+        (λ h. (_, _, _, plain.AnsweredAs.too-long h))
+        (λ h. by-parts h (divided (u ++ s)))
+        (less-or-not 4294967295 (length (t ++ u) + length s))
       where
         whole : (h : length (t ++ u) + length s ≤ 4294967295) {v w : List ℕ} {es : List Entry} → Divides u s v w es → Begun w →
             (n : ℕ) × (es : List Entry) × (place : ℕ) × AnsweredAs t u s (size l) n es place

@@ -15,7 +15,8 @@ use Rattle.transcript_bytes.specs.declared.Entry.{Entry}
 use Rattle.transcript_bytes.proofs.Elsewhere.{feeds-joined}
 use Rattle.transcript_bytes.proofs.HowFar.{EarlyRefusal, early-refusal, goes-further}
 use Rattle.transcript_bytes.proofs.ReadingOn.{only-adds, stays-refused}
-use Rattle.stream.specs.InPlainWords.{answer, Came, ended-before, too-long, too-small, taken-in, then-bad, handed, sent-back, verdict-of, CutAlike}
+use Rattle.stream.specs.InPlainWords.{answer, Came, ended-before, too-long, too-small, taken-in, then-bad}
+use Rattle.stream.specs.InPlainWords.{handed, sent-back, verdict-of, CutAlike}
 use Rattle.stream.specs.Stream.{resumed, heard, standing, told, TookDelivery}
 use Rattle.stream.specs.declared.Stream.{Stream}
 use Rattle.stream.specs.declared.Streamed.{Streamed}

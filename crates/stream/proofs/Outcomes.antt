@@ -12,7 +12,7 @@ use Rattle.words.proofs.Choices.{either-way, less-or-not}
 use Rattle.transcript_bytes.specs.Lists.{Lists, size, with-entries}
 use Rattle.transcript_bytes.proofs.HowFar.{EarlyRefusal, early-refusal, goes-further}
 use Rattle.stream.specs.InPlainWords.{answer, after, Came, ended-before, too-long, too-small, taken-in, then-bad}
-use Rattle.stream.specs.Stream.{resumed, heard, barred, streamed, told, delivery-answer, lists-after, TookDelivery}
+use Rattle.stream.specs.Stream.{resumed, heard, barred, told, delivery-answer, lists-after, TookDelivery}
 use Rattle.stream.specs.declared.Stream.{Stream}
 use Rattle.stream.specs.declared.Streamed.{Streamed}
 use Rattle.stream.proofs.One.{one-delivery}
@@ -40,19 +40,12 @@ module _ (st : Stream) (s : List ℕ) where
     -- ---- by the bar
     barred-by : (n : ℕ) → eqb n 0 ≡ false → barred st s (size l) ≡ n → TookDelivery st s l (answer n 0 0 st) l
     unfolding delivery-answer lists-after
-    barred-by n d b =
-        record {
-          answer = sym (ap (λ (k : ℕ). cond (eqb k 0) (told (heard st s)) (streamed k 0 0 st)) b ∙ ap (λ (t : Bool). cond t (told (heard st s)) (streamed n 0 0 st)) d);
-          lists = sym (ap (λ (k : ℕ). cond (eqb k 0) (with-entries (heard st s .got) l) l) b ∙ ap (λ (t : Bool). cond t (with-entries (heard st s .got) l) l) d);
-        }
+    barred-by n d b = record { answer = rw (b, d); lists = rw (b, d) }
 
-    not-barred : {o : Streamed} → barred st s (size l) ≡ 0 → told (heard st s) ≡ o → TookDelivery st s l o (with-entries (heard st s .got) l)
+    not-barred : {o : Streamed} → barred st s (size l) ≡ 0 → told (heard st s) ≡ o →
+        TookDelivery st s l o (with-entries (heard st s .got) l)
     unfolding delivery-answer lists-after
-    not-barred b e =
-        record {
-          answer = sym (ap (λ (k : ℕ). cond (eqb k 0) (told (heard st s)) (streamed k 0 0 st)) b ∙ e);
-          lists = sym (ap (λ (k : ℕ). cond (eqb k 0) (with-entries (heard st s .got) l) l) b);
-        }
+    not-barred b e = record { answer = rw b (sym e); lists = rw b }
 
     passes : st .ended ≡ false → st .taken + length s ≤ 4294967295 → length (heard st s .got) ≤ size l → barred st s (size l) ≡ 0
     unfolding barred

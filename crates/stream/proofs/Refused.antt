@@ -1,7 +1,7 @@
 -- What a refused delivery leaves, and that it can be sent again; which numbers there are; and that the lists' later places stay.
 use Prim.Native.Nat.{ℕ, _+_, _≤_}
 use native.Mathlib.Omega.{arith}
-use mathlib.Core.Path.{_≡_, refl, sym, _∙_, subst}
+use mathlib.Core.Path.{_≡_, refl, sym, ap, _∙_, subst}
 use mathlib.Core.Bool.{false, true≢false}
 use mathlib.Core.List.{List}
 use mathlib.Core.Logic.{_⊎_, inl, inr}
@@ -9,7 +9,7 @@ use lib.ListN.{length}
 use Rattle.transcript_bytes.specs.InPlainWords.{later-places}
 use Rattle.transcript_bytes.specs.Lists.{Lists, size}
 use Rattle.transcript_bytes.proofs.Columns.{later-stay}
-use Rattle.stream.specs.InPlainWords.{Came, ended-before, too-long, too-small, taken-in, then-bad, Unchanged}
+use Rattle.stream.specs.InPlainWords.{answer, Came, ended-before, too-long, too-small, taken-in, then-bad}
 use Rattle.stream.specs.Stream.{heard, TookDelivery}
 use Rattle.stream.specs.declared.Stream.{Stream}
 use Rattle.stream.specs.declared.Streamed.{Streamed}
@@ -17,19 +17,20 @@ use Rattle.stream.proofs.Outcomes.{no-more-than-bytes, comes-exactly}
 
 module _ {st : Stream} {s : List ℕ} {l l′ : Lists} {o : Streamed} (p : TookDelivery st s l o l′) where
   -- Under 24, 25 and 26 stream and lists stay as they stood, and the answer has zeros.
-  pub refused-leaves : 24 ≤ o .number → Unchanged st l o l′
+  pub refused-leaves : 24 ≤ o .number → (o ≡ answer (o .number) 0 0 st) × (l′ ≡ l)
   refused-leaves = by-row (comes-exactly .0 p)
     where
-      by-row : {o : Streamed} {l′ : Lists} → Came st s l o l′ → 24 ≤ o .number → Unchanged st l o l′
-      by-row (ended-before z) h = record { stream = refl; lists = refl; count = refl; place = refl }
-      by-row (too-long z k) h = record { stream = refl; lists = refl; count = refl; place = refl }
-      by-row (too-small z k m) h = record { stream = refl; lists = refl; count = refl; place = refl }
+      by-row : {o : Streamed} {l′ : Lists} → Came st s l o l′ → 24 ≤ o .number → (o ≡ answer (o .number) 0 0 st) × (l′ ≡ l)
+      by-row (ended-before z) h = (refl, refl)
+      by-row (too-long z k) h = (refl, refl)
+      by-row (too-small z k m) h = (refl, refl)
       by-row (taken-in z k m e) h = absurd (omega arith)
       by-row (then-bad z k m e i j) h = absurd (omega arith)
 
   -- So whatever is delivered next comes to what it would have come to at first.
-  pub sent-again : 24 ≤ o .number → {t : List ℕ} {k k′ : Lists} {a : Streamed} → TookDelivery (o .stream) t k a k′ → TookDelivery st t k a k′
-  sent-again h {t} {k} {k′} {a} q = subst (λ (x : Stream). TookDelivery x t k a k′) (refused-leaves h .stream) q
+  pub sent-again : 24 ≤ o .number → {t : List ℕ} {k k′ : Lists} {a : Streamed} → TookDelivery (o .stream) t k a k′ →
+      TookDelivery st t k a k′
+  sent-again h {t} {k} {k′} {a} q = subst (λ (x : Stream). TookDelivery x t k a k′) (ap (λ (x : Streamed). x .stream) (refused-leaves h .0)) q
 
   -- The number is 0, 21, 22, 23, 24, 25 or 26: never 20.
   pub delivery-numbers : (o .number ≡ 0) ⊎ ((21 ≤ o .number) × (o .number ≤ 26))

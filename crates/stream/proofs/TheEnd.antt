@@ -27,7 +27,8 @@ zero-or-20 (Head n) = begun-or-not (n .begun)
 zero-or-20 (Word h n) = inr refl
 
 module _ (st : Stream) where
-  ends-by : {b : Bool} → st .ended ≡ b → end-answer st ≡ cond b (streamed 25 0 0 st) (end-told st)
+  -- By whether the stream has ended already.
+  pub ends-by : {b : Bool} → st .ended ≡ b → end-answer st ≡ cond b (streamed 25 0 0 st) (end-told st)
   unfolding end-answer
   ends-by z = ap (λ (t : Bool). cond t (streamed 25 0 0 st) (end-told st)) z
 
@@ -54,16 +55,23 @@ module _ (st : Stream) where
 
 -- ---- the verdict
 
-told-alone : (st : Stream) (n : ℕ) → (n ≡ 0) ⊎ (n ≡ 20) → verdict-of (answer n 0 (place-of n (st .from)) (shut st) ∷ []) ≡ verdict n (st .from)
+-- the end's own number is the verdict
+abbrev Told : Stream → ℕ → Type 0
+Told st n = verdict-of (answer n 0 (place-of n (st .from)) (shut st) ∷ []) ≡ verdict n (st .from)
+
+told-alone : (st : Stream) (n : ℕ) → (n ≡ 0) ⊎ (n ≡ 20) → Told st n
 unfolding verdict-of
-told-alone st n (inl z) = subst (λ (k : ℕ). verdict-of (answer k 0 (place-of k (st .from)) (shut st) ∷ []) ≡ verdict k (st .from)) (sym z) refl
-told-alone st n (inr z) = subst (λ (k : ℕ). verdict-of (answer k 0 (place-of k (st .from)) (shut st) ∷ []) ≡ verdict k (st .from)) (sym z) refl
+told-alone st n (inl z) = subst (Told st) (sym z) refl
+told-alone st n (inr z) = subst (Told st) (sym z) refl
+
+abbrev pub Tells : Reading → Type 0
+Tells r = or-else (verdict (r .refusal) (r .from)) (verdict-of (end-answer (standing r) ∷ [])) ≡ verdict (ended r) (r .from)
 
 -- If no bad record was told before, the end tells what the reader of request (ii) says of a string that ends here.
-pub end-tells : (r : Reading) → or-else (verdict (r .refusal) (r .from)) (verdict-of (end-answer (standing r) ∷ [])) ≡ verdict (ended r) (r .from)
+pub end-tells : (r : Reading) → Tells r
 end-tells r = ⊎-elim good bad (same-or-not (r .refusal) 0)
   where
-    good : r .refusal ≡ 0 → or-else (verdict (r .refusal) (r .from)) (verdict-of (end-answer (standing r) ∷ [])) ≡ verdict (ended r) (r .from)
+    good : r .refusal ≡ 0 → Tells r
     good z =
         let t = eq-eqb (r .refusal) 0 z in
         ap (λ (b : Bool). cond b (verdict-of (end-answer (standing r) ∷ [])) (verdict (r .refusal) (r .from))) t ∙
@@ -71,7 +79,7 @@ end-tells r = ⊎-elim good bad (same-or-not (r .refusal) 0)
         told-alone (standing r) (cut-off (r .part)) (zero-or-20 (r .part)) ∙
         ap (λ (b : Bool). verdict (cond b (cut-off (r .part)) (r .refusal)) (r .from)) (sym t)
 
-    bad : r .refusal ≢ 0 → or-else (verdict (r .refusal) (r .from)) (verdict-of (end-answer (standing r) ∷ [])) ≡ verdict (ended r) (r .from)
+    bad : r .refusal ≢ 0 → Tells r
     bad d =
         let t = ne-eqb (r .refusal) 0 d in
         ap (λ (b : Bool). cond b (verdict-of (end-answer (standing r) ∷ [])) (verdict (r .refusal) (r .from))) t ∙

@@ -3,7 +3,6 @@
 --   Came st s l o l′          what a delivery comes to, whatever the stream: each answer, when and only then, and the lists
 --   EndCame st o              what the end comes to, whatever the stream: each answer, when and only then
 --   handed o l′               the accesses that a delivery handed out: those in the first places of its lists, as many as it says
---   Unchanged                 an answer that changes nothing
 --   Turn, Took                a delivery as it was made, with what came of it; deliveries one after another
 --   sent-back n               24 or 26: the delivery is no part of the stream, and may be sent again
 --   kept o s                  the bytes of a delivery, or none if it was sent back
@@ -65,13 +64,6 @@ pub data EndCame (st : Stream) : Streamed → Type 0 where
   nothing-missing : st .ended ≡ false → cut-off (st .part) ≡ 0 → EndCame st (answer 0 0 0 (shut st))
   -- "A number cut off is refused only when the sender says that nothing follows"
   number-missing : st .ended ≡ false → cut-off (st .part) ≡ 20 → EndCame st (answer 20 0 (st .from) (shut st))
-
--- the answer of a call that changes nothing: the stream and the lists stay as they stood
-pub record Unchanged (st : Stream) (l : Lists) (o : Streamed) (l′ : Lists) : Type 0 where
-  pub stream : o .stream ≡ st
-  pub lists : l′ ≡ l
-  pub count : o .count ≡ 0
-  pub place : o .place ≡ 0
 
 -- ---- deliveries, one after another
 

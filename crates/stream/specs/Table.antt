@@ -40,7 +40,15 @@ abbrev pub told : ℕ → ℕ → ℕ → ℕ → ℕ → Bool → Told
 told n c p f t b = record { number = n; count = c; place = p; from = f; taken = t; ended = b }
 
 abbrev pub said : Streamed → Told
-said o = told (o .number) (o .count) (o .place) (o .stream .from) (o .stream .taken) (o .stream .ended)
+said o =
+    record {
+      number = o .number;
+      count = o .count;
+      place = o .place;
+      from = o .stream .from;
+      taken = o .stream .taken;
+      ended = o .stream .ended;
+    }
 
 pub data Call : Type 0 where
   delivers : List ℕ → List Entry → Told → List Entry → Call

@@ -16,8 +16,8 @@ use Rattle.transcript_scan.proofs.scanning.scan.Tie as tie
 abbrev told : ScannedOn → ℕ → Scanned
 told f n = record { entries = f .entries; place = f .place; refusal = n }
 
-told-right : (s : List ℕ) {f : ScannedOn} {n : ℕ} → f ≡ scanned-on fresh s → n ≡ cond (eqb (f .refusal) 0) (cut-off (f .part)) (f .refusal) →
-    told f n ≡ scanned s
+told-right : (s : List ℕ) {f : ScannedOn} {n : ℕ} → f ≡ scanned-on fresh s →
+    n ≡ cond (eqb (f .refusal) 0) (cut-off (f .part)) (f .refusal) → told f n ≡ scanned s
 told-right s {f} e q =
     ap (told f) q ∙ ap (λ (x : ScannedOn). told x (cond (eqb (x .refusal) 0) (cut-off (x .part)) (x .refusal))) e
 

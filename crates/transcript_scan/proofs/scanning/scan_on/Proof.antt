@@ -41,7 +41,8 @@ none-read : (p₀ : Part) (s : List ℕ) → Good p₀ s 0 0 0 p₀ 0
 none-read p₀ s = record { reads = begun p₀ s; none-bad = refl }
 
 -- a record is entered
-entered : (s : List ℕ) (entries place next : ℕ) (part : Part) (refusal : ℕ) → Within s entries place next part refusal entries place next part refusal
+entered : (s : List ℕ) (entries place next : ℕ) (part : Part) (refusal : ℕ) →
+    Within s entries place next part refusal entries place next part refusal
 entered s entries place next part refusal = record { on = λ p₀ g. g; behind = omega arith }
 
 module _ {p₀ : Part} {s : List ℕ} {entries place next : ℕ} {part : Part} {refusal : ℕ} (g : Good p₀ s entries place next part refusal) where
