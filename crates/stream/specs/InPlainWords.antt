@@ -1,15 +1,19 @@
 -- The reader of deliveries in plain words: what the laws say of it. Document 02, request (vii).
 --   answer n count place st   an answer, by its parts
+--   after st s b              the stream when a delivery is read, ended or not
 --   Came st s l o l′          what a delivery comes to, whatever the stream: each answer, when and only then, and the lists
---   EndCame st o              what the end comes to, whatever the stream: each answer, when and only then
 --   handed o l′               the accesses that a delivery handed out: those in the first places of its lists, as many as it says
+--   shut st                   the stream when the sender has said that nothing follows
+--   EndCame st o              what the end comes to, whatever the stream: each answer, when and only then
 --   Turn, Took                a delivery as it was made, with what came of it; deliveries one after another
 --   sent-back n               24 or 26: the delivery is no part of the stream, and may be sent again
 --   kept o s                  the bytes of a delivery, or none if it was sent back
 --   joined ts                 the bytes of a stream: all that was delivered, but what was sent back
 --   handed-out ts             the accesses that were handed out, in their order
---   Verdict, verdict-of       a refusal and its place; the first one among some answers that is a record's: 20 to 23
 --   answers-of ts             the answers of some turns
+--   Verdict                   a refusal and its place
+--   of-a-record n             20 to 23: the refusal of a record
+--   verdict-of                the first such refusal among some answers
 --   CutAlike                  a delivery, and the same bytes in two deliveries
 --   read-verdict s            the refusal that the reader of request (ii) gives a string, with its place
 --   Holds s es v              a string holds good records, those of the entries es, and then nothing, or a bad one, of which v tells

@@ -1,12 +1,13 @@
 -- Streams that calls have come to from a fresh start, in plain words: record by record. Document 02, request (vii).
---   Reached st       calls have come from a fresh start to the stream st
---   StandsForBytes   the streams that stand for some bytes
---   Begun u          u is nothing, or bytes of a record that is not whole
---   OpenAt t u st    the open stream st has read t, which is good records, and u, which is what there is of the next one
---   Behind w         what is behind good records: nothing, or a record that is not whole, or a bad one
---   AnsweredAs       what a delivery to an open stream answers and hands out: each answer, when and only then
---   Says o l′ n es p  an answer and its lists say the number n, the entries es and the place p
---   EndedAs          what the end of one answers, likewise
+--   Reached st         calls have come from a fresh start to the stream st
+--   StandsForBytes st  the stream st stands for some bytes
+--   Begun u            u is nothing, or bytes of a record that is not whole
+--   OpenAt t u st      the open stream st has read t, which is good records, and u, which is what there is of the next one
+--   Behind w           w is nothing, or begins with a record that is not whole, or with a bad one
+--   Divides u s v w es   the begun record u and the delivery s together are the good records v, those of the entries es, and w behind them
+--   AnsweredAs         what a delivery to an open stream answers and hands out: each answer, when and only then
+--   Says o l′ n es p   an answer and its lists say the number n, the entries es and the place p
+--   EndedAs            what the end of an open stream answers, likewise
 use Prim.Native.Nat.{ℕ, _+_, _<_, _≤_}
 use mathlib.Core.Path.{_≡_}
 use mathlib.Core.Bool.{false}
@@ -53,7 +54,6 @@ pub data Behind : List ℕ → Type 0 where
   not-whole : {w : List ℕ} → Begun w → Behind w
   bad : {w : List ℕ} {n : ℕ} → BadRecord w n → n ≢ 20 → Behind w
 
--- the bytes of the record that is begun and those of the delivery together are good records v, those of the entries es, and w behind them
 pub record Divides (u s v w : List ℕ) (es : List Entry) : Type 0 where
   pub all : u ++ s ≡ v ++ w
   pub good : Sound v es

@@ -10,7 +10,7 @@ use Rattle.transcript_bytes.specs.Lists.{Lists, size}
 use Rattle.stream.specs.Stream.{streamed, delivery-answer, lists-after, end-answer}
 use Rattle.stream.specs.declared.Stream.{Stream}
 use Rattle.stream.specs.declared.Streamed.{Streamed}
-use Rattle.stream_trial.specs.Record.{starts, delivers, number, begun, string-lent, lists-lent, lists-back}
+use Rattle.stream_trial.specs.Record.{starts, delivers, number, started-at, string-lent, lists-lent, lists-back}
 
 -- the record b, to the stream st, with the lists l
 module _ (st : Stream) (b : List ℕ) (l : Lists) where
@@ -22,7 +22,7 @@ module _ (st : Stream) (b : List ℕ) (l : Lists) where
 
   -- "0 a fresh start, 1 a delivery, 2 the end"; "A fresh start answers number 0, count 0, place 0"
   unfoldable pub answer-from : Streamed
-  answer-from = cond (starts b) (streamed 0 0 0 (begun (number b))) (cond (delivers b) delivered-answer (end-answer st))
+  answer-from = cond (starts b) (streamed 0 0 0 (started-at (number b))) (cond (delivers b) delivered-answer (end-answer st))
 
   -- a fresh start and the end leave them "untouched"
   unfoldable pub lists-from : Lists

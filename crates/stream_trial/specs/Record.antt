@@ -3,9 +3,9 @@
 --   starts b           it is a fresh start
 --   delivers b         it is a delivery
 --   number b           how many bytes the stream had already
---   begun n            a stream that had so many, of whole good records
+--   started-at n       a stream that had so many, of whole good records
 --   string-lent b      what is delivered of its string
---   blank              the four lists as they are before each record
+--   blank-list, blank  a list, and the four of them, before each record
 --   lists-lent b l     what is lent of the four lists l
 --   lists-back b l part    l when these come back as part
 use Prim.Native.Nat.{ℕ, _+_, _*_, _%_, min}
@@ -33,8 +33,8 @@ abbrev pub number : List ℕ → ℕ
 number b = byte b 8 + 256 * byte b 9 + 65536 * byte b 10 + 16777216 * byte b 11
 
 -- "`from` and `taken` begin with that number"
-abbrev pub begun : ℕ → Stream
-begun n = record { part = fresh; from = n; taken = n; ended = false }
+abbrev pub started-at : ℕ → Stream
+started-at n = record { part = fresh; from = n; taken = n; ended = false }
 
 -- "bytes 12 to 35"; "how many of the string's bytes are delivered; above 24 it counts as 24"
 abbrev pub string-lent : List ℕ → List ℕ

@@ -1,17 +1,20 @@
 // A record of a script, carried out.
 ghost use mathlib.Core.Path.{_≡_};
-ghost use Prim.Native.Nat.{min};
 ghost use Rattle.transcript_bytes.specs.Lists.{lists};
 ghost use Rattle.stream.specs.Stream.{streamed};
-ghost use Rattle.stream_trial.specs.Record.{begun, blank};
+ghost use Rattle.stream_trial.specs.Record.{started-at, blank};
 ghost use Rattle.stream_trial.specs.Carried.{Delivered, Carried};
 use crate::reading::number_in;
+use crate::reading::places_lent;
+use crate::reading::string_lent;
 use stream::Stream;
 use stream::Streamed;
 use stream_reader::end_stream;
 use stream_reader::start_stream;
 use stream_reader::take_delivery;
-use words::least;
+
+// Each list before each record.
+const BLANK: [u32; 6] = [0xEEEEEEEE; 6];
 
 // What a record leaves: what the call answered, with the stream, and the four lists.
 pub(crate) struct Left {
@@ -24,7 +27,7 @@ pub(crate) struct Left {
 
 // A fresh start, as if so many bytes had come already.
 fn start_from(n: u32) -> Streamed
-    ensures { λ o. ⌜ o ≡ streamed 0 0 0 (begun n) ⌝ }
+    ensures { λ o. ⌜ o ≡ streamed 0 0 0 (started-at n) ⌝ }
 {
     let fresh = start_stream();
     let part = fresh.part;
@@ -41,36 +44,25 @@ fn start_from(n: u32) -> Streamed
     }
 }
 
-// How many of so many places are lent, where the record says b: all of them if it says more.
-fn places_lent(b: u8, length: usize) -> usize
-    ensures { λ r. ⌜ r ≡ min b length ⌝ }
-{
-    least(b as usize, length)
-}
-
 // The record's delivery. What it is lent of each list is its first places, as many as the record says.
 fn deliver(st: Stream, bytes: &[u8; 36]) -> Left
     ensures { λ d. ⌜ Delivered st (now (bytes .entry)) blank (d .answer) (lists (d .kinds) (d .registers) (d .lanes) (d .words)) ⌝ }
 {
-    let start = 0;
-    let first = 12;
-    let end = first + places_lent(bytes[1], 24);
     let k = places_lent(bytes[2], 6);
     let r = places_lent(bytes[3], 6);
     let l = places_lent(bytes[4], 6);
     let w = places_lent(bytes[5], 6);
-    let mut kinds = [0xEEEEEEEE; 6];
-    let mut registers = [0xEEEEEEEE; 6];
-    let mut lanes = [0xEEEEEEEE; 6];
-    let mut words = [0xEEEEEEEE; 6];
-    let whole = &bytes[..];
+    let mut kinds = BLANK;
+    let mut registers = BLANK;
+    let mut lanes = BLANK;
+    let mut words = BLANK;
     let answer = take_delivery(
         st,
-        &whole[first..end],
-        &mut kinds[start..k],
-        &mut registers[start..r],
-        &mut lanes[start..l],
-        &mut words[start..w],
+        string_lent(bytes),
+        &mut kinds[..k],
+        &mut registers[..r],
+        &mut lanes[..l],
+        &mut words[..w],
     );
     Left {
         answer,
@@ -81,20 +73,20 @@ fn deliver(st: Stream, bytes: &[u8; 36]) -> Left
     }
 }
 
-// A call that is lent no list leaves them as they are before each record.
+// What a call leaves that is lent no list.
 fn leave_lists(answer: Streamed) -> Left
     ensures { λ d. ⌜ (d .answer ≡ answer) × (lists (d .kinds) (d .registers) (d .lanes) (d .words) ≡ blank) ⌝ }
 {
     Left {
         answer,
-        kinds: [0xEEEEEEEE; 6],
-        registers: [0xEEEEEEEE; 6],
-        lanes: [0xEEEEEEEE; 6],
-        words: [0xEEEEEEEE; 6],
+        kinds: BLANK,
+        registers: BLANK,
+        lanes: BLANK,
+        words: BLANK,
     }
 }
 
-// The record, whichever of the three it is.
+// The record's call, whichever of the three it is.
 pub(crate) fn carry_record(st: Stream, bytes: &[u8; 36]) -> Left
     ensures { λ d. ⌜ Carried st (now (bytes .entry)) blank (d .answer) (lists (d .kinds) (d .registers) (d .lanes) (d .words)) ⌝ }
 {

@@ -2,19 +2,24 @@
 use crate::carrying::Left;
 use stream::Streamed;
 
+// Eight digits.
+fn print_number(n: u32) {
+    io::print_hex(1, n as u64, 8);
+}
+
 fn print_answer(o: Streamed) {
     let st = o.stream;
     io::print_hex(1, o.number as u64, 2);
     io::print_hex(1, o.count as u64, 4);
-    io::print_hex(1, o.place as u64, 8);
+    print_number(o.place);
     io::print_hex(1, st.ended as u64, 1);
-    io::print_hex(1, st.from as u64, 8);
-    io::print_hex(1, st.taken as u64, 8);
+    print_number(st.from);
+    print_number(st.taken);
 }
 
 fn print_list(list: [u32; 6]) {
     for k in 0..6 {
-        io::print_hex(1, list[k] as u64, 8);
+        print_number(list[k]);
     }
 }
 

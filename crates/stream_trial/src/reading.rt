@@ -1,7 +1,8 @@
 // What the bytes of a record say.
 ghost use mathlib.Core.Path.{_≡_};
-ghost use Prim.Native.Nat.{_+_, _*_};
-ghost use Rattle.stream_trial.specs.Record.{number};
+ghost use Prim.Native.Nat.{_+_, _*_, min};
+ghost use Rattle.stream_trial.specs.Record.{number, string-lent};
+use words::least;
 
 // The number that four bytes make.
 fn join(a: u8, b: u8, c: u8, d: u8) -> u32
@@ -15,4 +16,21 @@ pub(crate) fn number_in(bytes: &[u8; 36]) -> u32
     ensures { λ n. ⌜ n ≡ number (now (bytes .entry)) ⌝ }
 {
     join(bytes[8], bytes[9], bytes[10], bytes[11])
+}
+
+// How many of so many places are lent, where the record says b: all of them if it says more.
+pub(crate) fn places_lent(b: u8, length: usize) -> usize
+    ensures { λ r. ⌜ r ≡ min b length ⌝ }
+{
+    least(b as usize, length)
+}
+
+// What is delivered of the string. (All bytes are made a slice first: a part of an array behind a reference has no rule in the logic.)
+pub(crate) fn string_lent(bytes: &[u8; 36]) -> &[u8]
+    ensures { λ s. ⌜ now s ≡ string-lent (now (bytes .entry)) ⌝ }
+{
+    let first = 12;
+    let end = first + places_lent(bytes[1], 24);
+    let whole = &bytes[..];
+    &whole[first..end]
 }

@@ -1,10 +1,24 @@
 // Reading the script, a record at a time.
+ghost use mathlib.Core.Path.{_≡_};
+ghost use Rattle.stream_trial.specs.Record.{blank};
+ghost use Rattle.stream_trial.specs.Carried.{answer-from};
 use crate::carrying::carry_record;
 use crate::printing::print_record;
+use stream::Stream;
 use stream_reader::start_stream;
 
-// Record after record. Each is carried out on the stream that the one before it left, and what it leaves is printed. A proved loop has to
-// end, and nothing says that the input does: it counts its turns down, from a number that no run uses up.
+// One record carried out, and what it leaves printed. The stream goes on to the next.
+fn take_record(st: Stream, bytes: &[u8; 36]) -> Stream
+    ensures { λ r. ⌜ r ≡ answer-from st (now (bytes .entry)) blank .stream ⌝ }
+{
+    let left = carry_record(st, bytes);
+    print_record(left);
+    let answer = left.answer;
+    answer.stream
+}
+
+// Record after record, each on the stream that the one before it left. A proved loop has to end, and nothing says that the input does: it
+// counts its turns down, from a number that no run uses up.
 pub(crate) fn run() {
     let mut bytes = [0u8; 36];
     let mut st = start_stream();
@@ -18,9 +32,6 @@ pub(crate) fn run() {
             }
             return;
         }
-        let left = carry_record(st, &bytes);
-        let answer = left.answer;
-        st = answer.stream;
-        print_record(left);
+        st = take_record(st, &bytes);
     }
 }

@@ -1,5 +1,4 @@
 -- `stream_trial::printing::print_list` meets its contract: it stays inside the list, and ends.
-use borrow.Author.Needs.{needs}
 use Prim.Native.Nat.{_-_, _≤_}
 use native.Mathlib.Omega.{arith}
 use Rattle.stream_trial.proofs.printing.print_list.Statement.{statement}
@@ -14,17 +13,14 @@ abbrev μ-loop : tie.MeasureT-loop
 loop-holds : tie.Need-loop-holds Inv-loop μ-loop
 loop-holds c = omega arith
 
-mul-print-hex : tie.Need-mul-print-hex Inv-loop μ-loop
-mul-print-hex c = omega arith
+mul-print-number : tie.Need-mul-print-number Inv-loop μ-loop
+mul-print-number c = omega arith
 
-array-read-print-hex : tie.Need-array-read-print-hex Inv-loop μ-loop
-array-read-print-hex c = omega arith
+array-read-print-number : tie.Need-array-read-print-number Inv-loop μ-loop
+array-read-print-number c = omega arith
 
-cast-print-hex : tie.Need-cast-print-hex Inv-loop μ-loop
-cast-print-hex c = ?
-
-print-hex-requires : tie.Need-print-hex-requires Inv-loop μ-loop
-print-hex-requires c κs = tt
+print-number-requires : tie.Need-print-number-requires Inv-loop μ-loop
+print-number-requires c κs = tt
 
 add-k : tie.Need-add-k Inv-loop μ-loop
 add-k c = omega arith
@@ -45,10 +41,9 @@ print-list-spec =
     Inv-loop
     μ-loop
     loop-holds
-    mul-print-hex
-    array-read-print-hex
-    cast-print-hex
-    print-hex-requires
+    mul-print-number
+    array-read-print-number
+    print-number-requires
     add-k
     loop-less
     loop-again

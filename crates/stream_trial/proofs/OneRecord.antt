@@ -1,0 +1,74 @@
+-- A record is carried out by one of the three calls: a delivery on the first places of its string and of the lists, which then come back; or
+-- a fresh start or the end, which leave the lists.
+use Prim.Native.Nat.{ℕ, _+_, _-_, min}
+use native.Mathlib.Omega.{arith}
+use mathlib.Core.Path.{_≡_, ap, _∙_}
+use mathlib.Core.Bool.{true, false}
+use mathlib.Core.List.{List, _++_}
+use lib.ListN.{length, take, drop, length-take}
+use Rattle.transcript_bytes.specs.Lists.{Lists, lists, size}
+use Rattle.stream.specs.Stream.{streamed, delivery-answer, lists-after, end-answer, TookDelivery}
+use Rattle.stream.specs.declared.Stream.{Stream}
+use Rattle.stream.specs.declared.Streamed.{Streamed}
+use Rattle.stream_trial.specs.Record.{byte, starts, delivers, number, started-at, string-lent, lists-lent, lists-back}
+use Rattle.stream_trial.specs.Carried.{delivered-answer, delivered-lists, Delivered, answer-from, lists-from, Carried}
+
+-- ---- a delivery
+
+-- What code delivers of the string: from byte 12 on, m bytes.
+pub delivers-string : (b : List ℕ) {m : ℕ} → m ≡ min (byte b 1) 24 → take (12 + m - 12) (drop 12 b) ≡ string-lent b
+delivers-string b {m} e = let f : 12 + m - 12 ≡ min (byte b 1) 24 = omega arith in ap (λ (n : ℕ). take n (drop 12 b)) f
+
+-- There are so many places in a lent part.
+pub places-counted : (b : ℕ) {k : ℕ} (l : List ℕ) → k ≡ min b (length l) → k ≡ length (take k l)
+places-counted b {k} l e = simp length-take (omega arith)
+
+-- what code lends of four lists, so many places of each, and the lists when these come back as `part`
+abbrev parts : ℕ → ℕ → ℕ → ℕ → Lists → Lists
+parts k r n w l = lists (take k (l .kinds)) (take r (l .registers)) (take n (l .lanes)) (take w (l .words))
+
+abbrev put-back : ℕ → ℕ → ℕ → ℕ → Lists → Lists → Lists
+put-back k r n w l part =
+    lists (part .kinds ++ drop k (l .kinds)) (part .registers ++ drop r (l .registers)) (part .lanes ++ drop n (l .lanes))
+    (part .words ++ drop w (l .words))
+
+-- The numbers are those that the record b says: k of the kinds, r of the registers, n of the lanes, w of the words.
+pub record Lends (b : List ℕ) (l : Lists) (k r n w : ℕ) : Type 0 where
+  pub of-kinds : k ≡ min (byte b 2) (length (l .kinds))
+  pub of-registers : r ≡ min (byte b 3) (length (l .registers))
+  pub of-lanes : n ≡ min (byte b 4) (length (l .lanes))
+  pub of-words : w ≡ min (byte b 5) (length (l .words))
+
+-- The call on the lent parts, which then come back, is the record's delivery.
+pub delivered :
+    {st : Stream} {b s : List ℕ} {l : Lists} {k r n w : ℕ} {o : Streamed} {part : Lists} →
+    s ≡ string-lent b → Lends b l k r n w → TookDelivery st s (parts k r n w l) o part → Delivered st b l o (put-back k r n w l part)
+unfolding delivered-answer delivered-lists
+delivered {st} {b} {s} {l} {k} {r} {n} {w} {o} {part} e y t =
+    record {
+      answer = t .answer ∙ (λ i. delivery-answer st (e i) (size (lent-parts i)));
+      lists = comes-back ∙ ap (lists-back b l) (t .lists ∙ (λ i. lists-after st (e i) (lent-parts i)));
+    }
+  where
+    lent-parts : parts k r n w l ≡ lists-lent b l
+    lent-parts i = parts (y .of-kinds i) (y .of-registers i) (y .of-lanes i) (y .of-words i) l
+
+    comes-back : put-back k r n w l part ≡ lists-back b l part
+    comes-back i = put-back (y .of-kinds i) (y .of-registers i) (y .of-lanes i) (y .of-words i) l part
+
+-- ---- a record, whichever of the three it is
+module _ {st : Stream} {b : List ℕ} {l : Lists} {o : Streamed} {l′ : Lists} where
+  -- A fresh start leaves the lists.
+  pub by-start : starts b ≡ true → o ≡ streamed 0 0 0 (started-at (number b)) → l′ ≡ l → Carried st b l o l′
+  unfolding answer-from lists-from
+  by-start s a x = record { answer = rw s a; lists = rw s x }
+
+  -- A delivery carries its record out.
+  pub by-delivery : starts b ≡ false → delivers b ≡ true → Delivered st b l o l′ → Carried st b l o l′
+  unfolding answer-from lists-from
+  by-delivery s d x = record { answer = rw (s, d) (x .answer); lists = rw (s, d) (x .lists) }
+
+  -- The end leaves the lists.
+  pub by-end : starts b ≡ false → delivers b ≡ false → o ≡ end-answer st → l′ ≡ l → Carried st b l o l′
+  unfolding answer-from lists-from
+  by-end s d a x = record { answer = rw (s, d) a; lists = rw (s, d) x }
