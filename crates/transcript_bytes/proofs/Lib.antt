@@ -23,6 +23,7 @@ pub mod RoundTrips
 pub mod EntriesLeft
 pub mod Columns
 pub mod Filled
+pub mod LentLists
 pub mod Promised
 pub mod One
 pub mod Holds

@@ -10,9 +10,12 @@
 --   with-entries es l   the four lists when entries take their first places
 --   with-entry l i e    the four lists when an entry takes place i
 --   with-each l i es    the four lists when entries are put in one after the other, from place i on
+--   lent-lists k r n w l        the first places of each list, so many of them, or all where there are fewer
+--   lists-back k r n w l part   the four lists when these come back as part
 use Prim.Native.Nat.{ℕ, zero, suc, min}
 use mathlib.Core.List.{List, [], _∷_, _++_, map}
 use lib.ListN.{length, drop, getD, set}
+use Rattle.words.specs.Lent.{lent, given-back}
 use Rattle.transcript_bytes.specs.declared.Entry.{Entry}
 
 pub record Lists : Type 0 where
@@ -64,3 +67,11 @@ with-entry l i e =
 unfoldable pub with-each : Lists → ℕ → List Entry → Lists
 with-each l i [] = l
 with-each l i (e ∷ rest) = with-each (with-entry l i e) (suc i) rest
+
+abbrev pub lent-lists : ℕ → ℕ → ℕ → ℕ → Lists → Lists
+lent-lists k r n w l = lists (lent k (l .kinds)) (lent r (l .registers)) (lent n (l .lanes)) (lent w (l .words))
+
+abbrev pub lists-back : ℕ → ℕ → ℕ → ℕ → Lists → Lists → Lists
+lists-back k r n w l part =
+    lists (given-back k (l .kinds) (part .kinds)) (given-back r (l .registers) (part .registers)) (given-back n (l .lanes) (part .lanes))
+    (given-back w (l .words) (part .words))

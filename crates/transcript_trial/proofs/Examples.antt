@@ -8,7 +8,7 @@ use Rattle.transcript_bytes.specs.Format.{groups, record-of, transcript-of}
 use Rattle.transcript_bytes.specs.Lists.{Lists, lists, entries-from}
 use Rattle.transcript_bytes.specs.Reading.{with-group, head-read, word-read, step, feed, feeds, read-answer, lists-after}
 use Rattle.transcript_bytes.specs.Writing.{refused, accepted, no-record, entry-refusal, first-bad, write-answer, bytes-after}
-use Rattle.transcript_trial.specs.Record.{lists-in, string-lent, string-back, lists-lent, lists-back}
+use Rattle.transcript_trial.specs.Record.{lists-in, string-lent, string-back, lists-lent, lists-returned}
 use Rattle.transcript_trial.specs.Carried.{called-answer, called-string, called-lists}
 use Rattle.transcript_trial.specs.Carried.{answer-from, string-from, lists-from, Carried}
 
@@ -52,7 +52,7 @@ pub record Says : Type 0 where
   -- and what is lent comes back as other numbers
   pub string-again : string-back own-places six (0xEE ∷ []) ≡ 0xEE ∷ 0x1D ∷ 0xA4 ∷ 0x34 ∷ 0x07 ∷ 0x20 ∷ []
   pub lists-again :
-      lists-back own-places apart (lists (1 ∷ 1 ∷ []) (2 ∷ 2 ∷ 2 ∷ []) (3 ∷ 3 ∷ 3 ∷ 3 ∷ []) (4 ∷ 4 ∷ 4 ∷ 4 ∷ 4 ∷ [])) ≡
+      lists-returned own-places apart (lists (1 ∷ 1 ∷ []) (2 ∷ 2 ∷ 2 ∷ []) (3 ∷ 3 ∷ 3 ∷ 3 ∷ []) (4 ∷ 4 ∷ 4 ∷ 4 ∷ 4 ∷ [])) ≡
       lists (1 ∷ 1 ∷ 12 ∷ 13 ∷ 14 ∷ 15 ∷ []) (2 ∷ 2 ∷ 2 ∷ 23 ∷ 24 ∷ 25 ∷ []) (3 ∷ 3 ∷ 3 ∷ 3 ∷ 34 ∷ 35 ∷ [])
       (4 ∷ 4 ∷ 4 ∷ 4 ∷ 4 ∷ 45 ∷ [])
 

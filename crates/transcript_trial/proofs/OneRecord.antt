@@ -11,7 +11,8 @@ use Rattle.transcript_bytes.specs.Lists.{Lists, lists}
 use Rattle.transcript_bytes.specs.Reading.{ReadTranscript}
 use Rattle.transcript_bytes.specs.Writing.{WroteTranscript}
 use Rattle.transcript_bytes.specs.declared.Transcribed.{Transcribed}
-use Rattle.transcript_trial.specs.Record.{byte, column, lists-in, reads, string-lent, string-back, lists-lent, lists-back}
+use Rattle.transcript_bytes.proofs.LentLists.{parts, put-back, Lends, parts-lent, parts-back}
+use Rattle.transcript_trial.specs.Record.{byte, column, lists-in, reads, string-lent, string-back, lists-returned}
 use Rattle.transcript_trial.specs.Carried.{called-answer, called-string, called-lists, Called}
 use Rattle.transcript_trial.specs.Carried.{answer-from, string-from, lists-from, Carried}
 
@@ -33,37 +34,14 @@ module _ {reader : Bool} {s : List ℕ} {l : Lists} {o : Transcribed} where
 pub smaller-of : (k m : ℕ) {n : ℕ} → n ≡ min k m → n ≤ m
 smaller-of k m e = omega arith
 
--- what code lends of four lists, so many places of each, and the lists when these come back as `part`
-abbrev parts : ℕ → ℕ → ℕ → ℕ → Lists → Lists
-parts k r n w l = lists (take (k - 0) (l .kinds)) (take (r - 0) (l .registers)) (take (n - 0) (l .lanes)) (take (w - 0) (l .words))
-
-abbrev put-back : ℕ → ℕ → ℕ → ℕ → Lists → Lists → Lists
-put-back k r n w l part =
-    lists (putMid 0 (k - 0) (l .kinds) (part .kinds)) (putMid 0 (r - 0) (l .registers) (part .registers))
-    (putMid 0 (n - 0) (l .lanes) (part .lanes)) (putMid 0 (w - 0) (l .words) (part .words))
-
--- The numbers are those that the record b says: m of the string, k of the kinds, r of the registers, n of the lanes, w of the words.
-pub record Lends (b s : List ℕ) (l : Lists) (m k r n w : ℕ) : Type 0 where
+-- The numbers are those that the record b says: m of the string, and k, r, n and w of the lists.
+pub record LendsBoth (b s : List ℕ) (l : Lists) (m k r n w : ℕ) : Type 0 where
   pub of-string : m ≡ min (byte b 1) (length s)
-  pub of-kinds : k ≡ min (byte b 2) (length (l .kinds))
-  pub of-registers : r ≡ min (byte b 3) (length (l .registers))
-  pub of-lanes : n ≡ min (byte b 4) (length (l .lanes))
-  pub of-words : w ≡ min (byte b 5) (length (l .words))
+  pub of-lists : Lends (byte b 2) (byte b 3) (byte b 4) (byte b 5) l k r n w
 
-module _ {b s : List ℕ} {l : Lists} {m k r n w : ℕ} (y : Lends b s l m k r n w) where
+module _ {b s : List ℕ} {l : Lists} {m k r n w : ℕ} (y : LendsBoth b s l m k r n w) where
   string-is : take (m - 0) s ≡ string-lent b s
   string-is = lent-is (byte b 1) m s (y .of-string)
-
-  lists-are : parts k r n w l ≡ lists-lent b l
-  lists-are i =
-      lists (lent-is (byte b 2) k (l .kinds) (y .of-kinds) i) (lent-is (byte b 3) r (l .registers) (y .of-registers) i)
-      (lent-is (byte b 4) n (l .lanes) (y .of-lanes) i) (lent-is (byte b 5) w (l .words) (y .of-words) i)
-
-  lists-come-back : (part : Lists) → put-back k r n w l part ≡ lists-back b l part
-  lists-come-back part i =
-      lists (back-is (byte b 2) k (l .kinds) (y .of-kinds) (part .kinds) i)
-      (back-is (byte b 3) r (l .registers) (y .of-registers) (part .registers) i)
-      (back-is (byte b 4) n (l .lanes) (y .of-lanes) (part .lanes) i) (back-is (byte b 5) w (l .words) (y .of-words) (part .words) i)
 
   -- The call on the lent parts, which then come back, is what the record asks for.
   pub carried :
@@ -73,10 +51,10 @@ module _ {b s : List ℕ} {l : Lists} {m k r n w : ℕ} (y : Lends b s l m k r n
   unfolding answer-from string-from lists-from
   carried {o} {s′} {l′} c =
       record {
-        answer = c .answer ∙ (λ i. called-answer (reads b) (string-is i) (lists-are i));
+        answer = c .answer ∙ (λ i. called-answer (reads b) (string-is i) (parts-lent (y .of-lists) i));
         string = back-is (byte b 1) m s (y .of-string) s′
-            ∙ ap (string-back b s) (c .string ∙ (λ i. called-string (reads b) (string-is i) (lists-are i)));
-        lists = lists-come-back l′ ∙ ap (lists-back b l) (c .lists ∙ (λ i. called-lists (reads b) (string-is i) (lists-are i)));
+            ∙ ap (string-back b s) (c .string ∙ (λ i. called-string (reads b) (string-is i) (parts-lent (y .of-lists) i)));
+        lists = parts-back (y .of-lists) l′ ∙ ap (lists-returned b l) (c .lists ∙ (λ i. called-lists (reads b) (string-is i) (parts-lent (y .of-lists) i)));
       }
 
 -- The lists may be those that the record holds.

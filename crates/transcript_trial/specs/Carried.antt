@@ -12,7 +12,7 @@ use Rattle.transcript_bytes.specs.Lists.{Lists, size, entries-in}
 use Rattle.transcript_bytes.specs.Reading.{read-answer, lists-after}
 use Rattle.transcript_bytes.specs.Writing.{write-answer, bytes-after}
 use Rattle.transcript_bytes.specs.declared.Transcribed.{Transcribed}
-use Rattle.transcript_trial.specs.Record.{reads, string-lent, string-back, lists-lent, lists-back}
+use Rattle.transcript_trial.specs.Record.{reads, string-lent, string-back, lists-lent, lists-returned}
 
 -- ---- a call, on all of a string and of four lists
 module _ (reader : Bool) (s : List ℕ) (l : Lists) where
@@ -39,7 +39,7 @@ module _ (b s : List ℕ) (l : Lists) where
   string-from = string-back b s (called-string (reads b) (string-lent b s) (lists-lent b l))
 
   unfoldable pub lists-from : Lists
-  lists-from = lists-back b l (called-lists (reads b) (string-lent b s) (lists-lent b l))
+  lists-from = lists-returned b l (called-lists (reads b) (string-lent b s) (lists-lent b l))
 
 pub record Carried (b s : List ℕ) (l : Lists) (o : Transcribed) (s′ : List ℕ) (l′ : Lists) : Type 0 where
   pub answer : o ≡ answer-from b s l

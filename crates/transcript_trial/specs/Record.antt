@@ -8,14 +8,14 @@
 --   string-lent b s    what is lent of the string s
 --   string-back b s part   s when that comes back as part
 --   lists-lent b l     what is lent of the four lists l
---   lists-back b l part    l when these come back as part
+--   lists-returned b l part   l when these come back as part
 use Prim.Native.Nat.{ℕ, _+_, _*_, _%_}
 use mathlib.Core.Bool.{Bool}
 use mathlib.Core.List.{List, [], _∷_}
 use lib.Dec.{eqb}
 use lib.ListN.{getD}
 use Rattle.words.specs.Lent.{lent, given-back}
-use Rattle.transcript_bytes.specs.Lists.{Lists, lists}
+use Rattle.transcript_bytes.specs.Lists.{Lists, lists, lent-lists, lists-back}
 
 abbrev pub byte : List ℕ → ℕ → ℕ
 byte b k = getD b k 0
@@ -45,10 +45,7 @@ string-back b s part = given-back (byte b 1) s part
 
 -- "how many places of the lists of kinds, registers, lanes and words are lent"
 abbrev pub lists-lent : List ℕ → Lists → Lists
-lists-lent b l =
-    lists (lent (byte b 2) (l .kinds)) (lent (byte b 3) (l .registers)) (lent (byte b 4) (l .lanes)) (lent (byte b 5) (l .words))
+lists-lent b l = lent-lists (byte b 2) (byte b 3) (byte b 4) (byte b 5) l
 
-abbrev pub lists-back : List ℕ → Lists → Lists → Lists
-lists-back b l part =
-    lists (given-back (byte b 2) (l .kinds) (part .kinds)) (given-back (byte b 3) (l .registers) (part .registers))
-    (given-back (byte b 4) (l .lanes) (part .lanes)) (given-back (byte b 5) (l .words) (part .words))
+abbrev pub lists-returned : List ℕ → Lists → Lists → Lists
+lists-returned b l part = lists-back (byte b 2) (byte b 3) (byte b 4) (byte b 5) l part

@@ -151,10 +151,13 @@ returns c =
     carried
     (record {
       of-string = string c .places-lent .ensures;
-      of-kinds = kinds c .places-lent2 .ensures;
-      of-registers = registers c .places-lent3 .ensures;
-      of-lanes = lanes c .places-lent4 .ensures;
-      of-words = words c .places-lent5 .ensures;
+      of-lists =
+          record {
+            of-kinds = kinds c .places-lent2 .ensures;
+            of-registers = registers c .places-lent3 .ensures;
+            of-lanes = lanes c .places-lent4 .ensures;
+            of-words = words c .places-lent5 .ensures;
+          };
     })
     (done c .call .ensures)
 
