@@ -9,7 +9,7 @@ use Rattle.transcript_bytes.specs.Reading.{with-group, head-read, word-read, st
 use Rattle.transcript_bytes.specs.declared.Part.the-variants.{Word}
 use Rattle.stream.specs.Stream.{fresh-stream, closed, barred, streamed, delivery-answer, lists-after, end-answer}
 use Rattle.stream.specs.declared.Stream.{Stream}
-use Rattle.stream_trial.specs.Record.{starts, delivers, number, started-at, string-lent, blank, lists-lent, lists-back}
+use Rattle.stream_trial.specs.Record.{starts, delivers, number, started-at, string-lent, blank, lists-lent, lists-returned}
 use Rattle.stream_trial.specs.Carried.{delivered-answer, delivered-lists, answer-from, lists-from, Carried}
 
 -- n numbers from k on
@@ -39,9 +39,11 @@ pub record Says : Type 0 where
   -- more than there are: all of them
   pub no-more-bytes : string-lent (1 ∷ 25 ∷ counting 2 35) ≡ counting 12 24
   pub no-more-places : lists-lent (1 ∷ 25 ∷ 7 ∷ 255 ∷ 6 ∷ 7 ∷ []) apart ≡ apart
+  -- a byte that is not there counts as 0
+  pub no-bytes : lists-lent [] apart ≡ lists [] [] [] []
   -- and what is lent comes back as other numbers
   pub lists-again :
-      lists-back own-places apart (lists (1 ∷ 1 ∷ []) (2 ∷ 2 ∷ 2 ∷ []) (3 ∷ 3 ∷ 3 ∷ 3 ∷ []) (4 ∷ 4 ∷ 4 ∷ 4 ∷ 4 ∷ [])) ≡
+      lists-returned own-places apart (lists (1 ∷ 1 ∷ []) (2 ∷ 2 ∷ 2 ∷ []) (3 ∷ 3 ∷ 3 ∷ 3 ∷ []) (4 ∷ 4 ∷ 4 ∷ 4 ∷ 4 ∷ [])) ≡
       lists (1 ∷ 1 ∷ 12 ∷ 13 ∷ 14 ∷ 15 ∷ []) (2 ∷ 2 ∷ 2 ∷ 23 ∷ 24 ∷ 25 ∷ []) (3 ∷ 3 ∷ 3 ∷ 3 ∷ 34 ∷ 35 ∷ [])
       (4 ∷ 4 ∷ 4 ∷ 4 ∷ 4 ∷ 45 ∷ [])
 
@@ -57,6 +59,7 @@ they-say =
       lists-part = refl;
       no-more-bytes = refl;
       no-more-places = refl;
+      no-bytes = refl;
       lists-again = refl;
     }
 

@@ -7,10 +7,11 @@ use mathlib.Core.Bool.{true, false}
 use mathlib.Core.List.{List, _++_}
 use lib.ListN.{length, take, drop, length-take}
 use Rattle.transcript_bytes.specs.Lists.{Lists, lists, size}
+use Rattle.transcript_bytes.proofs.LentLists.{Lends}
 use Rattle.stream.specs.Stream.{streamed, delivery-answer, lists-after, end-answer, TookDelivery}
 use Rattle.stream.specs.declared.Stream.{Stream}
 use Rattle.stream.specs.declared.Streamed.{Streamed}
-use Rattle.stream_trial.specs.Record.{byte, starts, delivers, number, started-at, string-lent, lists-lent, lists-back}
+use Rattle.stream_trial.specs.Record.{byte, starts, delivers, number, started-at, string-lent, lists-lent, lists-returned}
 use Rattle.stream_trial.specs.Carried.{delivered-answer, delivered-lists, Delivered, answer-from, lists-from, Carried}
 
 -- ---- a delivery
@@ -32,28 +33,22 @@ put-back k r n w l part =
     lists (part .kinds ++ drop k (l .kinds)) (part .registers ++ drop r (l .registers)) (part .lanes ++ drop n (l .lanes))
     (part .words ++ drop w (l .words))
 
--- The numbers are those that the record b says: k of the kinds, r of the registers, n of the lanes, w of the words.
-pub record Lends (b : List ℕ) (l : Lists) (k r n w : ℕ) : Type 0 where
-  pub of-kinds : k ≡ min (byte b 2) (length (l .kinds))
-  pub of-registers : r ≡ min (byte b 3) (length (l .registers))
-  pub of-lanes : n ≡ min (byte b 4) (length (l .lanes))
-  pub of-words : w ≡ min (byte b 5) (length (l .words))
-
 -- The call on the lent parts, which then come back, is the record's delivery.
 pub delivered :
     {st : Stream} {b s : List ℕ} {l : Lists} {k r n w : ℕ} {o : Streamed} {part : Lists} →
-    s ≡ string-lent b → Lends b l k r n w → TookDelivery st s (parts k r n w l) o part → Delivered st b l o (put-back k r n w l part)
+    s ≡ string-lent b → Lends (byte b 2) (byte b 3) (byte b 4) (byte b 5) l k r n w → TookDelivery st s (parts k r n w l) o part →
+    Delivered st b l o (put-back k r n w l part)
 unfolding delivered-answer delivered-lists
 delivered {st} {b} {s} {l} {k} {r} {n} {w} {o} {part} e y t =
     record {
       answer = t .answer ∙ (λ i. delivery-answer st (e i) (size (lent-parts i)));
-      lists = comes-back ∙ ap (lists-back b l) (t .lists ∙ (λ i. lists-after st (e i) (lent-parts i)));
+      lists = comes-back ∙ ap (lists-returned b l) (t .lists ∙ (λ i. lists-after st (e i) (lent-parts i)));
     }
   where
     lent-parts : parts k r n w l ≡ lists-lent b l
     lent-parts i = parts (y .of-kinds i) (y .of-registers i) (y .of-lanes i) (y .of-words i) l
 
-    comes-back : put-back k r n w l part ≡ lists-back b l part
+    comes-back : put-back k r n w l part ≡ lists-returned b l part
     comes-back i = put-back (y .of-kinds i) (y .of-registers i) (y .of-lanes i) (y .of-words i) l part
 
 -- ---- a record, whichever of the three it is

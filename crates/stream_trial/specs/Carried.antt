@@ -10,7 +10,7 @@ use Rattle.transcript_bytes.specs.Lists.{Lists, size}
 use Rattle.stream.specs.Stream.{streamed, delivery-answer, lists-after, end-answer}
 use Rattle.stream.specs.declared.Stream.{Stream}
 use Rattle.stream.specs.declared.Streamed.{Streamed}
-use Rattle.stream_trial.specs.Record.{starts, delivers, number, started-at, string-lent, lists-lent, lists-back}
+use Rattle.stream_trial.specs.Record.{starts, delivers, number, started-at, string-lent, lists-lent, lists-returned}
 
 -- the record b, to the stream st, with the lists l
 module _ (st : Stream) (b : List ℕ) (l : Lists) where
@@ -18,7 +18,7 @@ module _ (st : Stream) (b : List ℕ) (l : Lists) where
   delivered-answer = delivery-answer st (string-lent b) (size (lists-lent b l))
 
   unfoldable pub delivered-lists : Lists
-  delivered-lists = lists-back b l (lists-after st (string-lent b) (lists-lent b l))
+  delivered-lists = lists-returned b l (lists-after st (string-lent b) (lists-lent b l))
 
   -- "0 a fresh start, 1 a delivery, 2 the end"; "A fresh start answers number 0, count 0, place 0"
   unfoldable pub answer-from : Streamed

@@ -7,14 +7,13 @@
 --   string-lent b      what is delivered of its string
 --   blank-list, blank  a list, and the four of them, before each record
 --   lists-lent b l     what is lent of the four lists l
---   lists-back b l part    l when these come back as part
+--   lists-returned b l part   l when these come back as part
 use Prim.Native.Nat.{ℕ, _+_, _*_, _%_, min}
 use mathlib.Core.Bool.{Bool, false}
 use mathlib.Core.List.{List, [], _∷_}
 use lib.Dec.{eqb}
 use lib.ListN.{take, drop, getD}
-use Rattle.words.specs.Lent.{lent, given-back}
-use Rattle.transcript_bytes.specs.Lists.{Lists, lists}
+use Rattle.transcript_bytes.specs.Lists.{Lists, lists, lent-lists, lists-back}
 use Rattle.transcript_bytes.specs.Reading.{fresh}
 use Rattle.stream.specs.declared.Stream.{Stream}
 
@@ -49,10 +48,7 @@ blank = lists blank-list blank-list blank-list blank-list
 
 -- "how many places of the lists of kinds, registers, lanes and words are lent"
 abbrev pub lists-lent : List ℕ → Lists → Lists
-lists-lent b l =
-    lists (lent (byte b 2) (l .kinds)) (lent (byte b 3) (l .registers)) (lent (byte b 4) (l .lanes)) (lent (byte b 5) (l .words))
+lists-lent b l = lent-lists (byte b 2) (byte b 3) (byte b 4) (byte b 5) l
 
-abbrev pub lists-back : List ℕ → Lists → Lists → Lists
-lists-back b l part =
-    lists (given-back (byte b 2) (l .kinds) (part .kinds)) (given-back (byte b 3) (l .registers) (part .registers))
-    (given-back (byte b 4) (l .lanes) (part .lanes)) (given-back (byte b 5) (l .words) (part .words))
+abbrev pub lists-returned : List ℕ → Lists → Lists → Lists
+lists-returned b l part = lists-back (byte b 2) (byte b 3) (byte b 4) (byte b 5) l part

@@ -12,10 +12,10 @@ pub record Finds : Type 0 where
   pub all-good : scanned (0x1E ∷ 0x1D ∷ 0xA4 ∷ 0x34 ∷ []) ≡ record { entries = 2; place = 4; refusal = 0 }
   pub bad : scanned (0x1E ∷ 0x1D ∷ 0xA4 ∷ 0x34 ∷ 0x07 ∷ 0x1E ∷ []) ≡ record { entries = 2; place = 4; refusal = 23 }
   pub cut-off : scanned (0x1E ∷ 0x1D ∷ 0xA4 ∷ []) ≡ record { entries = 1; place = 1; refusal = 20 }
-  -- behind 1Dh A4h: the word is finished, a read follows, and a write goes on behind the string
+  -- behind 1Dh A4h: the word is finished, a write of 0 follows, and another goes on behind the string
   pub goes-on :
-      scanned-on (Word 0x1D (record { begun = true; padded = false; value = 0x24 })) (0x34 ∷ 0x1E ∷ 0x1D ∷ []) ≡
-      record { entries = 2; place = 2; next = 3; part = Word 0x1D none; refusal = 0 }
+      scanned-on (Word 0x1D (record { begun = true; padded = false; value = 0x24 })) (0x34 ∷ 0x1D ∷ 0x00 ∷ 0x1D ∷ []) ≡
+      record { entries = 2; place = 3; next = 4; part = Word 0x1D none; refusal = 0 }
   -- behind 80h: its record began before the string, and nothing is read behind it
   pub bad-from-before :
       scanned-on (Head (record { begun = true; padded = true; value = 0 })) (0x1D ∷ 0x1E ∷ []) ≡
