@@ -89,10 +89,10 @@ module _ {t u : List ℕ} {st : Stream} (a : OpenAt t u st) (s : List ℕ) where
     refused n = record { number = refl; entries = handed-none n 0 st l; place-told = refl }
 
     row-says : {n place : ℕ} {es : List Entry} → AnsweredAs t u s (size l) n es place → Says o l′ n es place
-    row-says (plain.AnsweredAs.too-long h) = says-by (came.Came.too-long (a .goes-on) (omega (arith, a .taken))) (refused 26)
+    row-says (plain.AnsweredAs.too-long h) = says-by (came.Came.too-long (a .goes-on) (omega (arith, a .taken))) (refused _)
     row-says (plain.AnsweredAs.too-small {es = es} h d b k) =
         let n = ap length (entries-of d b) in
-        says-by (came.Came.too-small (a .goes-on) (short h) (omega arith)) (refused 24)
+        says-by (came.Came.too-small (a .goes-on) (short h) (omega arith)) (refused _)
     row-says (plain.AnsweredAs.taken-in {es = es} h d b k) =
         let x = hears-good d b in
         let n = ap length (x .got) in

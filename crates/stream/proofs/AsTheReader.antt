@@ -8,13 +8,15 @@ use mathlib.Core.Logic.{_↔_}
 use lib.Dec.{eqb}
 use lib.ListN.{length}
 use borrow.Author.Tests.{le-ltb, ne-eqb, eqb-true}
-use Rattle.transcript_bytes.specs.InPlainWords.{first-places}
+use Rattle.transcript_bytes.specs.Format.{transcript-of}
+use Rattle.transcript_bytes.specs.InPlainWords.{first-places, AllGood, Sound}
 use Rattle.transcript_bytes.specs.Lists.{Lists, size, columns}
 use Rattle.transcript_bytes.specs.Reading.{Reading, ended, entries-read, place-read, refusal-read, read-answer, ReadTranscript}
 use Rattle.transcript_bytes.specs.Writing.{refused, accepted, fitting}
 use Rattle.transcript_bytes.specs.declared.Entry.{Entry}
 use Rattle.transcript_bytes.specs.declared.Transcribed.{Transcribed}
 use Rattle.transcript_bytes.proofs.Divided.{Divided, all-good, then-bad, divided}
+use Rattle.transcript_bytes.proofs.OneEncoding.{transcript-sound}
 use Rattle.transcript_bytes.proofs.Promised.{reader-done}
 use Rattle.transcript_bytes.proofs.ReadExactly.{reads-sound, reads-bad}
 use Rattle.stream.specs.InPlainWords.{Turn, Took, joined, handed-out, answers-of, Verdict, verdict-of, read-verdict, Holds}
@@ -57,7 +59,7 @@ holds-exactly s es v = (
 
 -- ---- the reader's answer where its lists have room
 
-number-and-place : (s : List ℕ) (room : ℕ) → length (entries-read s) ≤ room →
+number-and-place : (s : List ℕ) (room : ℕ) → (refusal-read s ≡ 0 → length (entries-read s) ≤ room) →
     (read-answer s room .number ≡ refusal-read s) × (read-answer s room .place ≡ read-verdict s .place)
 unfolding read-answer
 number-and-place s room fits = either (eqb (refusal-read s) 0) refl
@@ -66,7 +68,8 @@ number-and-place s room fits = either (eqb (refusal-read s) 0) refl
         (cond t (fitting (length (entries-read s)) room) (refused (refusal-read s) (place-read s)) .number ≡ refusal-read s)
         × (cond t (fitting (length (entries-read s)) room) (refused (refusal-read s) (place-read s)) .place ≡ cond t 0 (place-read s))
     either true e =
-        let a = ap (λ (b : Bool). cond b (refused 24 0) (accepted (length (entries-read s)))) (le-ltb room (length (entries-read s)) fits) in
+        let few = le-ltb room (length (entries-read s)) (fits (eqb-true (refusal-read s) 0 e)) in
+        let a = ap (λ (b : Bool). cond b (refused 24 0) (accepted (length (entries-read s)))) few in
         (ap (λ (x : Transcribed). x .number) a ∙ sym (eqb-true (refusal-read s) 0 e), ap (λ (x : Transcribed). x .place) a)
     either false e = (refl, refl)
 
@@ -78,15 +81,26 @@ module _ {ts : List Turn} {st : Stream} {e : Streamed} (p : Took fresh-stream ts
   pub off-the-line : Holds (joined ts) (handed-out ts) final
   off-the-line = holds-exactly (joined ts) (handed-out ts) final .1 (sym (hands-out p), sym (final-refusal p q))
 
-  -- ---- and of the contract of the reader, lent lists for all of them
-  module _ {l l′ : Lists} {o : Transcribed} (r : ReadTranscript (joined ts) l o l′) (room : length (handed-out ts) ≤ size l) where
+  -- ---- and of the contract of the reader, lent lists for all of them unless the bytes are refused anyway
+  module _ {l l′ : Lists} {o : Transcribed} (r : ReadTranscript (joined ts) l o l′)
+      (room : final .number ≡ 0 → length (handed-out ts) ≤ size l) where
     -- The reader's refusal and its place are the final ones; if there is none, it reads the accesses that were handed out.
     pub as-the-reader : (o .number ≡ final .number) × (o .place ≡ final .place) ×
         (o .number ≡ 0 → first-places (o .count) l′ ≡ columns (handed-out ts))
     as-the-reader =
-        let x = number-and-place (joined ts) (size l) (subst (λ (es : List Entry). length es ≤ size l) (hands-out p) room) in
-        let f = final-refusal p q in (
+        let f = final-refusal p q in
+        let x =
+        number-and-place (joined ts) (size l)
+        (λ z. subst (λ (es : List Entry). length es ≤ size l) (hands-out p) (room (ap (λ (v : Verdict). v .number) f ∙ z))) in (
           ap (λ (a : Transcribed). a .number) (r .answer) ∙ x .0 ∙ sym (ap (λ (v : Verdict). v .number) f),
           ap (λ (a : Transcribed). a .place) (r .answer) ∙ x .1 ∙ sym (ap (λ (v : Verdict). v .place) f),
           λ z. reader-done r z .entries ∙ ap columns (sym (hands-out p)),
         )
+
+-- What was written comes back: the bytes of a list of good entries, however they are cut, hand out that list, and nothing is refused.
+pub written-comes-back : {ts : List Turn} {st : Stream} {es : List Entry} → Took fresh-stream ts st → AllGood es → joined ts ≡ transcript-of es →
+    (handed-out ts ≡ es) × (verdict-of (answers-of ts ++ (end-answer st ∷ [])) ≡ record { number = 0; place = 0 })
+written-comes-back {ts} {es = es} p g e =
+    let q = subst (λ (s : List ℕ). Sound s es) (sym e) (transcript-sound es g) in
+    let h = holds-exactly (joined ts) es (record { number = 0; place = 0 }) .0 (plain.Holds.all-good q) in
+    (hands-out p ∙ h .0, final-refusal p refl ∙ h .1)

@@ -36,7 +36,6 @@ all-barred st l k₁ k₂ =
           handed-none 25 0 st k₂ ∙
           sym (handed-none 25 0 st l);
       refusal = refl;
-      both-join = (refl, refl);
     }
 
 -- ---- a stream that goes on
@@ -68,7 +67,6 @@ module _ (st : Stream) (v w : List ℕ) where
             early-verdict first first-early (barred ∷ []) ∙
             ap (λ (r : Reading). or-else (verdict (r .refusal) (r .from)) (verdict-of [])) (sym same) ∙
             sym (early-verdict (heard st (v ++ w)) whole-early []);
-        both-join = (early-kept (first .refusal) first-early, refl);
       }
 
   -- the first part has none: the second is read on from there
@@ -93,7 +91,6 @@ module _ (st : Stream) (v w : List ℕ) where
             early-verdict second second-early [] ∙
             ap (λ (r : Reading). or-else (verdict (r .refusal) (r .from)) (verdict-of [])) (sym more) ∙
             sym (early-verdict (heard st (v ++ w)) whole-early []);
-        both-join = (early-kept (first .refusal) first-early, early-kept (second .refusal) second-early);
       }
 
 -- ---- any delivery, and its parts with lists that have room
@@ -121,6 +118,17 @@ is-read z b (too-small t h k) = absurd (true≢false b)
 is-read z b (taken-in t h k e) = record { short = h; fits = k }
 is-read z b (then-bad t h k e i j) = record { short = h; fits = k }
 
+-- a delivery that is read, or comes after the end, is not sent back
+read-kept : {st : Stream} {s : List ℕ} {l l′ : Lists} {o : Streamed} → st .ended ≡ false → Read st s l → TookDelivery st s l o l′ →
+    sent-back (o .number) ≡ false
+read-kept {st} {s} {l} z x p =
+    subst (λ (a : Streamed). sent-back (a .number) ≡ false) (one-delivery (takes-in st s l z (x .short) (x .fits)) p .0)
+    (early-kept (heard st s .refusal) (early-refusal (resumed st) s (inl refl)))
+
+ended-kept : {st : Stream} {s : List ℕ} {l l′ : Lists} {o : Streamed} → st .ended ≡ true → TookDelivery st s l o l′ →
+    sent-back (o .number) ≡ false
+ended-kept z p = subst (λ (a : Streamed). sent-back (a .number) ≡ false) (one-delivery (comes-exactly .1 (ended-before z)) p .0) refl
+
 module _ {st : Stream} {v w : List ℕ} {l l′ k₁ k₁′ k₂ k₂′ : Lists} {o o₁ o₂ : Streamed} (p : TookDelivery st (v ++ w) l o l′)
     (p₁ : TookDelivery st v k₁ o₁ k₁′) (p₂ : TookDelivery (o₁ .stream) w k₂ o₂ k₂′) where
   ended-alike : st .ended ≡ true → CutAlike o l′ o₁ k₁′ o₂ k₂′
@@ -131,21 +139,16 @@ module _ {st : Stream} {v w : List ℕ} {l l′ k₁ k₁′ k₂ k₂′ : List
       let e₂ = one-delivery (comes-exactly .1 (ended-before z)) next in
       alike-too e e₁ e₂ (all-barred st l k₁ k₂)
 
-  -- the whole is read, and so is the first part
-  module _ (z : st .ended ≡ false) (x : Read st (v ++ w) l) (r₁ : length (heard st (v ++ w) .got) ≤ size k₁)
-      (r₂ : length (heard st (v ++ w) .got) ≤ size k₂) where
+  -- a stream that goes on: each of the three is read, but the second part not behind a bad record in the first
+  module _ (z : st .ended ≡ false) (x : Read st (v ++ w) l) (y : Read st v k₁) where
     whole-told : (told (heard st (v ++ w)) ≡ o) × (with-entries (heard st (v ++ w) .got) l ≡ l′)
     whole-told = one-delivery (takes-in st (v ++ w) l z (x .short) (x .fits)) p
 
     first-told : (told (heard st v) ≡ o₁) × (with-entries (heard st v .got) k₁ ≡ k₁′)
-    first-told =
-        let n = length-append v w in
-        let fewer : length (heard st v .got) ≤ length (heard st (v ++ w) .got) =
-        rw (feeds-joined (resumed st) v w) (only-adds (heard st v) w) in
-        one-delivery (takes-in st v k₁ z (omega (arith, x .short)) (omega arith)) p₁
+    first-told = one-delivery (takes-in st v k₁ z (y .short) (y .fits)) p₁
 
     then-second : TookDelivery (standing (heard st v)) w k₂ o₂ k₂′
-    then-second = subst (λ (y : Stream). TookDelivery y w k₂ o₂ k₂′) (sym (ap (λ (y : Streamed). y .stream) (first-told .0))) p₂
+    then-second = subst (λ (a : Stream). TookDelivery a w k₂ o₂ k₂′) (sym (ap (λ (a : Streamed). a .stream) (first-told .0))) p₂
 
     bad-first : heard st v .refusal ≢ 0 → CutAlike o l′ o₁ k₁′ o₂ k₂′
     bad-first d =
@@ -153,28 +156,57 @@ module _ {st : Stream} {v w : List ℕ} {l l′ k₁ k₁′ k₂ k₂′ : List
         (one-delivery (comes-exactly .1 (ended-before (ended-if-bad (heard st v) d))) then-second)
         (stops-in-the-first st v w d l k₁ k₂)
 
-    good-first : heard st v .refusal ≡ 0 → CutAlike o l′ o₁ k₁′ o₂ k₂′
-    good-first g =
-        let n = length-append v w in
-        let reached = goes-further (resumed st) v .all g in
-        let more : length (heard st (v ++ w) .got) ≡ length (heard st v .got ++ heard (standing (heard st v)) w .got) =
-        ap (λ (r : Reading). length (r .got)) (feeds-joined (resumed st) v w ∙ resumes (heard st v) w g) in
-        let m = length-append (heard st v .got) (heard (standing (heard st v)) w .got) in
+    good-first : sent-back (o₂ .number) ≡ false → heard st v .refusal ≡ 0 → CutAlike o l′ o₁ k₁′ o₂ k₂′
+    good-first b g =
+        let still = open-if-good (heard st v) g in
+        let second = is-read still b (comes-exactly .0 then-second) in
         alike-too whole-told first-told
-        (one-delivery
-        (takes-in (standing (heard st v)) w k₂ (open-if-good (heard st v) g) (omega (arith, x .short)) (omega arith))
-        then-second)
+        (one-delivery (takes-in (standing (heard st v)) w k₂ still (second .short) (second .fits)) then-second)
         (goes-on-in-the-second st v w g l k₁ k₂)
 
-    read-alike : CutAlike o l′ o₁ k₁′ o₂ k₂′
-    read-alike = ⊎-elim good-first bad-first (same-or-not (heard st v .refusal) 0)
+    -- the second part is not sent back, if its lists have room for all that the whole handed out
+    second-kept : length (heard st (v ++ w) .got) ≤ size k₂ → sent-back (o₂ .number) ≡ false
+    second-kept room = ⊎-elim good bad (same-or-not (heard st v .refusal) 0)
+      where
+        bad : heard st v .refusal ≢ 0 → sent-back (o₂ .number) ≡ false
+        bad d = ended-kept (ended-if-bad (heard st v) d) then-second
 
-  -- Cutting a delivery in two changes nothing, unless it is sent back.
-  pub cut-in-two : sent-back (o .number) ≡ false → o .count ≤ size k₁ → o .count ≤ size k₂ → CutAlike o l′ o₁ k₁′ o₂ k₂′
-  cut-in-two b r₁ r₂ = ⊎-elim ended-alike going (either-way (st .ended))
+        good : heard st v .refusal ≡ 0 → sent-back (o₂ .number) ≡ false
+        good g =
+            let n = length-append v w in
+            let reached = goes-further (resumed st) v .all g in
+            let more : length (heard st (v ++ w) .got) ≡ length (heard st v .got ++ heard (standing (heard st v)) w .got) =
+            ap (λ (r : Reading). length (r .got)) (feeds-joined (resumed st) v w ∙ resumes (heard st v) w g) in
+            let m = length-append (heard st v .got) (heard (standing (heard st v)) w .got) in
+            read-kept (open-if-good (heard st v) g) (record { short = omega (arith, x .short); fits = omega arith }) then-second
+
+  -- Cutting a delivery in two changes nothing, if neither it nor a part of it is sent back.
+  pub cut-in-two : sent-back (o .number) ≡ false → sent-back (o₁ .number) ≡ false → sent-back (o₂ .number) ≡ false →
+      CutAlike o l′ o₁ k₁′ o₂ k₂′
+  cut-in-two b b₁ b₂ = ⊎-elim ended-alike going (either-way (st .ended))
     where
       going : st .ended ≡ false → CutAlike o l′ o₁ k₁′ o₂ k₂′
       going z =
           let x = is-read z b (comes-exactly .0 p) in
-          let n = ap (λ (y : Streamed). y .count) (one-delivery (takes-in st (v ++ w) l z (x .short) (x .fits)) p .0) in
-          read-alike z x (omega arith) (omega arith)
+          let y = is-read z b₁ (comes-exactly .0 p₁) in
+          ⊎-elim (good-first z x y b₂) (bad-first z x y) (same-or-not (heard st v .refusal) 0)
+
+  -- And no part is, if the whole is not and each part's lists have room for all that it handed out.
+  pub parts-join : sent-back (o .number) ≡ false → o .count ≤ size k₁ → o .count ≤ size k₂ →
+      (sent-back (o₁ .number) ≡ false) × (sent-back (o₂ .number) ≡ false)
+  parts-join b r₁ r₂ = ⊎-elim over going (either-way (st .ended))
+    where
+      over : st .ended ≡ true → (sent-back (o₁ .number) ≡ false) × (sent-back (o₂ .number) ≡ false)
+      over z =
+          let same = ap (λ (a : Streamed). a .stream) (one-delivery (comes-exactly .1 (ended-before z)) p₁ .0) in
+          (ended-kept z p₁, ended-kept z (subst (λ (a : Stream). TookDelivery a w k₂ o₂ k₂′) (sym same) p₂))
+
+      going : st .ended ≡ false → (sent-back (o₁ .number) ≡ false) × (sent-back (o₂ .number) ≡ false)
+      going z =
+          let x = is-read z b (comes-exactly .0 p) in
+          let n = length-append v w in
+          let count = ap (λ (a : Streamed). a .count) (one-delivery (takes-in st (v ++ w) l z (x .short) (x .fits)) p .0) in
+          let fewer : length (heard st v .got) ≤ length (heard st (v ++ w) .got) =
+          rw (feeds-joined (resumed st) v w) (only-adds (heard st v) w) in
+          let y : Read st v k₁ = record { short = omega (arith, x .short); fits = omega arith } in
+          (read-kept z y p₁, second-kept z x y (omega arith))

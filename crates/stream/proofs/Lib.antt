@@ -8,6 +8,7 @@ pub mod Refused
 pub mod AfterTheEnd
 pub mod CutInTwo
 -- ---- a whole stream
+pub mod AnyDeliveries
 pub mod OneTurn
 pub mod OffTheLine
 pub mod AsTheReader

@@ -3,7 +3,11 @@
 -- that are joined so far, and each delivery joins its own.
 use Prim.Native.Nat.{ℕ}
 use mathlib.Core.Path.{_≡_, refl, sym, ap, _∙_, subst}
+use mathlib.Core.Bool.{Bool, cond}
 use mathlib.Core.List.{List, [], _∷_, _++_, append-assoc, append-nil}
+use mathlib.Core.Logic.{⊎-elim}
+use borrow.Author.Tests.{ne-eqb}
+use Rattle.words.proofs.Choices.{same-or-not}
 use Rattle.transcript_bytes.specs.Reading.{feeds, entries-read}
 use Rattle.transcript_bytes.specs.declared.Entry.{Entry}
 use Rattle.stream.specs.InPlainWords.{Came, handed, Turn, Took, none, and-then, kept, joined, handed-out, answers-of, verdict-of, read-verdict}
@@ -13,7 +17,7 @@ use Rattle.stream.specs.declared.Streamed.{Streamed}
 use Rattle.stream.proofs.OneTurn.{read, stands-for, so-far, OneTurn, one-turn}
 use Rattle.stream.proofs.Outcomes.{comes-exactly}
 use Rattle.stream.proofs.TheEnd.{end-tells}
-use Rattle.stream.proofs.Told.{or-else}
+use Rattle.stream.proofs.Told.{verdict, or-else}
 
 -- ---- deliveries one after another, behind the bytes w
 pub record Follows (w : List ℕ) (ts : List Turn) (st′ : Stream) : Type 0 where
@@ -57,6 +61,14 @@ follows w (t ∷ ts) {st} e (and-then p q) =
 
 -- ---- from a fresh start
 
+-- a verdict with nothing after it
+nothing-later : (n from : ℕ) → or-else (verdict n from) (verdict 0 0) ≡ verdict n from
+nothing-later n from =
+    ⊎-elim
+    (λ z. subst (λ (k : ℕ). or-else (verdict k from) (verdict 0 0) ≡ verdict k from) {x = 0} (sym z) refl)
+    (λ d. ap (λ (b : Bool). cond b (verdict 0 0) (verdict n from)) (ne-eqb n 0 d))
+    (same-or-not n 0)
+
 module _ {ts : List Turn} {st : Stream} (p : Took fresh-stream ts st) where
   off : Follows [] ts st
   unfolding feeds
@@ -78,3 +90,21 @@ module _ {ts : List Turn} {st : Stream} (p : Took fresh-stream ts st) where
       off .refusal _ ∙
       ap (λ (o : Streamed). or-else (so-far (joined ts)) (verdict-of (o ∷ []))) (q ∙ ap end-answer stands) ∙
       end-tells (read (joined ts))
+
+  -- A record that turns out to be bad is told by the delivery that shows it, and not later.
+  pub told-at-once : verdict-of (answers-of ts) ≡ so-far (joined ts)
+  unfolding feeds verdict-of
+  told-at-once =
+      ap verdict-of (sym (append-nil (answers-of ts))) ∙
+      off .refusal [] ∙
+      nothing-later (read (joined ts) .refusal) (read (joined ts) .from)
+
+-- Deliveries that join to the same bytes come to the same, however they are cut.
+pub cuts-agree : {ts ts′ : List Turn} {st st′ : Stream} → Took fresh-stream ts st → Took fresh-stream ts′ st′ → joined ts ≡ joined ts′ →
+    (handed-out ts ≡ handed-out ts′) × (st ≡ st′)
+    × (verdict-of (answers-of ts ++ (end-answer st ∷ [])) ≡ verdict-of (answers-of ts′ ++ (end-answer st′ ∷ [])))
+cuts-agree p q e = (
+  hands-out p ∙ ap entries-read e ∙ sym (hands-out q),
+  stands p ∙ ap stands-for e ∙ sym (stands q),
+  final-refusal p refl ∙ ap read-verdict e ∙ sym (final-refusal q refl),
+)

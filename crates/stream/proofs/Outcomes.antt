@@ -1,8 +1,8 @@
 -- Demand 1 for a delivery, whatever the stream: what it comes to, each answer when and only then (`Came`).
 use Prim.Native.Nat.{ℕ, _+_, _≤_}
 use native.Mathlib.Omega.{arith}
-use mathlib.Core.Path.{_≡_, refl, sym, ap, _∙_, subst}
-use mathlib.Core.Bool.{Bool, true, false, cond, not}
+use mathlib.Core.Path.{_≡_, refl, sym, ap, subst}
+use mathlib.Core.Bool.{true, false}
 use mathlib.Core.List.{List}
 use mathlib.Core.Logic.{_↔_, ⊎-elim, inl, inr}
 use lib.Dec.{eqb}
@@ -12,29 +12,24 @@ use Rattle.words.proofs.Choices.{either-way, less-or-not}
 use Rattle.transcript_bytes.specs.Lists.{Lists, size, with-entries}
 use Rattle.transcript_bytes.proofs.HowFar.{EarlyRefusal, early-refusal, goes-further}
 use Rattle.stream.specs.InPlainWords.{answer, after, Came, ended-before, too-long, too-small, taken-in, then-bad}
-use Rattle.stream.specs.Stream.{resumed, heard, barred, told, delivery-answer, lists-after, TookDelivery}
+use Rattle.stream.specs.Stream.{resumed, heard, barred, told-as, told, delivery-answer, lists-after, TookDelivery}
 use Rattle.stream.specs.declared.Stream.{Stream}
 use Rattle.stream.specs.declared.Streamed.{Streamed}
 use Rattle.stream.proofs.One.{one-delivery}
+
+-- a refusal is not 0
+not-none : (n : ℕ) → 21 ≤ n → eqb n 0 ≡ false
+not-none n h = ne-eqb n 0 (λ z. omega arith)
 
 module _ (st : Stream) (s : List ℕ) where
   -- ---- what is told of a delivery that is looked through
 
   pub told-good : heard st s .refusal ≡ 0 → told (heard st s) ≡ answer 0 (length (heard st s .got)) 0 (after st s false)
-  told-good z =
-      ap
-      (λ (k : ℕ). answer k (length (heard st s .got)) (cond (eqb k 0) 0 (heard st s .from)) (after st s (not (eqb k 0))))
-      z
+  told-good z = ap (λ (k : ℕ). told-as k (heard st s)) z
 
   pub told-bad : {n : ℕ} → heard st s .refusal ≡ n → 21 ≤ n →
       told (heard st s) ≡ answer n (length (heard st s .got)) (heard st s .from) (after st s true)
-  told-bad {n} e h =
-      ap
-      (λ (k : ℕ). answer k (length (heard st s .got)) (cond (eqb k 0) 0 (heard st s .from)) (after st s (not (eqb k 0))))
-      e
-      ∙ ap
-      (λ (t : Bool). answer n (length (heard st s .got)) (cond t 0 (heard st s .from)) (after st s (not t)))
-      (ne-eqb n 0 (λ z. omega arith))
+  told-bad {n} e h = rw (e, not-none n h)
 
   module _ (l : Lists) where
     -- ---- by the bar
@@ -60,10 +55,10 @@ module _ (st : Stream) (s : List ℕ) where
     -- ---- each row of the table decides the outcome
     row-holds : {o : Streamed} {l′ : Lists} → Came st s l o l′ → TookDelivery st s l o l′
     unfolding barred
-    row-holds (ended-before z) = barred-by 25 refl (rw z)
-    row-holds (too-long z h) = barred-by 26 refl (rw (z, lt-ltb 4294967295 (st .taken + length s) h))
+    row-holds (ended-before z) = barred-by _ refl (rw z)
+    row-holds (too-long z h) = barred-by _ refl (rw (z, lt-ltb 4294967295 (st .taken + length s) h))
     row-holds (too-small z h k) =
-        barred-by 24 refl
+        barred-by _ refl
         (rw (z, le-ltb 4294967295 (st .taken + length s) h, lt-ltb (size l) (length (heard st s .got)) k))
     row-holds (taken-in z h k e) = not-barred (passes z h k) (told-good e)
     row-holds (then-bad z h k e i j) = not-barred (passes z h k) (told-bad e i)

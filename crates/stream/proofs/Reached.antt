@@ -8,7 +8,7 @@ use mathlib.Core.Path.{_≡_, refl, sym, ap, _∙_, subst}
 use mathlib.Core.Bool.{Bool, false, cond, true≢false}
 use mathlib.Core.List.{List, [], _++_}
 use mathlib.Core.Logic.{_↔_, inr}
-use lib.ListN.{length, length-append, replicate, length-replicate}
+use lib.ListN.{length, length-append}
 use Rattle.words.specs.Bytes.{AreBytes}
 use Rattle.transcript_bytes.specs.Lists.{Lists, lists, size}
 use Rattle.transcript_bytes.specs.Reading.{start, feeds}
@@ -22,6 +22,7 @@ use Rattle.stream.specs.Stream.{fresh-stream, closed, delivery-answer, l
 use Rattle.stream.specs.declared.Stream.{Stream}
 use Rattle.stream.specs.declared.Streamed.{Streamed}
 use Rattle.stream.proofs.AfterTheEnd.{delivery-after, end-after}
+use Rattle.stream.proofs.AnyDeliveries.{spare, spare-size}
 use Rattle.stream.proofs.HoweverCut.{not-sent-back}
 use Rattle.stream.proofs.OneTurn.{read, stands-for, one-turn}
 use Rattle.stream.proofs.OpenStreams.{stands-open, opens}
@@ -74,15 +75,11 @@ stands-if-reached (by-end st r) = after-end (stands-if-reached r)
 
 -- ---- and to each of them there is a way
 
--- lists for so many entries
-abbrev spare : ℕ → Lists
-spare n = lists (replicate n 0) (replicate n 0) (replicate n 0) (replicate n 0)
-
 reaches : (s : List ℕ) → AreBytes s → length s ≤ 4294967295 → Reached (stands-for s)
 unfolding feeds
 reaches s b h =
     let l = spare (length s) in
-    let n : length {A = ℕ} (replicate (length s) 0) ≡ length s = length-replicate (length s) 0 in
+    let n = spare-size (length s) in
     let p : TookDelivery fresh-stream s l (delivery-answer fresh-stream s (size l)) (lists-after fresh-stream s l) =
     record { answer = refl; lists = refl } in
     subst Reached
@@ -106,6 +103,10 @@ reached-if-stands (and-ended s b h) = subst Reached (ends-closed (stands-for s))
 -- Calls come from a fresh start exactly to the streams that stand for some bytes.
 pub reached-exactly : (st : Stream) → Reached st ↔ StandsForBytes st
 reached-exactly st = (stands-if-reached, reached-if-stands)
+
+-- So the end of whatever some bytes come to is reached.
+pub reached-ended : (s : List ℕ) → AreBytes s → length s ≤ 4294967295 → Reached (closed (stands-for s))
+reached-ended s b h = reached-exactly (closed (stands-for s)) .1 (and-ended s b h)
 
 -- ---- the open ones
 

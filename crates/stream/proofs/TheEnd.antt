@@ -53,6 +53,15 @@ module _ (st : Stream) where
       let x = some-row in
       (λ e. subst (EndCame st) (sym (row-holds (x .1)) ∙ sym e) (x .1), λ c. sym (row-holds c))
 
+  -- Its number is 0, 20 or 25.
+  pub end-numbers : {o : Streamed} → o ≡ end-answer st → (o .number ≡ 0) ⊎ ((o .number ≡ 20) ⊎ (o .number ≡ 25))
+  end-numbers e = by-row (ends-exactly .0 e)
+    where
+      by-row : {o : Streamed} → EndCame st o → (o .number ≡ 0) ⊎ ((o .number ≡ 20) ⊎ (o .number ≡ 25))
+      by-row (already-ended z) = inr (inr refl)
+      by-row (nothing-missing z e) = inl refl
+      by-row (number-missing z e) = inr (inl refl)
+
 -- ---- the verdict
 
 -- the end's own number is the verdict

@@ -1,4 +1,5 @@
--- The reader of deliveries in plain words: what the laws say of it. Document 02, request (vii).
+-- The reader of deliveries in plain words: what the laws say of it. Document 02, request (vii). Answers and ended streams are made here anew
+-- (`answer`, `shut`), so that a lie about those of the definitions is seen.
 --   answer n count place st   an answer, by its parts
 --   after st s b              the stream when a delivery is read, ended or not
 --   Came st s l o l′          what a delivery comes to, whatever the stream: each answer, when and only then, and the lists
@@ -6,6 +7,7 @@
 --   shut st                   the stream when the sender has said that nothing follows
 --   EndCame st o              what the end comes to, whatever the stream: each answer, when and only then
 --   Turn, Took                a delivery as it was made, with what came of it; deliveries one after another
+--   Delivery, made t          a delivery without what came of it; that of a turn
 --   sent-back n               24 or 26: the delivery is no part of the stream, and may be sent again
 --   kept o s                  the bytes of a delivery, or none if it was sent back
 --   joined ts                 the bytes of a stream: all that was delivered, but what was sent back
@@ -83,6 +85,14 @@ pub data Took : Stream → List Turn → Stream → Type 0 where
   and-then : {st st′ : Stream} {t : Turn} {ts : List Turn} → TookDelivery st (t .bytes) (t .lent) (t .answer) (t .left) →
       Took (t .answer .stream) ts st′ → Took st (t ∷ ts) st′
 
+-- what was delivered, and with which lists
+pub record Delivery : Type 0 where
+  pub bytes : List ℕ
+  pub lent : Lists
+
+abbrev pub made : Turn → Delivery
+made t = record { bytes = t .bytes; lent = t .lent }
+
 abbrev pub sent-back : ℕ → Bool
 sent-back n = eqb n 24 || eqb n 26
 
@@ -115,13 +125,11 @@ unfoldable pub verdict-of : List Streamed → Verdict
 verdict-of [] = record { number = 0; place = 0 }
 verdict-of (o ∷ rest) = cond (of-a-record (o .number)) (record { number = o .number; place = o .place }) (verdict-of rest)
 
--- a delivery, with its answer and its lists, and its two parts: what they hand out, the stream afterwards, the refusal that is told, and that
--- neither is sent back
+-- a delivery, with its answer and its lists, and its two parts: the stream afterwards, what they hand out, and the refusal that is told
 pub record CutAlike (o : Streamed) (l′ : Lists) (o₁ : Streamed) (k₁′ : Lists) (o₂ : Streamed) (k₂′ : Lists) : Type 0 where
   pub stream : o₂ .stream ≡ o .stream
   pub entries : handed o₁ k₁′ ++ handed o₂ k₂′ ≡ handed o l′
   pub refusal : verdict-of (o₁ ∷ o₂ ∷ []) ≡ verdict-of (o ∷ [])
-  pub both-join : (sent-back (o₁ .number) ≡ false) × (sent-back (o₂ .number) ≡ false)
 
 -- ---- what the joined bytes hold, by the reader of request (ii), and record by record
 

@@ -5,9 +5,9 @@
 --   OpenAt t u st      the open stream st has read t, which is good records, and u, which is what there is of the next one
 --   Behind w           w is nothing, or begins with a record that is not whole, or with a bad one
 --   Divides u s v w es   the begun record u and the delivery s together are the good records v, those of the entries es, and w behind them
---   AnsweredAs         what a delivery to an open stream answers and hands out: each answer, when and only then
+--   AnsweredAs t u s room n es p   a delivery to an open stream answers n and p and hands out es: each answer, when and only then
 --   Says o l′ n es p   an answer and its lists say the number n, the entries es and the place p
---   EndedAs            what the end of an open stream answers, likewise
+--   EndedAs t u n p    the end of an open stream answers n and p, likewise
 use Prim.Native.Nat.{ℕ, _+_, _<_, _≤_}
 use mathlib.Core.Path.{_≡_}
 use mathlib.Core.Bool.{false}

@@ -2,12 +2,12 @@
 --   fresh-stream               before the first byte: a fresh start
 --   resumed st                 the reader of request (ii), byte by byte, where the stream st stands
 --   heard st s                 it, when the delivery s is read on from there
---   standing r                 the stream that a reading has come to
 --   closed st                  the stream when the sender has said that nothing follows
 --   barred st s room           25, 26 or 24, where one of them refuses a delivery, lent lists for so many entries; else 0
 --   streamed n count place st  an answer, by its parts
 --   place-of n from            the place that a refusal names; without one 0
---   told r                     what is answered of a delivery that has come to the reading r
+--   standing-as n r, standing r   the stream that a reading has come to, refused with n; with its own refusal
+--   told-as n r, told r        what is answered of a delivery that has come to the reading r, refused with n; with its own refusal
 --   delivery-answer st s room  what a delivery answers
 --   lists-after st s l         the lists given with it, afterwards
 --   end-told st                what is answered when the sender says that nothing follows
@@ -35,10 +35,6 @@ resumed st = at [] (st .from) (st .taken) (st .part) 0
 abbrev pub heard : Stream → List ℕ → Reading
 heard st s = feeds (resumed st) s
 
--- "after it .., more bytes are refused": a bad record ends the stream
-abbrev pub standing : Reading → Stream
-standing r = record { part = r .part; from = r .from; taken = r .next; ended = not (eqb (r .refusal) 0) }
-
 -- "or that end"
 abbrev pub closed : Stream → Stream
 closed st = record { part = st .part; from = st .from; taken = st .taken; ended = true }
@@ -59,9 +55,19 @@ streamed n count place st = record { number = n; count = count; place = place; s
 abbrev pub place-of : ℕ → ℕ → ℕ
 place-of n from = cond (eqb n 0) 0 from
 
+-- "after it .., more bytes are refused": a bad record ends the stream
+abbrev pub standing-as : ℕ → Reading → Stream
+standing-as n r = record { part = r .part; from = r .from; taken = r .next; ended = not (eqb n 0) }
+
+abbrev pub standing : Reading → Stream
+standing r = standing-as (r .refusal) r
+
 -- "A refusal 20 to 23 still hands out the good records before it"
+abbrev pub told-as : ℕ → Reading → Streamed
+told-as n r = streamed n (length (r .got)) (place-of n (r .from)) (standing-as n r)
+
 abbrev pub told : Reading → Streamed
-told r = streamed (r .refusal) (length (r .got)) (place-of (r .refusal) (r .from)) (standing r)
+told r = told-as (r .refusal) r
 
 -- a delivery that is refused with 25, 26 or 24 "changes nothing"
 unfoldable pub delivery-answer : Stream → List ℕ → ℕ → Streamed

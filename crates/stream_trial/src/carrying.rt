@@ -25,11 +25,19 @@ pub(crate) struct Left {
     pub words: [u32; 6],
 }
 
-// A fresh start, as if so many bytes had come already.
+// A fresh start; with a number above 0, as if so many bytes had come already.
 fn start_from(n: u32) -> Streamed
     ensures { λ o. ⌜ o ≡ streamed 0 0 0 (started-at n) ⌝ }
 {
     let fresh = start_stream();
+    if n == 0 {
+        return Streamed {
+            number: 0,
+            count: 0,
+            place: 0,
+            stream: fresh,
+        };
+    }
     let part = fresh.part;
     Streamed {
         number: 0,
@@ -39,7 +47,7 @@ fn start_from(n: u32) -> Streamed
             part,
             from: n,
             taken: n,
-            ended: false,
+            ended: fresh.ended,
         },
     }
 }
