@@ -3,23 +3,22 @@
 use Prim.Native.Nat.{ℕ, _+_, _≤_}
 use native.Mathlib.Omega.{arith}
 use mathlib.Core.Path.{_≡_, refl, sym, ap, _∙_, subst}
-use mathlib.Core.Bool.{Bool, cond}
+use mathlib.Core.Bool.{cond}
 use mathlib.Core.List.{List, [], _++_, append-nil, append-assoc}
 use mathlib.Core.Logic.{_↔_, _≢_, inl, inr, ⊎-elim}
 use lib.ListN.{length, length-append}
-use borrow.Author.Tests.{ne-eqb}
 use Rattle.words.proofs.Choices.{less-or-not, same-or-not}
 use Rattle.transcript_bytes.specs.InPlainWords.{nothing, BadRecord}
 use Rattle.transcript_bytes.specs.Lists.{Lists, size}
 use Rattle.transcript_bytes.specs.Reading.{Reading, start, feeds, cut-off, ended}
 use Rattle.transcript_bytes.specs.declared.Entry.{Entry}
 use Rattle.transcript_bytes.proofs.Divided.{Divided, all-good, then-bad, divided, sound-joined}
-use Rattle.transcript_bytes.proofs.HowFar.{EarlyRefusal, early-refusal}
+use Rattle.transcript_bytes.proofs.HowFar.{EarlyRefusal, early-refusal, ends-bad}
 use Rattle.transcript_bytes.proofs.ReadExactly.{reads-bad}
 use Rattle.transcript_bytes.proofs.ThroughRecords.{bad-record-number}
 use Rattle.stream.specs.InPlainWords.{answer, Came, handed, EndCame, shut, sent-back}
 use Rattle.stream.specs.InPlainWords as came
-use Rattle.stream.specs.OpenStreams.{Begun, between, within, OpenAt, Behind, Divides, AnsweredAs, Says, EndedAs}
+use Rattle.stream.specs.OpenStreams.{Begun, between, within, OpenAt, Behind, Divides, AnsweredAs, AnswerSays, EndedAs}
 use Rattle.stream.specs.OpenStreams as plain
 use Rattle.stream.specs.Stream.{heard, end-answer, TookDelivery}
 use Rattle.stream.specs.declared.Stream.{Stream}
@@ -36,8 +35,7 @@ bad-read : (r : Reading) (n : ℕ) → EarlyRefusal (r .refusal) → ended r ≡
     (r .refusal ≡ n) × (21 ≤ n) × (n ≤ 23)
 bad-read r n (inl z) e d c = absurd (c (cut-at-end r n z e d))
 bad-read r n (inr h) e d c =
-    let judged = ne-eqb (r .refusal) 0 (λ z. omega (arith, h .0, z)) in
-    let k : r .refusal ≡ n = sym (ap (λ (b : Bool). cond b (cut-off (r .part)) (r .refusal)) judged) ∙ e in
+    let k = sym (ends-bad r (λ z. omega (arith, h .0, z))) ∙ e in
     (k, omega (arith, h .0, k), omega (arith, h .1, k))
 
 module _ {t u : List ℕ} {st : Stream} (a : OpenAt t u st) (s : List ℕ) where
@@ -77,18 +75,18 @@ module _ {t u : List ℕ} {st : Stream} (a : OpenAt t u st) (s : List ℕ) where
 
   -- ---- each row decides the answer
   module _ {l l′ : Lists} {o : Streamed} (p : TookDelivery st s l o l′) where
-    says-by : {b : Streamed} {k : Lists} {n place : ℕ} {es : List Entry} → Came st s l b k → Says b k n es place → Says o l′ n es place
+    says-by : {b : Streamed} {k : Lists} {n place : ℕ} {es : List Entry} → Came st s l b k → AnswerSays b k n es place → AnswerSays o l′ n es place
     says-by {b} {k} {n} {place} {es} c x =
         let same = one-delivery (comes-exactly .1 c) p in
-        subst (λ (y : Lists). Says o y n es place) (same .1) (subst (λ (y : Streamed). Says y k n es place) (same .0) x)
+        subst (λ (y : Lists). AnswerSays o y n es place) (same .1) (subst (λ (y : Streamed). AnswerSays y k n es place) (same .0) x)
 
     short : length (t ++ u) + length s ≤ 4294967295 → st .taken + length s ≤ 4294967295
     short h = omega (arith, a .taken)
 
-    refused : (n : ℕ) → Says (answer n 0 0 st) l n [] 0
+    refused : (n : ℕ) → AnswerSays (answer n 0 0 st) l n [] 0
     refused n = record { number = refl; entries = handed-none n 0 st l; place-told = refl }
 
-    row-says : {n place : ℕ} {es : List Entry} → AnsweredAs t u s (size l) n es place → Says o l′ n es place
+    row-says : {n place : ℕ} {es : List Entry} → AnsweredAs t u s (size l) n es place → AnswerSays o l′ n es place
     row-says (plain.AnsweredAs.too-long h) = says-by (came.Came.too-long (a .goes-on) (omega (arith, a .taken))) (refused _)
     row-says (plain.AnsweredAs.too-small {es = es} h d b k) =
         let n = ap length (entries-of d b) in
@@ -136,7 +134,7 @@ module _ {t u : List ℕ} {st : Stream} (a : OpenAt t u st) (s : List ℕ) where
             ⊎-elim (λ z. whole h d (within (subst (BadRecord w) z b))) (λ c. broken h d b c) (same-or-not n 20)
 
     -- The answer says this exactly if the begun record and the delivery together do.
-    pub answers-exactly : (n : ℕ) (es : List Entry) (place : ℕ) → Says o l′ n es place ↔ AnsweredAs t u s (size l) n es place
+    pub answers-exactly : (n : ℕ) (es : List Entry) (place : ℕ) → AnswerSays o l′ n es place ↔ AnsweredAs t u s (size l) n es place
     answers-exactly n es place = (
       λ z.
           let x = some-row in

@@ -8,14 +8,13 @@ use mathlib.Core.List.{List, [], _++_, append-nil}
 use mathlib.Core.Logic.{_≢_, inl, inr, ⊎-elim}
 use lib.Dec.{eqb}
 use lib.ListN.{length, length-append}
-use borrow.Author.Tests.{eq-eqb, ne-eqb}
 use Rattle.transcript_bytes.specs.InPlainWords.{Sound, nothing, BadRecord}
 use Rattle.transcript_bytes.specs.Reading.{fresh, Reading, at, start, feeds, cut-off, ended}
 use Rattle.transcript_bytes.specs.declared.Entry.{Entry}
 use Rattle.transcript_bytes.specs.declared.Part.{Part}
 use Rattle.transcript_bytes.proofs.Divided.{Divided, all-good, then-bad, divided}
 use Rattle.transcript_bytes.proofs.Elsewhere.{elsewhere, feeds-joined, reads-elsewhere}
-use Rattle.transcript_bytes.proofs.HowFar.{EarlyRefusal, early-refusal, goes-further}
+use Rattle.transcript_bytes.proofs.HowFar.{EarlyRefusal, early-refusal, goes-further, ends-good, ends-bad}
 use Rattle.transcript_bytes.proofs.ReadExactly.{reads-sound, reads-bad}
 use Rattle.transcript_bytes.proofs.ThroughRecords.{between, adds-entries}
 use Rattle.stream.specs.OpenStreams.{Begun, within, OpenAt}
@@ -30,16 +29,15 @@ use Rattle.stream.proofs.TheEnd.{zero-or-20}
 
 -- A string that is refused with 20 at its end is not refused before.
 pub not-refused : (r : Reading) → EarlyRefusal (r .refusal) → ended r ≡ 20 → (r .refusal ≡ 0) × (cut-off (r .part) ≡ 20)
-not-refused r (inl z) e = (z, sym (ap (λ (b : Bool). cond b (cut-off (r .part)) (r .refusal)) (eq-eqb (r .refusal) 0 z)) ∙ e)
+not-refused r (inl z) e = (z, sym (ends-good r z) ∙ e)
 not-refused r (inr h) e =
-    let n : r .refusal ≡ 20 =
-    sym (ap (λ (b : Bool). cond b (cut-off (r .part)) (r .refusal)) (ne-eqb (r .refusal) 0 (λ z. omega (arith, h .0, z)))) ∙ e in
+    let n = sym (ends-bad r (λ z. omega (arith, h .0, z))) ∙ e in
     absurd (omega (arith, h .0, n))
 
 -- One that is not refused before its end is refused with 20 there, if at all.
 pub cut-at-end : (r : Reading) (n : ℕ) → r .refusal ≡ 0 → ended r ≡ n → n ≢ 0 → n ≡ 20
 cut-at-end r n z e d =
-    let c : cut-off (r .part) ≡ n = sym (ap (λ (b : Bool). cond b (cut-off (r .part)) (r .refusal)) (eq-eqb (r .refusal) 0 z)) ∙ e in
+    let c = sym (ends-good r z) ∙ e in
     ⊎-elim (λ q. absurd (d (sym c ∙ q))) (λ q. sym c ∙ q) (zero-or-20 (r .part))
 
 -- good records, and what there is of the next one

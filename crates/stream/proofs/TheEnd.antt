@@ -10,6 +10,7 @@ use Rattle.words.proofs.Choices.{either-way, same-or-not}
 use Rattle.transcript_bytes.specs.Reading.{Reading, cut-off, ended}
 use Rattle.transcript_bytes.specs.declared.Part.{Part}
 use Rattle.transcript_bytes.specs.declared.Part.the-variants.{Head, Word}
+use Rattle.transcript_bytes.proofs.HowFar.{ends-good, ends-bad}
 use Rattle.stream.specs.InPlainWords.{answer, shut, EndCame, already-ended, nothing-missing, number-missing, verdict-of}
 use Rattle.stream.specs.Stream.{streamed, standing, place-of, end-told, end-answer}
 use Rattle.stream.specs.declared.Stream.{Stream}
@@ -82,14 +83,12 @@ end-tells r = ⊎-elim good bad (same-or-not (r .refusal) 0)
   where
     good : r .refusal ≡ 0 → Tells r
     good z =
-        let t = eq-eqb (r .refusal) 0 z in
-        ap (λ (b : Bool). cond b (verdict-of (end-answer (standing r) ∷ [])) (verdict (r .refusal) (r .from))) t ∙
+        ap (λ (b : Bool). cond b (verdict-of (end-answer (standing r) ∷ [])) (verdict (r .refusal) (r .from))) (eq-eqb (r .refusal) 0 z) ∙
         ap (λ (o : Streamed). verdict-of (o ∷ [])) (ends-by (standing r) (open-if-good r z)) ∙
         told-alone (standing r) (cut-off (r .part)) (zero-or-20 (r .part)) ∙
-        ap (λ (b : Bool). verdict (cond b (cut-off (r .part)) (r .refusal)) (r .from)) (sym t)
+        ap (λ (n : ℕ). verdict n (r .from)) (sym (ends-good r z))
 
     bad : r .refusal ≢ 0 → Tells r
     bad d =
-        let t = ne-eqb (r .refusal) 0 d in
-        ap (λ (b : Bool). cond b (verdict-of (end-answer (standing r) ∷ [])) (verdict (r .refusal) (r .from))) t ∙
-        ap (λ (b : Bool). verdict (cond b (cut-off (r .part)) (r .refusal)) (r .from)) (sym t)
+        ap (λ (b : Bool). cond b (verdict-of (end-answer (standing r) ∷ [])) (verdict (r .refusal) (r .from))) (ne-eqb (r .refusal) 0 d) ∙
+        ap (λ (n : ℕ). verdict n (r .from)) (sym (ends-bad r d))

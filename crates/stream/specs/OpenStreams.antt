@@ -6,7 +6,7 @@
 --   Behind w           w is nothing, or begins with a record that is not whole, or with a bad one
 --   Divides u s v w es   the begun record u and the delivery s together are the good records v, those of the entries es, and w behind them
 --   AnsweredAs t u s room n es p   a delivery to an open stream answers n and p and hands out es: each answer, when and only then
---   Says o l′ n es p   an answer and its lists say the number n, the entries es and the place p
+--   AnswerSays o l′ n es p   an answer and its lists say the number n, the entries es and the place p
 --   EndedAs t u n p    the end of an open stream answers n and p, likewise
 use Prim.Native.Nat.{ℕ, _+_, _<_, _≤_}
 use mathlib.Core.Path.{_≡_}
@@ -69,7 +69,7 @@ pub data AnsweredAs (t u s : List ℕ) (room : ℕ) : ℕ → List Entry → ℕ
       n ≢ 20 → length es ≤ room → AnsweredAs t u s room n es (length (t ++ v))
 
 -- what an answer and its lists say
-pub record Says (o : Streamed) (l′ : Lists) (n : ℕ) (es : List Entry) (place : ℕ) : Type 0 where
+pub record AnswerSays (o : Streamed) (l′ : Lists) (n : ℕ) (es : List Entry) (place : ℕ) : Type 0 where
   pub number : o .number ≡ n
   pub entries : handed o l′ ≡ es
   pub place-told : o .place ≡ place

@@ -5,12 +5,12 @@ use native.Mathlib.Omega.{arith}
 use mathlib.Core.Path.{_≡_, refl, sym, ap, _∙_}
 use mathlib.Core.Bool.{Bool, true, false, cond}
 use mathlib.Core.List.{List, [], _∷_}
-use mathlib.Core.Logic.{_⊎_, inl, inr, ⊎-elim}
+use mathlib.Core.Logic.{_⊎_, inl, inr, ⊎-elim, _≢_}
 use lib.Dec.{eqb}
 use lib.ListN.{length, length-append}
-use borrow.Author.Tests.{eqb-false}
+use borrow.Author.Tests.{eq-eqb, ne-eqb, eqb-false}
 use Rattle.words.proofs.Choices.{either-way, same-or-not}
-use Rattle.transcript_bytes.specs.Reading.{Reading, step, fed, feed, feeds}
+use Rattle.transcript_bytes.specs.Reading.{Reading, step, fed, feed, feeds, cut-off, ended}
 use Rattle.transcript_bytes.specs.declared.Step.{Step}
 use Rattle.transcript_bytes.specs.declared.Step.the-variants.{Goes, Whole, Bad}
 use Rattle.transcript_bytes.proofs.BadNumbers.{bad-range}
@@ -91,3 +91,13 @@ pub early-refusal : (r : Reading) (s : List ℕ) → EarlyRefusal (r .refusal) �
 unfolding feeds
 early-refusal r [] h = h
 early-refusal r (b ∷ s) h = early-refusal (feed r b) s (byte-early r b h)
+
+-- ---- the end
+
+-- What a string is refused with at its end: the refusal of its bad record,
+pub ends-bad : (r : Reading) → r .refusal ≢ 0 → ended r ≡ r .refusal
+ends-bad r d = ap (λ (t : Bool). cond t (cut-off (r .part)) (r .refusal)) (ne-eqb (r .refusal) 0 d)
+
+-- or, where none is bad, that of the part at which it ends.
+pub ends-good : (r : Reading) → r .refusal ≡ 0 → ended r ≡ cut-off (r .part)
+ends-good r z = ap (λ (t : Bool). cond t (cut-off (r .part)) (r .refusal)) (eq-eqb (r .refusal) 0 z)
