@@ -15,11 +15,10 @@ use Rattle.words.specs.Bytes.{bit}
 use Rattle.words.specs.Memory.{AreWords}
 use Rattle.words.specs.declared.BitAddress.{BitAddress}
 use Rattle.words.proofs.Choices.{less-or-not, same-or-not}
-use Rattle.words.proofs.Bits.{bit-above, bit-of-remainder}
+use Rattle.words.proofs.Bits.{bit-above, bit-of-remainder, one-bit-more}
 use Rattle.field_bits.specs.Field.{ahead, memory-bit, with-bit, set-memory-bit, field-at, with-field}
 use Rattle.field_bits.specs.InPlainWords.{Covers}
 use Rattle.field_bits.proofs.OneBit.{top-is, rest-is, bit-made, bit-kept, bit-as-it-is, bit-fits}
-use Rattle.field_bits.proofs.WordBits.{one-bit-more}
 
 -- ---- one bit of memory
 

@@ -11,10 +11,9 @@ use mathlib.Core.Logic.{⊎-elim}
 use borrow.Author.Tests.{lt-ltb}
 use Rattle.words.specs.Bytes.{bit}
 use Rattle.words.proofs.Choices.{less-or-not}
-use Rattle.words.proofs.Bits.{bit-above}
+use Rattle.words.proofs.Bits.{bit-above, one-bit-more}
 use Rattle.field_bits.specs.Field.{signed}
 use Rattle.field_bits.specs.InPlainWords.{InRange, at-least-zero, below-zero, same-bits}
-use Rattle.field_bits.proofs.WordBits.{one-bit-more}
 
 -- ---- the top bit
 

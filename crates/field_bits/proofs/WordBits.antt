@@ -1,14 +1,14 @@
 -- Bits of one word replaced: `with-bits` replaces n bits at once, as the code does, and comes to `with-bit` done n times.
 -- Everything follows from where its three terms stand: the upper is a multiple of 2^(o + n), the other two lie below that.
 use Prim.Native.Nat.{ℕ, _+_, _-_, _*_, _/_, _%_, _^_, _≤_, _<_}
-use native.Mathlib.Nat.{add-assoc, add-comm, add-mul, mul-comm, zero-mul, mod-lt, add-zero, div-eq-of-lt}
+use native.Mathlib.Nat.{add-assoc, add-mul, mul-comm, zero-mul, mod-lt, add-zero}
 use native.Mathlib.Omega.{arith}
 use mathlib.Core.Path.{_≡_, sym, ap, subst, _∙_}
 use mathlib.Core.Bool.{Bool, true, false, cond}
 use lib.Arith.{digits-lt}
-use lib.Pow.{pow-pos, pow-add, split, high, low, shr-shr, shr-lt, mod-mod-pow}
+use lib.Pow.{pow-pos, pow-add, split, high, low, shr-shr, shr-lt}
 use Rattle.words.specs.Bytes.{bit}
-use Rattle.words.proofs.Bits.{split-at-bit, bit-of-remainder}
+use Rattle.words.proofs.Bits.{one-bit-more}
 use Rattle.field_bits.specs.Field.{with-bit}
 use Rattle.field_bits.specs.WithBits.{with-bits}
 
@@ -18,14 +18,6 @@ use Rattle.field_bits.specs.WithBits.{with-bits}
 weight-up : (b : Bool) (n d : ℕ) → cond b (2 ^ n) 0 * 2 ^ d ≡ cond b (2 ^ (d + n)) 0
 weight-up true n d = mul-comm (2 ^ n) (2 ^ d) ∙ sym (pow-add 2 d n)
 weight-up false n d = zero-mul (2 ^ d)
-
--- One bit more of a number.
-pub one-bit-more : (x n : ℕ) → x % 2 ^ (n + 1) ≡ cond (bit x n) (2 ^ n) 0 + x % 2 ^ n
-one-bit-more x n =
-    let y : ℕ = x % 2 ^ (n + 1) in
-    let none : y / 2 ^ (n + 1) ≡ 0 = div-eq-of-lt (mod-lt x (pow-pos (n + 1))) in
-    let low-bits : y % 2 ^ n ≡ x % 2 ^ n = ap (λ (k : ℕ). x % 2 ^ k % 2 ^ n) (add-comm n 1) ∙ mod-mod-pow x 1 n in
-    split-at-bit y n ∙ rw (none, bit-of-remainder x (n + 1) n (omega arith), low-bits, zero-mul (2 ^ (n + 1))) (omega arith)
 
 -- ---- n bits replaced
 
