@@ -1,0 +1,2 @@
+-- ---- the registers
+pub mod Places

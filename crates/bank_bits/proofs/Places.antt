@@ -1,0 +1,167 @@
+-- What a place of the registers holds: what was written there last, whatever was written elsewhere. A place is a bank, one of its two values,
+-- and a half of that; each is shown to change by itself, then a place.
+use Prim.Native.Nat.{ℕ, zero, suc, _+_, _*_, _/_, _%_, _<_}
+use native.Mathlib.Omega.{arith}
+use mathlib.Core.Path.{_≡_, refl, sym, ap, _∙_}
+use mathlib.Core.Bool.{Bool, true, false, cond, _&&_, Bool·beq}
+use mathlib.Core.Logic.{⊎-elim, _≢_}
+use lib.Dec.{eqb, ltb}
+use borrow.Author.Tests.{eq-eqb, ne-eqb, eqb-true, eqb-false, ltb-true, ltb-false}
+use Rattle.words.proofs.Choices.{either-way, both-true, same-or-not}
+use Rattle.bank_bits.specs.Registers.{bank, bank-at, with-bank, half, with-half, bank-of, is-mask, is-high, value-of, with-value, half-at, with-half-at}
+use Rattle.bank_bits.specs.declared.Bank.{Bank}
+use Rattle.bank_bits.specs.declared.Banks.{Banks}
+
+-- ---- one bank of the four
+
+-- What holds of 0 to 3 holds of every bank.
+pub each-bank : (P : ℕ → Type 0) → P 0 → P 1 → P 2 → P 3 → (n : ℕ) → n < 4 → P n
+each-bank P p0 p1 p2 p3 zero h = p0
+each-bank P p0 p1 p2 p3 (suc zero) h = p1
+each-bank P p0 p1 p2 p3 (suc (suc zero)) h = p2
+each-bank P p0 p1 p2 p3 (suc (suc (suc zero))) h = p3
+each-bank P p0 p1 p2 p3 (suc (suc (suc (suc n)))) h = absurd (omega arith)
+
+-- The banks by their numbers.
+pub bank-named : (b : Banks) →
+    (bank-at b 0 ≡ b .bank0) × (bank-at b 1 ≡ b .bank1) × (bank-at b 2 ≡ b .bank2) × (bank-at b 3 ≡ b .bank3)
+unfolding bank-at
+bank-named b = (refl, refl, refl, refl)
+
+any-bank : (b : Banks) (n : ℕ) (k : Bank) (m : ℕ) → m < 4 → bank-at (with-bank b n k) m ≡ cond (eqb n m) k (bank-at b m)
+unfolding bank-at with-bank
+any-bank b n k = each-bank (λ m. bank-at (with-bank b n k) m ≡ cond (eqb n m) k (bank-at b m)) refl refl refl refl
+
+module _ (b : Banks) (n : ℕ) (k : Bank) (m : ℕ) (h : m < 4) where
+  -- A bank that was made k is k.
+  pub same-bank : n ≡ m → bank-at (with-bank b n k) m ≡ k
+  same-bank e = any-bank b n k m h ∙ rw (eq-eqb n m e)
+
+  -- Every other bank is as it stood.
+  pub other-bank : n ≢ m → bank-at (with-bank b n k) m ≡ bank-at b m
+  other-bank d = any-bank b n k m h ∙ rw (ne-eqb n m d)
+
+-- ---- one half of a bank's two values
+
+-- Two tests that come out alike are one.
+pub alike : (s t : Bool) → Bool·beq s t ≡ true → s ≡ t
+alike true true e = refl
+alike true false e = sym e
+alike false true e = e
+alike false false e = refl
+
+alike-itself : (s : Bool) → Bool·beq s s ≡ true
+alike-itself true = refl
+alike-itself false = refl
+
+any-half : (s t : Bool) (v w : ℕ) → w < 65536 → half t (with-half s v w) ≡ cond (Bool·beq s t) w (half t v)
+unfolding half with-half
+any-half true true v w h = omega arith
+any-half true false v w h = omega arith
+any-half false true v w h = omega arith
+any-half false false v w h = omega arith
+
+in-bank : (s t h g : Bool) (k : Bank) (w : ℕ) → w < 65536 →
+    half g (value-of t (with-value s k (with-half h (value-of s k) w))) ≡ cond (Bool·beq s t && Bool·beq h g) w (half g (value-of t k))
+unfolding value-of with-value
+in-bank true true h g k w l = any-half h g (k .mask) w l
+in-bank true false h g k w l = refl
+in-bank false true h g k w l = refl
+in-bank false false h g k w l = any-half h g (k .compare) w l
+
+-- ---- one place of the sixteen
+
+-- A place is told by its bank, its value and its half.
+one-place : (i j : ℕ) → i < 16 → j < 16 → bank-of i ≡ bank-of j → is-mask i ≡ is-mask j → is-high i ≡ is-high j → i ≡ j
+one-place i j hi hj b m h = ⊎-elim upper lower (either-way (is-mask i))
+  where
+    even : i % 2 ≡ j % 2
+    even =
+        ⊎-elim
+        (λ e. omega (arith, eqb-true (i % 2) 1 e, eqb-true (j % 2) 1 (sym h ∙ e)))
+        (λ e. omega (arith, eqb-false (i % 2) 1 e, eqb-false (j % 2) 1 (sym h ∙ e)))
+        (either-way (is-high i))
+
+    upper : is-mask i ≡ true → i ≡ j
+    upper e = omega (arith, b, even, ltb-true 7 i e, ltb-true 7 j (sym m ∙ e))
+
+    lower : is-mask i ≡ false → i ≡ j
+    lower e = omega (arith, b, even, ltb-false 7 i e, ltb-false 7 j (sym m ∙ e))
+
+-- the same value and the same half of a bank
+abbrev same-spot : ℕ → ℕ → Bool
+same-spot i j = Bool·beq (is-mask i) (is-mask j) && Bool·beq (is-high i) (is-high j)
+
+module _ (b : Banks) (i w : ℕ) (l : w < 65536) (j : ℕ) where
+  this-bank : bank-of i ≡ bank-of j → half-at (with-half-at b i w) j ≡ cond (same-spot i j) w (half-at b j)
+  unfolding half-at with-half-at
+  this-bank e =
+      ap (λ (k : Bank). half (is-high j) (value-of (is-mask j) k)) (same-bank b _ _ _ (omega arith) e)
+      ∙ in-bank (is-mask i) (is-mask j) (is-high i) (is-high j) (bank-at b (bank-of i)) w l
+      ∙ ap (λ (n : ℕ). cond (same-spot i j) w (half (is-high j) (value-of (is-mask j) (bank-at b n)))) e
+
+  another : bank-of i ≢ bank-of j → half-at (with-half-at b i w) j ≡ half-at b j
+  unfolding half-at with-half-at
+  another d = ap (λ (k : Bank). half (is-high j) (value-of (is-mask j) k)) (other-bank b _ _ _ (omega arith) d)
+
+-- After a write the same place reads back what was written.
+pub reads-back : (b : Banks) (i w : ℕ) → w < 65536 → half-at (with-half-at b i w) i ≡ w
+reads-back b i w l = this-bank b i w l i refl ∙ rw (alike-itself (is-mask i), alike-itself (is-high i))
+
+-- No other place is changed.
+pub others-stay : (b : Banks) (i w j : ℕ) → w < 65536 → i < 16 → j < 16 → i ≢ j → half-at (with-half-at b i w) j ≡ half-at b j
+others-stay b i w j l hi hj d =
+    ⊎-elim
+    (λ e. this-bank b i w l j e ∙ rw (elsewhere e))
+    (another b i w l j)
+    (same-or-not (bank-of i) (bank-of j))
+  where
+    elsewhere : bank-of i ≡ bank-of j → same-spot i j ≡ false
+    elsewhere e =
+        ⊎-elim
+        (λ t. let u = both-true _ _ t in absurd (d (one-place i j hi hj e (alike _ _ (u .0)) (alike _ _ (u .1)))))
+        (λ f. f)
+        (either-way (same-spot i j))
+
+-- ---- the sixteen places are all that there is
+
+half-stands : (s : Bool) (v : ℕ) → with-half s v (half s v) ≡ v
+unfolding half with-half
+half-stands true v = omega arith
+half-stands false v = omega arith
+
+value-stands : (t s : Bool) (k : Bank) → with-value t k (with-half s (value-of t k) (half s (value-of t k))) ≡ k
+unfolding value-of with-value
+value-stands true s k = ap (bank (k .compare)) (half-stands s (k .mask))
+value-stands false s k = ap (λ (v : ℕ). bank v (k .mask)) (half-stands s (k .compare))
+
+bank-stands : (b : Banks) (n : ℕ) → n < 4 → with-bank b n (bank-at b n) ≡ b
+unfolding bank-at with-bank
+bank-stands b = each-bank (λ n. with-bank b n (bank-at b n) ≡ b) refl refl refl refl
+
+-- A place that is written as it stands changes nothing.
+pub written-as-it-stands : (b : Banks) (i : ℕ) → with-half-at b i (half-at b i) ≡ b
+unfolding half-at with-half-at
+written-as-it-stands b i =
+    ap (with-bank b (bank-of i)) (value-stands (is-mask i) (is-high i) (bank-at b (bank-of i)))
+    ∙ bank-stands b (bank-of i) (omega arith)
+
+-- Registers that hold the same at each place are the same.
+pub told-by-places : (b c : Banks) → ((i : ℕ) → i < 16 → half-at b i ≡ half-at c i) → b ≡ c
+unfolding half-at half value-of bank-at
+told-by-places b c e =
+    banks-are
+    (bank-is (e 0 (omega arith)) (e 1 (omega arith)) (e 8 (omega arith)) (e 9 (omega arith)))
+    (bank-is (e 2 (omega arith)) (e 3 (omega arith)) (e 10 (omega arith)) (e 11 (omega arith)))
+    (bank-is (e 4 (omega arith)) (e 5 (omega arith)) (e 12 (omega arith)) (e 13 (omega arith)))
+    (bank-is (e 6 (omega arith)) (e 7 (omega arith)) (e 14 (omega arith)) (e 15 (omega arith)))
+  where
+    value-is : {v w : ℕ} → v % 65536 ≡ w % 65536 → v / 65536 ≡ w / 65536 → v ≡ w
+    value-is l h = omega (arith, l, h)
+
+    bank-is : {k q : Bank} → k .compare % 65536 ≡ q .compare % 65536 → k .compare / 65536 ≡ q .compare / 65536 →
+        k .mask % 65536 ≡ q .mask % 65536 → k .mask / 65536 ≡ q .mask / 65536 → k ≡ q
+    bank-is l h m n j = bank (value-is l h j) (value-is m n j)
+
+    banks-are : b .bank0 ≡ c .bank0 → b .bank1 ≡ c .bank1 → b .bank2 ≡ c .bank2 → b .bank3 ≡ c .bank3 → b ≡ c
+    banks-are e0 e1 e2 e3 j = record { bank0 = e0 j; bank1 = e1 j; bank2 = e2 j; bank3 = e3 j }

@@ -1,0 +1,4 @@
+-- ---- what the contracts cite
+pub mod Registers
+pub mod Access
+pub mod Decode
