@@ -1,2 +1,5 @@
 -- ---- the registers
 pub mod Places
+-- ---- a decode
+pub mod BitByBit
+pub mod InItsRange

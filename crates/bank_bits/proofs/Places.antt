@@ -1,11 +1,11 @@
 -- What a place of the registers holds: what was written there last, whatever was written elsewhere. A place is a bank, one of its two values,
 -- and a half of that; each is shown to change by itself, then a place.
-use Prim.Native.Nat.{ℕ, zero, suc, _+_, _*_, _/_, _%_, _<_}
+use Prim.Native.Nat.{ℕ, zero, suc, _/_, _%_, _<_}
 use native.Mathlib.Omega.{arith}
 use mathlib.Core.Path.{_≡_, refl, sym, ap, _∙_}
 use mathlib.Core.Bool.{Bool, true, false, cond, _&&_, Bool·beq}
 use mathlib.Core.Logic.{⊎-elim, _≢_}
-use lib.Dec.{eqb, ltb}
+use lib.Dec.{eqb}
 use borrow.Author.Tests.{eq-eqb, ne-eqb, eqb-true, eqb-false, ltb-true, ltb-false}
 use Rattle.words.proofs.Choices.{either-way, both-true, same-or-not}
 use Rattle.bank_bits.specs.Registers.{bank, bank-at, with-bank, half, with-half, bank-of, is-mask, is-high, value-of, with-value, half-at, with-half-at}
@@ -50,7 +50,7 @@ alike true false e = sym e
 alike false true e = e
 alike false false e = refl
 
-alike-itself : (s : Bool) → Bool·beq s s ≡ true
+pub alike-itself : (s : Bool) → Bool·beq s s ≡ true
 alike-itself true = refl
 alike-itself false = refl
 

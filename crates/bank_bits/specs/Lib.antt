@@ -2,3 +2,5 @@
 pub mod Registers
 pub mod Access
 pub mod Decode
+-- ---- the words of the laws
+pub mod InPlainWords

@@ -1,0 +1,26 @@
+-- `banks::read_bank_port` meets its contract, by whether the access is of sixteen bits.
+use borrow.Author.Tests.{eq-eqb, ne-eqb}
+use Rattle.bank_bits.specs.Access.{read-answer}
+use Rattle.banks.proofs.accessing.read_bank_port.Statement.{statement}
+use Rattle.banks.proofs.accessing.read_bank_port.Tie as tie
+
+refuse-requires : tie.Need-refuse-requires
+refuse-requires c κs = tt
+
+returns : tie.Need-returns
+unfolding read-answer
+returns c = rw (ne-eqb _ _ (c .before .if1 .taken), c .refuse .ensures)
+
+half-at-requires : tie.Need-half-at-requires
+half-at-requires c κs = tt
+
+next-index-requires : tie.Need-next-index-requires
+next-index-requires c κs = tt
+
+returns-2 : tie.Need-returns-2
+unfolding read-answer
+returns-2 c = rw (eq-eqb _ _ (c .before .before .before .before .if1 .left), c .next-index .ensures, c .before .half-at .ensures)
+
+pub read-bank-port-spec : {M : Type 1} → statement M
+read-bank-port-spec =
+    tie.close (tie.spec refuse-requires returns half-at-requires next-index-requires returns-2)
