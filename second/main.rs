@@ -1,7 +1,23 @@
 //! `second`: a model of the TMS34010 host port, its memory, fields, bus, blocks, strike sheets and
-//! transcripts, sound, damaged or in deliveries, written from documents 01 and 02 without sight of
-//! the proved code, to compare the results of both by running.
+//! transcripts, sound, damaged or in deliveries, and of the bank selects of a TMS34094, written
+//! from documents 01 and 02 and source document 001 without sight of the proved code, to compare
+//! the results of both by running.
 
+mod bank;
+mod bank_accesses;
+mod bank_caller;
+mod bank_compare;
+mod bank_control;
+mod bank_cycles;
+mod bank_decode;
+mod bank_examples;
+mod bank_lanes;
+mod bank_maps;
+mod bank_places;
+mod bank_port;
+mod bank_refresh;
+mod bank_run;
+mod bank_script;
 mod block;
 mod bus;
 mod examples;
@@ -61,6 +77,7 @@ const USAGE: &str = "second: script SEED CALLS | fields | answers [--fault NAME]
     | transcript-script SEED COUNT | transcript-answers [--fault NAME]
     | salvage-script SEED COUNT | salvage-answers [--fault NAME] | salvage-file SEED BYTES | salvage
     | stream-script SEED COUNT | stream-answers [--fault NAME]
+    | bank-script SEED COUNT | bank-answers [--fault NAME]
     | faults | examples";
 
 type Out = BufWriter<io::StdoutLock<'static>>;
@@ -90,13 +107,28 @@ fn plant(name: &str) -> bool {
     found.map(|&(_, fault)| fault::plant(fault)).is_some()
 }
 
+/// Plants the fault that follows the name of a command, if one does.
+fn with_fault(rest: &[&str]) -> bool {
+    match rest {
+        [] => true,
+        ["--fault", name] => plant(name),
+        _ => usage(),
+    }
+}
+
+fn usage() -> bool {
+    eprintln!("{USAGE}");
+    false
+}
+
 /// Whether the examples hold; says so, or which doesn't.
 fn examples() -> bool {
     let outcome = examples::run()
         .and_then(|count| Ok(count + sheet_examples::run()?))
         .and_then(|count| Ok(count + transcript_examples::run()?))
         .and_then(|count| Ok(count + salvage_examples::run()?))
-        .and_then(|count| Ok(count + stream_examples::run()?));
+        .and_then(|count| Ok(count + stream_examples::run()?))
+        .and_then(|count| Ok(count + bank_examples::run()?));
     match outcome {
         Ok(count) => println!("second: {count} examples hold"),
         Err(name) => println!("second: example {name} fails"),
@@ -110,31 +142,27 @@ fn main() -> ExitCode {
     let done = match words[..] {
         ["script", seed, calls] => made(script::script, seed, calls),
         ["fields"] => io::stdout().write_all(&fields::script()).is_ok(),
-        ["answers"] => answers(run::answers),
-        ["answers", "--fault", name] => plant(name) && answers(run::answers),
+        ["answers", ref rest @ ..] => with_fault(rest) && answers(run::answers),
         ["sheet-script", seed, count] => made(sheet_script::script, seed, count),
-        ["sheet-answers"] => answers(sheet_run::answers),
-        ["sheet-answers", "--fault", name] => plant(name) && answers(sheet_run::answers),
+        ["sheet-answers", ref rest @ ..] => with_fault(rest) && answers(sheet_run::answers),
         ["transcript-script", seed, count] => made(transcript_script::script, seed, count),
-        ["transcript-answers"] => answers(transcript_run::answers),
-        ["transcript-answers", "--fault", name] => plant(name) && answers(transcript_run::answers),
+        ["transcript-answers", ref rest @ ..] => {
+            with_fault(rest) && answers(transcript_run::answers)
+        }
         ["salvage-script", seed, count] => made(salvage_script::script, seed, count),
-        ["salvage-answers"] => answers(salvage_run::answers),
-        ["salvage-answers", "--fault", name] => plant(name) && answers(salvage_run::answers),
+        ["salvage-answers", ref rest @ ..] => with_fault(rest) && answers(salvage_run::answers),
         ["salvage-file", seed, bytes] => made(salvage_file::file, seed, bytes),
         ["salvage"] => answers(salvage_program::run),
         ["stream-script", seed, count] => made(stream_script::script, seed, count),
-        ["stream-answers"] => answers(stream_run::answers),
-        ["stream-answers", "--fault", name] => plant(name) && answers(stream_run::answers),
+        ["stream-answers", ref rest @ ..] => with_fault(rest) && answers(stream_run::answers),
+        ["bank-script", seed, count] => made(bank_script::script, seed, count),
+        ["bank-answers", ref rest @ ..] => with_fault(rest) && answers(bank_run::answers),
         ["faults"] => {
             fault::NAMED.iter().for_each(|(name, _)| println!("{name}"));
             true
         }
         ["examples"] => examples(),
-        _ => {
-            eprintln!("{USAGE}");
-            false
-        }
+        _ => usage(),
     };
     if done {
         ExitCode::SUCCESS

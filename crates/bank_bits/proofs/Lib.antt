@@ -1,5 +1,10 @@
--- ---- the registers
+-- ---- each number
+pub mod Numbers
+-- ---- the registers behind the port
 pub mod Places
+pub mod IndexOrder
+pub mod SixteenAccesses
+pub mod WrittenAndRead
 -- ---- a decode
 pub mod BitByBit
 pub mod InItsRange
