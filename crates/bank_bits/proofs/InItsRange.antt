@@ -11,11 +11,8 @@ use lib.Dec.{eqb}
 use lib.Pow.{pow-pos, pow-mono, high, split, shr-lt}
 use borrow.Author.Tests.{eq-eqb, eqb-true}
 use Rattle.bank_bits.specs.Decode.{agrees}
+use Rattle.bank_bits.specs.InPlainWords.{mask-for}
 use Rattle.bank_bits.proofs.BitByBit.{masked-alike}
-
--- "BKMSKx = FFFFFFFFh - (bank size in bits) + 1" (printed with an F too few), for a bank of 2^k bits
-abbrev pub mask-for : ℕ → ℕ
-mask-for k = 0xFFFFFFFF - 2 ^ k + 1
 
 module _ (k : ℕ) (small : k < 32) where
   -- It has all bits from k up.

@@ -8,3 +8,9 @@ pub mod WrittenAndRead
 -- ---- a decode
 pub mod BitByBit
 pub mod InItsRange
+pub mod Digits
+pub mod Refresh
+pub mod Admitted
+pub mod Selected
+-- ---- worked examples
+pub mod Holds

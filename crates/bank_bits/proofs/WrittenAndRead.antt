@@ -3,13 +3,13 @@
 use Prim.Native.Nat.{ℕ, zero, suc, _+_, _*_, _/_, _%_, _<_, _≤_}
 use native.Mathlib.Omega.{arith}
 use mathlib.Core.Path.{_≡_, refl, sym, ap, subst, _∙_}
-use mathlib.Core.List.{List, [], _∷_, map}
+use mathlib.Core.List.{List, [], _∷_}
 use mathlib.Core.Logic.{_≢_}
 use lib.ListN.{length, getD}
 use Rattle.words.specs.Memory.{AreWords}
 use Rattle.bank_bits.specs.Registers.{bank, half-at}
 use Rattle.bank_bits.specs.Access.{next, port, read-answer, write-answer}
-use Rattle.bank_bits.specs.InPlainWords.{Access, write, after, counted, words-read}
+use Rattle.bank_bits.specs.InPlainWords.{after, counted, writes, words-read}
 use Rattle.bank_bits.specs.declared.Banks.{Banks}
 use Rattle.bank_bits.specs.declared.BankPort.{BankPort}
 use Rattle.bank_bits.proofs.Places.{reads-back, others-stay}
@@ -35,10 +35,6 @@ module _ (p : BankPort) (w : ℕ) (l : w < 65536) where
   nowhere-else j h d = others-stay (p .banks) (p .index % 16) w j l (omega arith) h (λ e. d (sym e))
 
 -- ---- a row of writes, and a row of reads
-
--- sixteen-bit writes of these words
-abbrev pub writes : List ℕ → List Access
-writes ws = map (write 3) ws
 
 -- Places that a row of writes does not come to keep what they held.
 passed-by : (p : BankPort) (ws : List ℕ) → AreWords ws → (j : ℕ) → j < 16 →

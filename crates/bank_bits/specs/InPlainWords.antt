@@ -4,15 +4,17 @@
 --   after p xs             the port after the accesses xs
 --   counted xs             how many of them are of sixteen bits
 --   lanes-of x             its lanes
+--   writes ws              writes of sixteen bits, of these words
 --   words-read p n         what n reads of sixteen bits hand out
+--   mask-for k             the mask of a bank of 2^k bits
 --   Agrees m c a           each of the 32 bits is disregarded by the mask m, or is the same in the compare value c and in the address a
 --   InTurn c a n           the control word c lets a refresh at address a be one of bank n
 --   Admits c a n kind      the control word c admits a cycle of that kind for bank n
 --   shows o n              the answer o shows bank n selected
-use Prim.Native.Nat.{ℕ, zero, suc, _+_, _<_}
+use Prim.Native.Nat.{ℕ, zero, suc, _+_, _-_, _^_, _<_}
 use mathlib.Core.Path.{_≡_}
 use mathlib.Core.Bool.{Bool, true, false, cond}
-use mathlib.Core.List.{List, [], _∷_}
+use mathlib.Core.List.{List, [], _∷_, map}
 use mathlib.Core.Logic.{_⊎_}
 use lib.Dec.{eqb}
 use Rattle.words.specs.Bytes.{bit}
@@ -44,11 +46,18 @@ abbrev pub counted : List Access → ℕ
 counted [] = 0
 counted (x ∷ xs) = cond (eqb (lanes-of x) 3) (1 + counted xs) (counted xs)
 
+abbrev pub writes : List ℕ → List Access
+writes ws = map (write 3) ws
+
 abbrev pub words-read : BankPort → ℕ → List ℕ
 words-read p zero = []
 words-read p (suc n) = read-answer p 3 .word ∷ words-read (read-answer p 3 .port) n
 
 -- ---- the address
+
+-- "BKMSKx = FFFFFFFFh - (bank size in bits) + 1", where an F is lost in print; for k below 32
+abbrev pub mask-for : ℕ → ℕ
+mask-for k = 0xFFFFFFFF - 2 ^ k + 1
 
 abbrev pub Agrees : ℕ → ℕ → ℕ → Type 0
 Agrees m c a = (i : ℕ) → i < 32 → (bit m i ≡ false) ⊎ (bit c i ≡ bit a i)
