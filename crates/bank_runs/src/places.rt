@@ -1,0 +1,57 @@
+// The sixteen places and the index: the step from the last place to the first, byte accesses, and an index above 15.
+use crate::calling::read;
+use crate::calling::read_row;
+use crate::calling::write;
+use bank_bits::Bank;
+use bank_bits::BankPort;
+use bank_bits::Banks;
+
+// Seven reads, from place 13 over the end.
+fn run_over_the_end(banks: Banks) {
+    read_row(BankPort { banks, index: 13 }, 7);
+}
+
+// Lanes that are not both, then the access that they leave to be done; and both places read again.
+fn run_bytes(banks: Banks) {
+    let p = read(read(read(BankPort { banks, index: 6 }, 1), 2), 0);
+    let q = write(write(write(p, 1, 0xabcd), 2, 0xabcd), 7, 0xabcd);
+    let r = write(write(q, 3, 0xabcd), 2, 0xffff);
+    let banks = r.banks;
+    read(read(BankPort { banks, index: 6 }, 3), 3);
+}
+
+// An index above 15 counts modulo 16, and is kept as it was passed by an access that is refused.
+fn run_high_index(banks: Banks) {
+    let last = BankPort {
+        banks,
+        index: 0xffff_ffff,
+    };
+    read(read(read(last, 4), 3), 3);
+    let ninth = BankPort { banks, index: 24 };
+    write(write(ninth, 0, 0x5a5a), 3, 0x5a5a);
+}
+
+pub(crate) fn run_places() {
+    // Registers whose sixteen halves tell their places.
+    let banks = Banks {
+        bank0: Bank {
+            compare: 0x0001_0000,
+            mask: 0x0009_0008,
+        },
+        bank1: Bank {
+            compare: 0x0003_0002,
+            mask: 0x000b_000a,
+        },
+        bank2: Bank {
+            compare: 0x0005_0004,
+            mask: 0x000d_000c,
+        },
+        bank3: Bank {
+            compare: 0x0007_0006,
+            mask: 0x000f_000e,
+        },
+    };
+    run_over_the_end(banks);
+    run_bytes(banks);
+    run_high_index(banks);
+}
