@@ -47,7 +47,7 @@ module _ (m c a : ℕ) where
   pub agrees-exactly : agrees m c a ≡ true ↔ Agrees m c a
   unfolding agrees
   agrees-exactly =
-      (λ e i l. on-bit i .0 (below 32 .0 e i l), λ f. below 32 .1 (λ i l. on-bit i .1 (f i l)))
+      (λ e i l. on-bit i .0 (below _ .0 e i l), λ f. below _ .1 (λ i l. on-bit i .1 (f i l)))
 
 -- ---- what the mask leaves
 

@@ -1,7 +1,8 @@
--- The sixteen places in the order of source document 001's table, for any contents. By computation.
-use Prim.Native.Nat.{ℕ, _/_, _%_}
-use mathlib.Core.Path.{_≡_, refl}
-use Rattle.bank_bits.specs.Registers.{bank-at, half, value-of, half-at}
+-- The sixteen places in the order of source document 001's table, for any contents, by computation; and that they are all there is.
+use Prim.Native.Nat.{ℕ, suc, _+_, _*_, _/_, _%_, _<_}
+use native.Mathlib.Omega.{arith}
+use mathlib.Core.Path.{_≡_, refl, sym, _∙_}
+use Rattle.bank_bits.specs.Registers.{bank, bank-at, half, value-of, half-at}
 use Rattle.bank_bits.specs.declared.Banks.{Banks}
 
 -- "L" and "H" of its names: the halves of a 32-bit value
@@ -28,3 +29,40 @@ pub then-masks : (b : Banks) →
     (half-at b 14 ≡ low (b .bank3 .mask)) × (half-at b 15 ≡ high (b .bank3 .mask))
 unfolding half-at half value-of bank-at
 then-masks b = (refl, refl, refl, refl, refl, refl, refl, refl)
+
+-- So each value is what two places hold, the high half above the low one.
+pub in-halves : (b : Banks) →
+    (b .bank0 .compare ≡ half-at b 1 * 65536 + half-at b 0) × (b .bank0 .mask ≡ half-at b 9 * 65536 + half-at b 8) ×
+    (b .bank1 .compare ≡ half-at b 3 * 65536 + half-at b 2) × (b .bank1 .mask ≡ half-at b 11 * 65536 + half-at b 10) ×
+    (b .bank2 .compare ≡ half-at b 5 * 65536 + half-at b 4) × (b .bank2 .mask ≡ half-at b 13 * 65536 + half-at b 12) ×
+    (b .bank3 .compare ≡ half-at b 7 * 65536 + half-at b 6) × (b .bank3 .mask ≡ half-at b 15 * 65536 + half-at b 14)
+in-halves b =
+    let c = addresses-first b in
+    let m = then-masks b in (
+      join (c .0) (c .1),
+      join (m .0) (m .1),
+      join (c .2) (c .3),
+      join (m .2) (m .3),
+      join (c .4) (c .5),
+      join (m .4) (m .5),
+      join (c .6) (c .7),
+      join (m .6) (m .7),
+    )
+  where
+    join : {v l h : ℕ} → l ≡ low v → h ≡ high v → v ≡ h * 65536 + l
+    join e f = omega (arith, e, f)
+
+-- Registers that hold the same at each place are the same.
+pub told-by-places : (b c : Banks) → ((i : ℕ) → i < 16 → half-at b i ≡ half-at c i) → b ≡ c
+told-by-places b c e =
+    let v = in-halves b in
+    let w = in-halves c in
+    λ j. record {
+      bank0 = bank ((v .0 ∙ two 0 (omega arith) ∙ sym (w .0)) j) ((v .1 ∙ two 8 (omega arith) ∙ sym (w .1)) j);
+      bank1 = bank ((v .2 ∙ two 2 (omega arith) ∙ sym (w .2)) j) ((v .3 ∙ two 10 (omega arith) ∙ sym (w .3)) j);
+      bank2 = bank ((v .4 ∙ two 4 (omega arith) ∙ sym (w .4)) j) ((v .5 ∙ two 12 (omega arith) ∙ sym (w .5)) j);
+      bank3 = bank ((v .6 ∙ two 6 (omega arith) ∙ sym (w .6)) j) ((v .7 ∙ two 14 (omega arith) ∙ sym (w .7)) j);
+    }
+  where
+    two : (i : ℕ) → suc i < 16 → half-at b (suc i) * 65536 + half-at b i ≡ half-at c (suc i) * 65536 + half-at c i
+    two i h j = e (suc i) h j * 65536 + e i (omega (arith, h)) j

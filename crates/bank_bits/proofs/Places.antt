@@ -1,6 +1,6 @@
 -- What a place of the registers holds: what was written there last, whatever was written elsewhere. A place is a bank, one of its two values,
 -- and a half of that; each is shown to change by itself, then a place.
-use Prim.Native.Nat.{ℕ, zero, suc, _/_, _%_, _<_}
+use Prim.Native.Nat.{ℕ, zero, suc, _%_, _<_, _≤_}
 use native.Mathlib.Omega.{arith}
 use mathlib.Core.Path.{_≡_, refl, sym, ap, _∙_}
 use mathlib.Core.Bool.{Bool, true, false, cond, _&&_, Bool·beq}
@@ -71,22 +71,33 @@ in-bank false false h g k w l = any-half h g (k .compare) w l
 
 -- ---- one place of the sixteen
 
+-- Masks are from place 8 up, high halves at odd places.
+masks-above : (i : ℕ) → is-mask i ≡ true → 8 ≤ i
+masks-above i e = ltb-true 7 i e
+
+addresses-below : (i : ℕ) → is-mask i ≡ false → i < 8
+addresses-below i e = omega (arith, ltb-false 7 i e)
+
+highs-odd : (i : ℕ) → is-high i ≡ true → i % 2 ≡ 1
+highs-odd i e = eqb-true (i % 2) 1 e
+
+lows-even : (i : ℕ) → is-high i ≡ false → i % 2 ≡ 0
+lows-even i e = omega (arith, eqb-false (i % 2) 1 e)
+
 -- A place is told by its bank, its value and its half.
 one-place : (i j : ℕ) → i < 16 → j < 16 → bank-of i ≡ bank-of j → is-mask i ≡ is-mask j → is-high i ≡ is-high j → i ≡ j
-one-place i j hi hj b m h = ⊎-elim upper lower (either-way (is-mask i))
+one-place i j hi hj b m h =
+    ⊎-elim
+    (λ e. omega (arith, b, parity, masks-above i e, masks-above j (sym m ∙ e)))
+    (λ e. omega (arith, b, parity, addresses-below i e, addresses-below j (sym m ∙ e)))
+    (either-way (is-mask i))
   where
-    even : i % 2 ≡ j % 2
-    even =
+    parity : i % 2 ≡ j % 2
+    parity =
         ⊎-elim
-        (λ e. omega (arith, eqb-true (i % 2) 1 e, eqb-true (j % 2) 1 (sym h ∙ e)))
-        (λ e. omega (arith, eqb-false (i % 2) 1 e, eqb-false (j % 2) 1 (sym h ∙ e)))
+        (λ e. highs-odd i e ∙ sym (highs-odd j (sym h ∙ e)))
+        (λ e. lows-even i e ∙ sym (lows-even j (sym h ∙ e)))
         (either-way (is-high i))
-
-    upper : is-mask i ≡ true → i ≡ j
-    upper e = omega (arith, b, even, ltb-true 7 i e, ltb-true 7 j (sym m ∙ e))
-
-    lower : is-mask i ≡ false → i ≡ j
-    lower e = omega (arith, b, even, ltb-false 7 i e, ltb-false 7 j (sym m ∙ e))
 
 -- the same value and the same half of a bank
 abbrev same-spot : ℕ → ℕ → Bool
@@ -123,7 +134,7 @@ others-stay b i w j l hi hj d =
         (λ f. f)
         (either-way (same-spot i j))
 
--- ---- the sixteen places are all that there is
+-- ---- a place written as it stands
 
 half-stands : (s : Bool) (v : ℕ) → with-half s v (half s v) ≡ v
 unfolding half with-half
@@ -145,23 +156,3 @@ unfolding half-at with-half-at
 written-as-it-stands b i =
     ap (with-bank b (bank-of i)) (value-stands (is-mask i) (is-high i) (bank-at b (bank-of i)))
     ∙ bank-stands b (bank-of i) (omega arith)
-
--- Registers that hold the same at each place are the same.
-pub told-by-places : (b c : Banks) → ((i : ℕ) → i < 16 → half-at b i ≡ half-at c i) → b ≡ c
-unfolding half-at half value-of bank-at
-told-by-places b c e =
-    banks-are
-    (bank-is (e 0 (omega arith)) (e 1 (omega arith)) (e 8 (omega arith)) (e 9 (omega arith)))
-    (bank-is (e 2 (omega arith)) (e 3 (omega arith)) (e 10 (omega arith)) (e 11 (omega arith)))
-    (bank-is (e 4 (omega arith)) (e 5 (omega arith)) (e 12 (omega arith)) (e 13 (omega arith)))
-    (bank-is (e 6 (omega arith)) (e 7 (omega arith)) (e 14 (omega arith)) (e 15 (omega arith)))
-  where
-    value-is : {v w : ℕ} → v % 65536 ≡ w % 65536 → v / 65536 ≡ w / 65536 → v ≡ w
-    value-is l h = omega (arith, l, h)
-
-    bank-is : {k q : Bank} → k .compare % 65536 ≡ q .compare % 65536 → k .compare / 65536 ≡ q .compare / 65536 →
-        k .mask % 65536 ≡ q .mask % 65536 → k .mask / 65536 ≡ q .mask / 65536 → k ≡ q
-    bank-is l h m n j = bank (value-is l h j) (value-is m n j)
-
-    banks-are : b .bank0 ≡ c .bank0 → b .bank1 ≡ c .bank1 → b .bank2 ≡ c .bank2 → b .bank3 ≡ c .bank3 → b ≡ c
-    banks-are e0 e1 e2 e3 j = record { bank0 = e0 j; bank1 = e1 j; bank2 = e2 j; bank3 = e3 j }

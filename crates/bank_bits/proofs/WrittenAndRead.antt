@@ -1,6 +1,6 @@
 -- What is written through the port comes back, at its place alone: one access, then a row of them. A row of sixteen writes sets all four
 -- banks, whatever they held.
-use Prim.Native.Nat.{ℕ, zero, suc, _+_, _*_, _/_, _%_, _<_, _≤_}
+use Prim.Native.Nat.{ℕ, zero, suc, _+_, _*_, _%_, _<_, _≤_}
 use native.Mathlib.Omega.{arith}
 use mathlib.Core.Path.{_≡_, refl, sym, ap, subst, _∙_}
 use mathlib.Core.List.{List, [], _∷_}
@@ -13,7 +13,7 @@ use Rattle.bank_bits.specs.InPlainWords.{after, counted, writes, words-r
 use Rattle.bank_bits.specs.declared.Banks.{Banks}
 use Rattle.bank_bits.specs.declared.BankPort.{BankPort}
 use Rattle.bank_bits.proofs.Places.{reads-back, others-stay}
-use Rattle.bank_bits.proofs.IndexOrder.{addresses-first, then-masks}
+use Rattle.bank_bits.proofs.IndexOrder.{in-halves}
 use Rattle.bank_bits.proofs.SixteenAccesses.{sixteen-return}
 
 -- ---- one access of sixteen bits
@@ -98,9 +98,8 @@ module _ (b : Banks) (ws : List ℕ) (a : AreWords ws) (e : length ws ≡ 16) wh
   holds-word : (k : ℕ) → k < 16 → half-at set-banks k ≡ word k
   holds-word k h = ap (half-at set-banks) (omega arith) ∙ row-written (port b 0) ws a (omega (arith, e)) k (omega (arith, h, e))
 
-  value : {v : ℕ} (i : ℕ) → suc i < 16 → half-at set-banks i ≡ v % 65536 → half-at set-banks (suc i) ≡ v / 65536 →
-      v ≡ word (suc i) * 65536 + word i
-  value i h low high = omega (arith, low, high, holds-word i (omega (arith, h)), holds-word (suc i) h)
+  two : (i : ℕ) → suc i < 16 → half-at set-banks (suc i) * 65536 + half-at set-banks i ≡ word (suc i) * 65536 + word i
+  two i h j = holds-word (suc i) h j * 65536 + holds-word i (omega (arith, h)) j
 
   -- Written from index 0 on, the sixteen words are the compare values of banks 0 to 3, then their masks, each the low half first.
   pub set-up :
@@ -112,11 +111,10 @@ module _ (b : Banks) (ws : List ℕ) (a : AreWords ws) (e : length ws ≡ 16) wh
         bank3 = bank (word 7 * 65536 + word 6) (word 15 * 65536 + word 14);
       }
   set-up =
-      let c = addresses-first set-banks in
-      let m = then-masks set-banks in
+      let v = in-halves set-banks in
       λ j. record {
-        bank0 = bank (value 0 (omega arith) (c .0) (c .1) j) (value 8 (omega arith) (m .0) (m .1) j);
-        bank1 = bank (value 2 (omega arith) (c .2) (c .3) j) (value 10 (omega arith) (m .2) (m .3) j);
-        bank2 = bank (value 4 (omega arith) (c .4) (c .5) j) (value 12 (omega arith) (m .4) (m .5) j);
-        bank3 = bank (value 6 (omega arith) (c .6) (c .7) j) (value 14 (omega arith) (m .6) (m .7) j);
+        bank0 = bank ((v .0 ∙ two 0 (omega arith)) j) ((v .1 ∙ two 8 (omega arith)) j);
+        bank1 = bank ((v .2 ∙ two 2 (omega arith)) j) ((v .3 ∙ two 10 (omega arith)) j);
+        bank2 = bank ((v .4 ∙ two 4 (omega arith)) j) ((v .5 ∙ two 12 (omega arith)) j);
+        bank3 = bank ((v .6 ∙ two 6 (omega arith)) j) ((v .7 ∙ two 14 (omega arith)) j);
       }
