@@ -1,13 +1,12 @@
 -- What the control word admits, in plain words: source document 001's lines on BDRD and BVEN, and its table of RM.
-use Prim.Native.Nat.{ℕ, zero, suc, _+_, _<_, _≤_}
+use Prim.Native.Nat.{ℕ, zero, suc, _<_, _≤_}
 use native.Mathlib.Omega.{arith}
 use mathlib.Core.Path.{_≡_, refl, sym}
 use mathlib.Core.Bool.{Bool, true, false, not, _&&_}
 use mathlib.Core.Logic.{_↔_}
-use Rattle.words.specs.Bytes.{bit}
 use Rattle.words.specs.declared.BitAddress.{BitAddress}
 use Rattle.words.proofs.Choices.{both-true}
-use Rattle.bank_bits.specs.Decode.{in-turn, admits}
+use Rattle.bank_bits.specs.Decode.{bven, bdrd, in-turn, admits}
 use Rattle.bank_bits.specs.InPlainWords.{Admits, ordinary, refresh, special}
 use Rattle.bank_bits.proofs.Refresh.{in-turn-exactly}
 
@@ -18,7 +17,7 @@ module _ (c : ℕ) (a : BitAddress) (n : ℕ) where
   unfolding admits
   admits-exactly h zero l = (λ _. ordinary refl, λ _. refl)
   admits-exactly h (suc zero) l = (
-    λ t. let u = both-true _ _ t in refresh refl (cleared (bit c (8 + n)) (u .0)) (in-turn-exactly c a n h .0 (u .1)),
+    λ t. let u = both-true _ _ t in refresh refl (cleared (bdrd c n) (u .0)) (in-turn-exactly c a n h .0 (u .1)),
     refreshed,
   )
     where
@@ -26,13 +25,13 @@ module _ (c : ℕ) (a : BitAddress) (n : ℕ) where
       cleared true e = sym e
       cleared false e = refl
 
-      refreshed : Admits c a n 1 → not (bit c (8 + n)) && in-turn c a n ≡ true
+      refreshed : Admits c a n 1 → not (bdrd c n) && in-turn c a n ≡ true
       refreshed (ordinary e) = absurd (omega (arith, e))
       refreshed (refresh e d t) = rw (d, in-turn-exactly c a n h .1 t)
       refreshed (special e v) = absurd (omega (arith, e))
   admits-exactly h (suc (suc zero)) l = (special refl, allowed)
     where
-      allowed : Admits c a n 2 → bit c (12 + n) ≡ true
+      allowed : Admits c a n 2 → bven c n ≡ true
       allowed (ordinary e) = absurd (omega (arith, e))
       allowed (refresh e d t) = absurd (omega (arith, e))
       allowed (special e v) = v

@@ -3,6 +3,7 @@
 --   next i                  the index after an access
 --   port b i                the registers b, with the index i
 --   answered n w p          an answer, by its parts
+--   refused p               that to an access which is not of sixteen bits
 --   read-answer p lanes     what a read answers
 --   write-answer p lanes w  what a write of w answers
 use Prim.Native.Nat.{ℕ, _+_, _%_}
@@ -27,13 +28,15 @@ port b i = record { banks = b; index = i }
 abbrev pub answered : ℕ → ℕ → BankPort → BankAnswer
 answered n w p = record { number = n; word = w; port = p }
 
--- "Refusals: 30 byte access to the port (the index stays)": any lanes but 3
+-- "Refusals: 30 byte access to the port (the index stays)"
+abbrev pub refused : BankPort → BankAnswer
+refused p = answered 30 0 p
+
+-- an access is of sixteen bits if its lanes are 3, and of bytes if they are any others
 unfoldable pub read-answer : BankPort → ℕ → BankAnswer
 read-answer p lanes =
-    cond (eqb lanes 3) (answered 0 (half-at (p .banks) (place (p .index))) (port (p .banks) (next (p .index))))
-    (answered 30 0 p)
+    cond (eqb lanes 3) (answered 0 (half-at (p .banks) (place (p .index))) (port (p .banks) (next (p .index)))) (refused p)
 
 unfoldable pub write-answer : BankPort → ℕ → ℕ → BankAnswer
 write-answer p lanes w =
-    cond (eqb lanes 3) (answered 0 0 (port (with-half-at (p .banks) (place (p .index)) w) (next (p .index))))
-    (answered 30 0 p)
+    cond (eqb lanes 3) (answered 0 0 (port (with-half-at (p .banks) (place (p .index)) w) (next (p .index)))) (refused p)

@@ -1,6 +1,6 @@
 // An access to BKPORT: a read, a write.
 ghost use mathlib.Core.Path.{_≡_};
-ghost use Rattle.bank_bits.specs.Access.{next, answered, read-answer, write-answer};
+ghost use Rattle.bank_bits.specs.Access.{next, refused, read-answer, write-answer};
 use crate::places::half_at;
 use crate::places::with_half_at;
 use bank_bits::BankAnswer;
@@ -8,7 +8,7 @@ use bank_bits::BankPort;
 
 // The answer to a byte access, which changes nothing.
 fn refuse(p: BankPort) -> BankAnswer
-    ensures { λ o. ⌜ o ≡ answered 30 0 p ⌝ }
+    ensures { λ o. ⌜ o ≡ refused p ⌝ }
 {
     BankAnswer {
         number: 30,
