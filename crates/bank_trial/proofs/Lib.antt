@@ -1,0 +1,4 @@
+-- ---- what a record says, and what it leaves
+pub mod Examples
+-- ---- the selected banks
+pub mod EachBank
