@@ -5,10 +5,10 @@ use Rattle.words.specs.Bytes.{bit}
 use Rattle.bank_bits.specs.Registers.{bank-at, with-bank, half, with-half, value-of, with-value, half-at, with-half-at}
 use Rattle.bank_bits.specs.Access.{read-answer, write-answer}
 use Rattle.bank_bits.specs.Decode.{agrees-at, agrees-below, agrees, in-turn, admits, selects, decoded}
-use Rattle.bank_bits.specs.Table.{worked, sample-map, order, bytes, wrap, special, refresh, several, table}
+use Rattle.bank_bits.specs.Table.{worked, sample-map, order, bytes, wrap, special, refresh, several, seen, table}
 
 pub table-holds : map worked table ≡ table
 unfolding
-    table sample-map order bytes wrap special refresh several bit bank-at with-bank half with-half value-of with-value half-at with-half-at
+    table sample-map order bytes wrap special refresh several seen bit bank-at with-bank half with-half value-of with-value half-at with-half-at
     read-answer write-answer agrees-at agrees-below agrees in-turn admits selects decoded
 table-holds = refl

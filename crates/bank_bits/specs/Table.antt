@@ -10,7 +10,7 @@
 --   none, all             a decode's answers that show no bank, all four; only0 to only3, those that show one
 --   unset, apart, unmasked   registers to start with
 --   sample-map            source document 001's sample memory map
---   order, bytes, wrap, special, refresh, several, table   the other rows, and all of them
+--   order, bytes, wrap, special, refresh, several, seen, table   the other rows, and all of them
 use Prim.Native.Nat.{ℕ}
 use mathlib.Core.Bool.{true, false}
 use mathlib.Core.List.{List, [], _∷_, _++_}
@@ -113,7 +113,7 @@ sample-map =
     writes 3 0xFF80 (told 0 0 14) ∷
     writes 3 0x0000 (told 0 0 15) ∷
     writes 3 0xFF80 (told 0 0 0) ∷
-    -- just before each range, its first address, its last, and the one behind it, where no other bank begins
+    -- just before each range, its first address, its last, and the one behind it; 017FFFFFh and 01800000h do for two ranges
     decodes 0x0020 0xC0001FFF 0 none ∷
     decodes 0x0020 0xC0002000 0 only0 ∷
     decodes 0x0020 0xC00021FF 0 only0 ∷
@@ -288,5 +288,22 @@ several =
     (banks 0xFFFFFFFF 0x00000001 0xFFFFFFFF 0x80000000 0x00008000 0x00018000 0x00010000 0x00018000) ∷
     []
 
+unfoldable pub seen : List Row
+seen =
+    -- the next decode sees what was written: bank 0's mask, then its compare value
+    row unmasked 8
+    (decodes 0 0x0000A5A5 0 all ∷
+    writes 3 0xFFFF (told 0 0 9) ∷
+    decodes 0 0x0000A5A5 0 (decoded-as 0 false true true true) ∷
+    [])
+    (banks 0xFFFFFFFF 0x0000FFFF 0x12345678 0 0 0 0x80000001 0) ∷
+    row (banks 0xFFFFFFFF 0x0000FFFF 0x12345678 0 0 0 0x80000001 0) 0
+    (writes 3 0xA5A5 (told 0 0 1) ∷
+    decodes 0 0x0000A5A5 0 all ∷
+    decodes 0 0x0000A5A4 0 (decoded-as 0 false true true true) ∷
+    [])
+    (banks 0xFFFFA5A5 0x0000FFFF 0x12345678 0 0 0 0x80000001 0) ∷
+    []
+
 unfoldable pub table : List Row
-table = sample-map ++ order ++ bytes ++ wrap ++ special ++ refresh ++ several
+table = sample-map ++ order ++ bytes ++ wrap ++ special ++ refresh ++ several ++ seen

@@ -27,7 +27,7 @@ const HALVES: [u16; 16] = [
     0xff80,
 ];
 
-// Just before each range, its first address, its last, and the one behind it.
+// Just before each range, its first address, its last, and the one behind it; 017FFFFFh and 01800000h do for two ranges.
 const EDGES: [u32; 14] = [
     0xc000_1fff,
     0xc000_2000,
