@@ -1,34 +1,22 @@
 // What the bytes of a record say.
 ghost use mathlib.Core.Path.{_≡_};
-ghost use Prim.Native.Nat.{_+_, _*_, _<_};
+ghost use Prim.Native.Nat.{_<_};
 ghost use Rattle.bank_trial.specs.Record.{number-at, word-at, number-in, word-in, address-in, control-in, bank-in, port-in};
 use bank_bits::Bank;
 use bank_bits::BankPort;
 use bank_bits::Banks;
 use words::BitAddress;
+use words::join_bytes;
+use words::join_four;
 
 // ---- numbers, low byte first
-
-// The number that four bytes make.
-fn join(a: u8, b: u8, c: u8, d: u8) -> u32
-    ensures { λ n. ⌜ n ≡ a + 256 * b + 65536 * c + 16777216 * d ⌝ }
-{
-    a as u32 + 256 * b as u32 + 65536 * c as u32 + 16777216 * d as u32
-}
-
-// The word that two bytes make.
-fn join_pair(a: u8, b: u8) -> u16
-    ensures { λ n. ⌜ n ≡ a + 256 * b ⌝ }
-{
-    a as u16 + 256 * b as u16
-}
 
 // The number whose first byte is byte k.
 fn number_at(bytes: &[u8; 40], k: usize) -> u32
     requires { ⌜ k < 37 ⌝ }
     ensures { λ n. ⌜ n ≡ number-at (now (bytes .entry)) k ⌝ }
 {
-    join(bytes[k], bytes[k + 1], bytes[k + 2], bytes[k + 3])
+    join_four(bytes[k], bytes[k + 1], bytes[k + 2], bytes[k + 3])
 }
 
 // The word whose first byte is byte k.
@@ -36,7 +24,7 @@ fn word_at(bytes: &[u8; 40], k: usize) -> u16
     requires { ⌜ k < 39 ⌝ }
     ensures { λ n. ⌜ n ≡ word-at (now (bytes .entry)) k ⌝ }
 {
-    join_pair(bytes[k], bytes[k + 1])
+    join_bytes(bytes[k], bytes[k + 1])
 }
 
 // ---- what they are

@@ -1,27 +1,14 @@
 // The register image: nine bytes that stand for the registers.
 ghost use mathlib.Core.Path.{_≡_};
-ghost use Prim.Native.Nat.{_+_, _*_};
 ghost use lib.ListN.{length};
 ghost use mathlib.Core.Bool.{cond};
 ghost use Rattle.door_bytes.specs.Image.{registers-of, image-of};
 use registers::Registers;
 use words::BitAddress;
 use words::high_byte;
+use words::join_bytes;
+use words::join_four;
 use words::low_byte;
-
-// The word of two bytes, low first.
-pub(crate) fn join_bytes(l: u8, h: u8) -> u16
-    ensures { λ r. ⌜ r ≡ l + 256 * h ⌝ }
-{
-    (l as u16) + 256 * (h as u16)
-}
-
-// The pointer of four bytes, low first.
-fn join_four(a: u8, b: u8, c: u8, d: u8) -> u32
-    ensures { λ r. ⌜ r ≡ a + 256 * b + 65536 * c + 16777216 * d ⌝ }
-{
-    (a as u32) + 256 * (b as u32) + 65536 * (c as u32) + 16777216 * (d as u32)
-}
 
 // The registers that an image stands for.
 pub(crate) fn load(image: &[u8]) -> Registers

@@ -19,13 +19,13 @@ use answer::pack;
 use answer::refuse;
 use host::begin_read;
 use host::begin_write;
-use image::join_bytes;
 use image::load;
 use image::save;
 use memory::carry_bytes;
 use port::Access;
 use port::Begun;
 use words::bit_of;
+use words::join_bytes;
 
 // What is lent does not fit the door: number 11.
 fn is_misfit(image: &[u8], memory: &[u8]) -> bool

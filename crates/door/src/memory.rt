@@ -3,7 +3,6 @@ ghost use mathlib.Core.Path.{_≡_};
 ghost use Rattle.words.specs.Memory.{fetch-at};
 ghost use Rattle.door_bytes.specs.Bytes.{words-of};
 ghost use Rattle.door.specs.Parts.{StoredBytes, CycledBytes};
-use crate::image::join_bytes;
 use host::settle_fetch;
 use host::settle_store;
 use host::step_if;
@@ -14,6 +13,7 @@ use registers::Registers;
 use words::Fetched;
 use words::WordNumber;
 use words::high_byte;
+use words::join_bytes;
 use words::low_byte;
 use words::word_of;
 

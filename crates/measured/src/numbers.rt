@@ -8,13 +8,7 @@ use crate::Record;
 use port::Access;
 use registers::Registers;
 use words::BitAddress;
-
-// The number of four bytes, low first.
-fn join_four(a: u8, b: u8, c: u8, d: u8) -> u32
-    ensures { λ r. ⌜ r ≡ a + 256 * b + 65536 * c + 16777216 * d ⌝ }
-{
-    (a as u32) + 256 * (b as u32) + 65536 * (c as u32) + 16777216 * (d as u32)
-}
+use words::join_four;
 
 // The number at a place of a script.
 fn number_at(script: &[u8], at: usize) -> u32

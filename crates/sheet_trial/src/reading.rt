@@ -1,24 +1,18 @@
 // What the numbers of a record say.
 ghost use mathlib.Core.Path.{_≡_};
-ghost use Prim.Native.Nat.{_+_, _*_, _<_};
+ghost use Prim.Native.Nat.{_<_};
 ghost use Rattle.sheet_trial.specs.Record.{number, wide, registers-in, table-in, rule-in, time-in};
 use registers::Registers;
 use sheet::TimeStruck;
 use words::BitAddress;
-
-// The number that two bytes make.
-fn join(low: u8, high: u8) -> u16
-    ensures { λ n. ⌜ n ≡ low + 256 * high ⌝ }
-{
-    low as u16 + 256 * high as u16
-}
+use words::join_bytes;
 
 // Number k of a record.
 pub(crate) fn number_at(bytes: &[u8; 108], k: usize) -> u16
     requires { ⌜ k < 54 ⌝ }
     ensures { λ n. ⌜ n ≡ number (now (bytes .entry)) k ⌝ }
 {
-    join(bytes[2 * k], bytes[2 * k + 1])
+    join_bytes(bytes[2 * k], bytes[2 * k + 1])
 }
 
 // The number of 32 bits whose low half is number k.

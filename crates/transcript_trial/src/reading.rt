@@ -1,14 +1,8 @@
 // What the bytes of a record say.
 ghost use mathlib.Core.Path.{_≡_};
-ghost use Prim.Native.Nat.{_+_, _*_, _<_};
+ghost use Prim.Native.Nat.{_<_};
 ghost use Rattle.transcript_trial.specs.Record.{number, column};
-
-// The number that four bytes make.
-fn join(a: u8, b: u8, c: u8, d: u8) -> u32
-    ensures { λ n. ⌜ n ≡ a + 256 * b + 65536 * c + 16777216 * d ⌝ }
-{
-    a as u32 + 256 * b as u32 + 65536 * c as u32 + 16777216 * d as u32
-}
+use words::join_four;
 
 // Number k of a record's lists.
 fn number_at(bytes: &[u8; 104], k: usize) -> u32
@@ -16,7 +10,7 @@ fn number_at(bytes: &[u8; 104], k: usize) -> u32
     ensures { λ n. ⌜ n ≡ number (now (bytes .entry)) k ⌝ }
 {
     let at = 8 + 4 * k;
-    join(bytes[at], bytes[at + 1], bytes[at + 2], bytes[at + 3])
+    join_four(bytes[at], bytes[at + 1], bytes[at + 2], bytes[at + 3])
 }
 
 // The six numbers of a record's list from number k on.

@@ -2,7 +2,7 @@
 // Document 01, "Memory and addresses", and what "The four host registers" says of lanes.
 ghost use mathlib.Core.Path.{_≡_};
 ghost use mathlib.Core.Bool.{cond, _&&_, _||_};
-ghost use Prim.Native.Nat.{min};
+ghost use Prim.Native.Nat.{_+_, _*_, min};
 ghost use Rattle.words.specs.Addresses.{word-at, step};
 ghost use Rattle.words.specs.Bytes.{lo, hi, bit, takes-low, takes-high, are-lanes, lay, shown, replaced};
 ghost use Rattle.words.specs.Memory.{over-limit, fetch-at, Stored};
@@ -49,6 +49,20 @@ pub fn high_byte(w: u16) -> u8
     ensures { λ r. ⌜ r ≡ hi w ⌝ }
 {
     (w / 256 % 256) as u8
+}
+
+// The word of two bytes, the low one first.
+pub fn join_bytes(l: u8, h: u8) -> u16
+    ensures { λ r. ⌜ r ≡ l + 256 * h ⌝ }
+{
+    l as u16 + 256 * h as u16
+}
+
+// The number of four bytes, the lowest first.
+pub fn join_four(a: u8, b: u8, c: u8, d: u8) -> u32
+    ensures { λ r. ⌜ r ≡ a + 256 * b + 65536 * c + 16777216 * d ⌝ }
+{
+    a as u32 + 256 * b as u32 + 65536 * c as u32 + 16777216 * d as u32
 }
 
 // Bit i of a word; a word has no bit above 15.
