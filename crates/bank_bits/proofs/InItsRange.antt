@@ -3,7 +3,7 @@
 use Prim.Native.Nat.{ℕ, _+_, _-_, _*_, _/_, _%_, _^_, _<_, _≤_}
 use native.Mathlib.Nat.{mod-eq-of-lt, mod-lt, mul-div-cancel}
 use native.Mathlib.Omega.{arith}
-use mathlib.Core.Path.{_≡_, sym, ap, subst, _∙_}
+use mathlib.Core.Path.{_≡_, refl, sym, ap, subst, _∙_}
 use mathlib.Core.Bool.{true}
 use mathlib.Core.Logic.{_↔_}
 use lib.Bits.{bitAnd, and-high}
@@ -13,6 +13,10 @@ use borrow.Author.Tests.{eq-eqb, eqb-true}
 use Rattle.bank_bits.specs.Decode.{agrees}
 use Rattle.bank_bits.specs.InPlainWords.{mask-for}
 use Rattle.bank_bits.proofs.BitByBit.{masked-alike}
+
+-- The paper's own example is a bank of 1 MByte, 2^23 bits; the registers of a palette in its sample map have 2^9.
+pub sample-masks : (mask-for 23 ≡ 0xFF800000) × (mask-for 9 ≡ 0xFFFFFE00)
+sample-masks = (refl, refl)
 
 module _ (k : ℕ) (small : k < 32) where
   -- It has all bits from k up.

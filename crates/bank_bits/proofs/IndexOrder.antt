@@ -53,10 +53,10 @@ in-halves b =
     join e f = omega (arith, e, f)
 
 -- Registers that hold the same at each place are the same.
-pub told-by-places : (b c : Banks) → ((i : ℕ) → i < 16 → half-at b i ≡ half-at c i) → b ≡ c
-told-by-places b c e =
+pub told-by-places : (b b′ : Banks) → ((i : ℕ) → i < 16 → half-at b i ≡ half-at b′ i) → b ≡ b′
+told-by-places b b′ e =
     let v = in-halves b in
-    let w = in-halves c in
+    let w = in-halves b′ in
     λ j. record {
       bank0 = bank ((v .0 ∙ two 0 (omega arith) ∙ sym (w .0)) j) ((v .1 ∙ two 8 (omega arith) ∙ sym (w .1)) j);
       bank1 = bank ((v .2 ∙ two 2 (omega arith) ∙ sym (w .2)) j) ((v .3 ∙ two 10 (omega arith) ∙ sym (w .3)) j);
@@ -64,5 +64,5 @@ told-by-places b c e =
       bank3 = bank ((v .6 ∙ two 6 (omega arith) ∙ sym (w .6)) j) ((v .7 ∙ two 14 (omega arith) ∙ sym (w .7)) j);
     }
   where
-    two : (i : ℕ) → suc i < 16 → half-at b (suc i) * 65536 + half-at b i ≡ half-at c (suc i) * 65536 + half-at c i
+    two : (i : ℕ) → suc i < 16 → half-at b (suc i) * 65536 + half-at b i ≡ half-at b′ (suc i) * 65536 + half-at b′ i
     two i h j = e (suc i) h j * 65536 + e i (omega (arith, h)) j

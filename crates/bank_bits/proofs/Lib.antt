@@ -8,9 +8,9 @@ pub mod WrittenAndRead
 -- ---- a decode
 pub mod BitByBit
 pub mod InItsRange
-pub mod Digits
 pub mod Refresh
 pub mod Admitted
 pub mod Selected
+pub mod OwnAlone
 -- ---- worked examples
 pub mod Holds

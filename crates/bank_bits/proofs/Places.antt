@@ -7,7 +7,7 @@ use mathlib.Core.Bool.{Bool, true, false, cond, _&&_, Bool·beq}
 use mathlib.Core.Logic.{⊎-elim, _≢_}
 use lib.Dec.{eqb}
 use borrow.Author.Tests.{eq-eqb, ne-eqb, eqb-true, eqb-false, ltb-true, ltb-false}
-use Rattle.words.proofs.Choices.{either-way, both-true, same-or-not}
+use Rattle.words.proofs.Choices.{either-way, both-true, come-out-alike, same-or-not}
 use Rattle.bank_bits.specs.Registers.{bank, bank-at, with-bank, half, with-half, bank-of, is-mask, is-high, value-of, with-value, half-at, with-half-at}
 use Rattle.bank_bits.specs.declared.Bank.{Bank}
 use Rattle.bank_bits.specs.declared.Banks.{Banks}
@@ -34,25 +34,14 @@ any-bank b n k = each-bank (λ m. bank-at (with-bank b n k) m ≡ cond (eqb n m)
 
 module _ (b : Banks) (n : ℕ) (k : Bank) (m : ℕ) (h : m < 4) where
   -- A bank that was made k is k.
-  pub same-bank : n ≡ m → bank-at (with-bank b n k) m ≡ k
+  same-bank : n ≡ m → bank-at (with-bank b n k) m ≡ k
   same-bank e = any-bank b n k m h ∙ rw (eq-eqb n m e)
 
   -- Every other bank is as it stood.
-  pub other-bank : n ≢ m → bank-at (with-bank b n k) m ≡ bank-at b m
+  other-bank : n ≢ m → bank-at (with-bank b n k) m ≡ bank-at b m
   other-bank d = any-bank b n k m h ∙ rw (ne-eqb n m d)
 
 -- ---- one half of a bank's two values
-
--- Two tests that come out alike are one.
-pub alike : (s t : Bool) → Bool·beq s t ≡ true → s ≡ t
-alike true true e = refl
-alike true false e = sym e
-alike false true e = e
-alike false false e = refl
-
-pub alike-itself : (s : Bool) → Bool·beq s s ≡ true
-alike-itself true = refl
-alike-itself false = refl
 
 any-half : (s t : Bool) (v w : ℕ) → w < 65536 → half t (with-half s v w) ≡ cond (Bool·beq s t) w (half t v)
 unfolding half with-half
@@ -117,7 +106,7 @@ module _ (b : Banks) (i w : ℕ) (l : w < 65536) (j : ℕ) where
 
 -- After a write the same place reads back what was written.
 pub reads-back : (b : Banks) (i w : ℕ) → w < 65536 → half-at (with-half-at b i w) i ≡ w
-reads-back b i w l = this-bank b i w l i refl ∙ rw (alike-itself (is-mask i), alike-itself (is-high i))
+reads-back b i w l = this-bank b i w l i refl ∙ rw (come-out-alike (is-mask i) (is-mask i) .1 refl, come-out-alike (is-high i) (is-high i) .1 refl)
 
 -- No other place is changed.
 pub others-stay : (b : Banks) (i w j : ℕ) → w < 65536 → i < 16 → j < 16 → i ≢ j → half-at (with-half-at b i w) j ≡ half-at b j
@@ -130,7 +119,7 @@ others-stay b i w j l hi hj d =
     elsewhere : bank-of i ≡ bank-of j → same-spot i j ≡ false
     elsewhere e =
         ⊎-elim
-        (λ t. let u = both-true _ _ t in absurd (d (one-place i j hi hj e (alike _ _ (u .0)) (alike _ _ (u .1)))))
+        (λ t. let u = both-true _ _ t in absurd (d (one-place i j hi hj e (come-out-alike _ _ .0 (u .0)) (come-out-alike _ _ .0 (u .1)))))
         (λ f. f)
         (either-way (same-spot i j))
 

@@ -9,6 +9,7 @@ use Rattle.words.proofs.Choices.{same-or-not}
 use Rattle.bank_bits.specs.Access.{next, port, read-answer, write-answer}
 use Rattle.bank_bits.specs.InPlainWords.{Access, read, write, answer-to, after, lanes-of, counted}
 use Rattle.bank_bits.specs.declared.BankPort.{BankPort}
+use Rattle.bank_bits.proofs.Numbers.{access-numbers}
 
 -- An access of sixteen bits steps it; any other leaves it.
 pub steps : (p : BankPort) (x : Access) → lanes-of x ≡ 3 → answer-to p x .port .index ≡ next (p .index)
@@ -17,9 +18,7 @@ steps p (read lanes) e = rw (eq-eqb lanes 3 e)
 steps p (write lanes w) e = rw (eq-eqb lanes 3 e)
 
 pub stays : (p : BankPort) (x : Access) → lanes-of x ≢ 3 → answer-to p x .port ≡ p
-unfolding read-answer write-answer
-stays p (read lanes) d = rw (ne-eqb lanes 3 d)
-stays p (write lanes w) d = rw (ne-eqb lanes 3 d)
+stays p x d = let k = access-numbers p x in k .refused (λ z. d (k .done .0 z)) .1
 
 -- It counts the accesses of sixteen bits, modulo 16.
 pub index-after : (p : BankPort) (xs : List Access) → after p xs .index % 16 ≡ (p .index + counted xs) % 16

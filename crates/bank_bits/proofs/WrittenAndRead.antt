@@ -23,6 +23,11 @@ pub read-is : (p : BankPort) → (read-answer p 3 .word ≡ half-at (p .banks) (
 unfolding read-answer
 read-is p = (refl, refl)
 
+-- A write answers no word.
+pub write-answers-0 : (p : BankPort) (w : ℕ) → write-answer p 3 w .word ≡ 0
+unfolding write-answer
+write-answers-0 p w = refl
+
 module _ (p : BankPort) (w : ℕ) (l : w < 65536) where
   -- After a write its place reads back what was written,
   pub written-there : half-at (write-answer p 3 w .port .banks) (p .index % 16) ≡ w

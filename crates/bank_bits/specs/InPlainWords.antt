@@ -7,9 +7,9 @@
 --   writes ws              writes of sixteen bits, of these words
 --   words-read p n         what n reads of sixteen bits hand out
 --   mask-for k             the mask of a bank of 2^k bits
---   Agrees m c a           each of the 32 bits is disregarded by the mask m, or is the same in the compare value c and in the address a
+--   Agrees m v a           each of the 32 bits is disregarded by the mask m, or is the same in the compare value v and in the address a
 --   InTurn c a n           the control word c lets a refresh at address a be one of bank n
---   Admits c a n kind      the control word c admits a cycle of that kind for bank n
+--   Admits c a kind n      the control word c admits a cycle of that kind for bank n
 --   shows o n              the answer o shows bank n selected
 use Prim.Native.Nat.{ℕ, zero, suc, _+_, _-_, _^_, _<_}
 use mathlib.Core.Path.{_≡_}
@@ -55,12 +55,12 @@ words-read p (suc n) = read-answer p 3 .word ∷ words-read (read-answer p 3 .po
 
 -- ---- the address
 
--- "BKMSKx = FFFFFFFFh - (bank size in bits) + 1", where an F is lost in print; for k below 32
+-- "BKMSKx = 0FFFFFFFh - (bank size in bits) + 1" (an F is lost in print: FFFFFFFFh); for k below 32
 abbrev pub mask-for : ℕ → ℕ
 mask-for k = 0xFFFFFFFF - 2 ^ k + 1
 
 abbrev pub Agrees : ℕ → ℕ → ℕ → Type 0
-Agrees m c a = (i : ℕ) → i < 32 → (bit m i ≡ false) ⊎ (bit c i ≡ bit a i)
+Agrees m v a = (i : ℕ) → i < 32 → (bit m i ≡ false) ⊎ (bit v i ≡ bit a i)
 
 -- ---- the control word
 
@@ -70,10 +70,10 @@ pub data InTurn (c : ℕ) (a : BitAddress) (n : ℕ) : Type 0 where
   in-a-pair : bit c 7 ≡ false → bit c 6 ≡ true → bit n 0 ≡ bit (a .0) 16 → InTurn c a n
   alone : bit c 7 ≡ true → bit c 6 ≡ false → bit n 0 ≡ bit (a .0) 16 → bit n 1 ≡ bit (a .0) 17 → InTurn c a n
 
-pub data Admits (c : ℕ) (a : BitAddress) (n kind : ℕ) : Type 0 where
-  ordinary : kind ≡ 0 → Admits c a n kind
-  refresh : kind ≡ 1 → bit c (8 + n) ≡ false → InTurn c a n → Admits c a n kind
-  special : kind ≡ 2 → bit c (12 + n) ≡ true → Admits c a n kind
+pub data Admits (c : ℕ) (a : BitAddress) (kind n : ℕ) : Type 0 where
+  ordinary : kind ≡ 0 → Admits c a kind n
+  refresh : kind ≡ 1 → bit c (8 + n) ≡ false → InTurn c a n → Admits c a kind n
+  special : kind ≡ 2 → bit c (12 + n) ≡ true → Admits c a kind n
 
 -- ---- the answer
 

@@ -8,7 +8,7 @@
 --   called, left-by       calls with what is told by the definitions, and the registers that they leave; worked r, both of a row
 --   banks c0 m0 .. c3 m3  the registers, by their eight values
 --   none, all             a decode's answers that show no bank, all four; only0 to only3, those that show one
---   unset, apart, unmasked   registers to start with
+--   unset, apart, anywhere   registers to start with
 --   sample-map            source document 001's sample memory map
 --   order, bytes, wrap, special, refresh, several, seen, table   the other rows, and all of them
 use Prim.Native.Nat.{ℕ}
@@ -101,7 +101,7 @@ sample-map =
     -- BKAD2L, BKAD2H: VRAM, 01800000h to 01FFFFFFh
     writes 3 0x0000 (told 0 0 5) ∷
     writes 3 0x0180 (told 0 0 6) ∷
-    -- BKAD3L, BKAD3H: VRAM, 01000000h to 017FFFFFh
+    -- BKAD3L, BKAD3H: VRAM, 01000000h to 017FFFFFh; Figure 2 has its first address among those unused too
     writes 3 0x0000 (told 0 0 7) ∷
     writes 3 0x0100 (told 0 0 8) ∷
     -- BKMSK0L, BKMSK0H to BKMSK3L, BKMSK3H
@@ -208,18 +208,19 @@ wrap =
 -- ---- what the control word admits
 
 -- every address agrees with every bank
-abbrev pub unmasked : Banks
-unmasked = banks 0xFFFFFFFF 0 0x12345678 0 0 0 0x80000001 0
+abbrev pub anywhere : Banks
+anywhere = banks 0xFFFFFFFF 0 0x12345678 0 0 0 0x80000001 0
 
 unfoldable pub special : List Row
 special =
     -- a set BVEN bit admits a special cycle, bank 0's is bit 12; no other bit does
-    row unmasked 0
+    row anywhere 0
     (decodes 0x1000 0 2 only0 ∷
     decodes 0x2000 0xFFFFFFFF 2 only1 ∷
     decodes 0x4000 0x00010000 2 only2 ∷
     decodes 0x8000 0x00030000 2 only3 ∷
     decodes 0xF000 0 2 all ∷
+    decodes 0x1FC0 0 2 only0 ∷
     decodes 0x0FFF 0 2 none ∷
     -- an ordinary cycle is admitted by any word
     decodes 0x0000 0 0 all ∷
@@ -228,13 +229,13 @@ special =
     decodes 0xF000 0 3 (decoded-as 31 false false false false) ∷
     decodes 0xF000 0 0xFFFFFFFF (decoded-as 31 false false false false) ∷
     [])
-    unmasked ∷
+    anywhere ∷
     []
 
 unfoldable pub refresh : List Row
 refresh =
     -- RM 00: all banks at once, but where a BDRD bit is set, bank 0's is bit 8
-    row unmasked 0
+    row anywhere 0
     (decodes 0xF000 0 1 all ∷
     decodes 0x003F 0x00030000 1 all ∷
     decodes 0x0E00 0 1 only0 ∷
@@ -242,22 +243,25 @@ refresh =
     decodes 0x0B00 0 1 only2 ∷
     decodes 0x0700 0 1 only3 ∷
     decodes 0x0F00 0 1 none ∷
+    decodes 0xFF00 0 1 none ∷
     -- RM 01: banks 0 and 2 where address bit 16 is 0, else 1 and 3
     decodes 0x0040 0x00000000 1 (decoded-as 0 true false true false) ∷
     decodes 0x0040 0x00010000 1 (decoded-as 0 false true false true) ∷
     decodes 0x0040 0xFFFEFFFF 1 (decoded-as 0 true false true false) ∷
-    decodes 0x0240 0x00010000 1 only3 ∷
+    decodes 0xF240 0x00010000 1 only3 ∷
     -- RM 10: the bank that address bits 17 and 16 name
     decodes 0x0080 0x00000000 1 only0 ∷
     decodes 0x0080 0x00010000 1 only1 ∷
-    decodes 0x0080 0x00020000 1 only2 ∷
+    decodes 0xF080 0x00020000 1 only2 ∷
     decodes 0x0080 0xFFFFFFFF 1 only3 ∷
     decodes 0x0880 0xFFFFFFFF 1 none ∷
     -- RM 11: none
     decodes 0x00C0 0x00000000 1 none ∷
+    decodes 0x00C0 0x00010000 1 none ∷
+    decodes 0xF0C0 0x00020000 1 none ∷
     decodes 0x00C0 0x00030000 1 none ∷
     [])
-    unmasked ∷
+    anywhere ∷
     -- the address must agree in these cycles too
     row (banks 0x01000000 0xFF800000 0x01000000 0xFFFF0000 0x01000000 0x01000000 0 0xFFFFFFFF) 0
     (decodes 0xF000 0x01010000 1 (decoded-as 0 true false true false) ∷
@@ -291,7 +295,7 @@ several =
 unfoldable pub seen : List Row
 seen =
     -- the next decode sees what was written: bank 0's mask, then its compare value
-    row unmasked 8
+    row anywhere 8
     (decodes 0 0x0000A5A5 0 all ∷
     writes 3 0xFFFF (told 0 0 9) ∷
     decodes 0 0x0000A5A5 0 (decoded-as 0 false true true true) ∷

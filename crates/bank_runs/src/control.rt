@@ -10,18 +10,20 @@ fn run_special(b: Banks) {
     decode(b, 0xa000, 0x7fff_ffff, 2);
     decode(b, 0xf000, 0x8000_0000, 2);
     decode(b, 0x0fff, 0x8000_0000, 2);
+    decode(b, 0x1fc0, 0x8000_0000, 2);
 }
 
 // BDRD keeps a bank from refresh: bit 8 for bank 0. RM is 00, 01, 10, 11.
 fn run_refresh(b: Banks) {
     decode(b, 0xf000, 0x8000_0000, 1);
     decode(b, 0x0500, 0x8000_0000, 1);
+    decode(b, 0xff00, 0x8000_0000, 1);
     decode(b, 0x0040, 0x8000_0000, 1);
     decode(b, 0x0040, 0x8001_0000, 1);
     decode(b, 0x0240, 0x8003_0000, 1);
     decode(b, 0x0080, 0x8000_0000, 1);
     decode(b, 0x0080, 0x8001_0000, 1);
-    decode(b, 0x0080, 0x8002_0000, 1);
+    decode(b, 0xf080, 0x8002_0000, 1);
     decode(b, 0x0080, 0x8003_0000, 1);
     decode(b, 0x0080, 0x0003_0000, 1);
     decode(b, 0x0480, 0x8002_0000, 1);

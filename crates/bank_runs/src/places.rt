@@ -28,7 +28,15 @@ fn run_high_index(banks: Banks) {
     };
     read(read(read(last, 4), 3), 3);
     let ninth = BankPort { banks, index: 24 };
-    write(write(ninth, 0, 0x5a5a), 3, 0x5a5a);
+    let p = write(write(ninth, 0, 0x5a5a), 3, 0x5a5a);
+    let left = p.banks;
+    read(
+        BankPort {
+            banks: left,
+            index: 8,
+        },
+        3,
+    );
 }
 
 pub(crate) fn run_places() {

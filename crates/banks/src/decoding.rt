@@ -13,7 +13,7 @@ use words::both;
 fn is_agreed(k: Bank, a: BitAddress) -> bool
     ensures { λ r. ⌜ r ≡ agrees (k .mask) (k .compare) (a .0) ⌝ }
 {
-    k.compare & k.mask == a.0 & k.mask
+    (k.compare & k.mask) == (a.0 & k.mask)
 }
 
 // A refresh at that address is one of bank n: of every bank, of one pair, of one bank, or of none.

@@ -2,23 +2,20 @@
 use Prim.Native.Nat.{ℕ}
 use native.Mathlib.Omega.{arith}
 use mathlib.Core.Path.{_≡_, refl}
-use mathlib.Core.Bool.{Bool, true, false, not, Bool·beq}
+use mathlib.Core.Bool.{Bool, true, false, not}
 use borrow.Author.Tests.{eq-eqb}
 use lib.Dec.{T}
 use lib.Ieee.{Float, nan, inf, fin, eq, isNan, toBits, binary64}
+use Rattle.words.proofs.Choices.{come-out-alike}
 
 contra : {A : Type 0} {b : Bool} → b ≡ true → b ≡ false → A
 contra p q = let z : _≡_ {A = ℕ} 0 1 = cc in absurd (omega arith)
 
-same-sign : (s : Bool) → Bool·beq s s ≡ true
-same-sign true = refl
-same-sign false = refl
-
 others : (x : Float) → T (not (isNan x)) → eq x x ≡ true
 unfolding eq isNan
 others nan t = absurd t
-others (inf s) t = same-sign s
-others (fin s m e) t = rw (eq-eqb _ _ refl, same-sign s)
+others (inf s) t = come-out-alike s s .1 refl
+others (fin s m e) t = rw (eq-eqb _ _ refl, come-out-alike s s .1 refl)
 
 -- One that does is a number or an infinity.
 pub equal-is-no-nan : (x : Float) → eq x x ≡ true → T (not (isNan x))

@@ -1,8 +1,8 @@
 -- A test is true or false, and what that says of numbers: for laws that go by cases and keep what each case gives.
 use Prim.Native.Nat.{ℕ, _≤_, _<_}
-use mathlib.Core.Path.{_≡_, refl}
-use mathlib.Core.Bool.{Bool, true, false, _&&_, _||_}
-use mathlib.Core.Logic.{_⊎_, inl, inr, ⊎-elim, _≢_}
+use mathlib.Core.Path.{_≡_, refl, sym}
+use mathlib.Core.Bool.{Bool, true, false, true≢false, false≢true, _&&_, _||_, Bool·beq}
+use mathlib.Core.Logic.{_⊎_, inl, inr, ⊎-elim, _↔_, _≢_}
 use lib.Dec.{eqb, ltb}
 use borrow.Author.Tests.{ltb-true, ltb-false, eqb-true, eqb-false}
 
@@ -20,6 +20,19 @@ both-true false t e = (e, cc)
 pub both-false : (s t : Bool) → s || t ≡ false → (s ≡ false) × (t ≡ false)
 both-false false t e = (refl, e)
 both-false true t e = (e, cc)
+
+-- Two tests are one if each holds where the other does.
+pub same-test : (s t : Bool) → (s ≡ true → t ≡ true) → (t ≡ true → s ≡ true) → s ≡ t
+same-test true t f g = sym (f refl)
+same-test false true f g = g refl
+same-test false false f g = refl
+
+-- They are one exactly if the library's test of that holds.
+pub come-out-alike : (s t : Bool) → Bool·beq s t ≡ true ↔ s ≡ t
+come-out-alike true true = (λ _. refl, λ _. refl)
+come-out-alike true false = (λ e. absurd (false≢true e), λ e. absurd (true≢false e))
+come-out-alike false true = (λ e. absurd (false≢true e), λ e. absurd (false≢true e))
+come-out-alike false false = (λ _. refl, λ _. refl)
 
 -- Of two numbers the first is less, or it is not.
 pub less-or-not : (x y : ℕ) → (x < y) ⊎ (y ≤ x)

@@ -2,6 +2,7 @@
 pub mod Choices
 pub mod Addresses
 pub mod Bits
+pub mod Digits
 pub mod Lanes
 pub mod ByBytes
 pub mod MemoryWords
