@@ -2,8 +2,8 @@
 --   Access                 an access to the port: read lanes, or write lanes w
 --   answer-to p x          what the access x answers
 --   after p xs             the port after the accesses xs
---   counted xs             how many of them are of sixteen bits
---   lanes-of x             its lanes
+--   lanes-of x             the lanes of the access x
+--   counted xs             how many of the accesses xs are of sixteen bits
 --   writes ws              writes of sixteen bits, of these words
 --   words-read p n         what n reads of sixteen bits hand out
 --   mask-for k             the mask of a bank of 2^k bits

@@ -1,6 +1,6 @@
 -- The registers behind BKPORT, and the sixteen places at which it reaches them: source document 001, 'BKPORT', 'BKAD', 'BKMSK' and the
 -- table of BPNT in 'BKCTL'.
---   bank c m               the bank with compare value c and mask m
+--   bank v m               the bank with compare value v and mask m
 --   bank-at b n            bank n
 --   with-bank b n k        bank n made k, and the others as in b
 --   half high v            the high or the low half of a 32-bit value
@@ -20,7 +20,7 @@ use Rattle.bank_bits.specs.declared.Banks.{Banks}
 -- ---- the four banks
 
 abbrev pub bank : ℕ → ℕ → Bank
-bank c m = record { compare = c; mask = m }
+bank v m = record { compare = v; mask = m }
 
 unfoldable pub bank-at : Banks → ℕ → Bank
 bank-at b n = cond (eqb n 0) (b .bank0) (cond (eqb n 1) (b .bank1) (cond (eqb n 2) (b .bank2) (b .bank3)))
