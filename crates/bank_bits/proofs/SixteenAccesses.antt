@@ -6,7 +6,7 @@ use mathlib.Core.List.{List, [], _∷_}
 use mathlib.Core.Logic.{⊎-elim, _≢_}
 use borrow.Author.Tests.{eq-eqb, ne-eqb}
 use Rattle.words.proofs.Choices.{same-or-not}
-use Rattle.bank_bits.specs.Access.{next, port, read-answer, write-answer}
+use Rattle.bank_bits.specs.Access.{next, read-answer, write-answer}
 use Rattle.bank_bits.specs.InPlainWords.{Access, read, write, answer-to, after, lanes-of, counted}
 use Rattle.bank_bits.specs.declared.BankPort.{BankPort}
 use Rattle.bank_bits.proofs.Numbers.{access-numbers}
