@@ -4,3 +4,4 @@ pub mod Numbers
 pub mod HighestFirst
 pub mod Requests
 pub mod InTurn
+pub mod Promised

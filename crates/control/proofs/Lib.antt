@@ -4,3 +4,4 @@ pub mod BitTen
 pub mod LowByte
 pub mod Written
 pub mod ClosingByte
+pub mod Promised

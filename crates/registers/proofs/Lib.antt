@@ -7,3 +7,4 @@ pub mod ProcessorSide
 pub mod AfterReset
 -- ---- both sides
 pub mod Widths
+pub mod Promised

@@ -8,3 +8,5 @@ pub mod ByBytes
 pub mod MemoryWords
 pub mod Lent
 pub mod One
+pub mod Contracts
+pub mod Promised
