@@ -27,3 +27,7 @@ pub mod Marks
 pub mod Origins
 pub mod NoMiss
 pub mod WholeWords
+-- ---- what the contract promises
+pub mod Promised
+pub mod Sequences
+pub mod CallAfterCall

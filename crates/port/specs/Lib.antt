@@ -6,3 +6,4 @@ pub mod Runs
 pub mod Table
 pub mod Deeds
 pub mod Origin
+pub mod Calls
