@@ -1,9 +1,8 @@
 -- Demand 3 at the door: sixteen-bit accesses done as two calls each, a byte at a time, tell and leave what single calls do.
 -- What number 11 refuses is refused each time, and nothing changes. Else each call is the access by value on what the last one
 -- left, and the port's own law says that these end alike.
-use mathlib.Core.Path.{_≡_, refl, sym, ap, subst, _∙_}
+use mathlib.Core.Path.{_≡_, sym, ap, subst, _∙_}
 use mathlib.Core.Bool.{true}
-use mathlib.Core.List.{List, [], _∷_}
 use mathlib.Core.Logic.{⊎-elim}
 use Rattle.words.specs.Bytes.{AreBytes}
 use Rattle.words.proofs.Choices.{either-way}
@@ -17,7 +16,7 @@ use Rattle.door_bytes.specs.Image.{registers-of, image-of}
 use Rattle.door_bytes.specs.Answer.{refusing}
 use Rattle.door_bytes.specs.Door.{misfit, call-tells}
 use Rattle.door_bytes.specs.InPlainWords.{Fitting}
-use Rattle.door_bytes.specs.Runs.{Lent, told, left, opening, closing, answers, ends, byte-answers, byte-ends}
+use Rattle.door_bytes.specs.Runs.{Lent, told, left, opening, closing}
 use Rattle.door_bytes.proofs.Numbers.{fitting, unfit-number, unfit-refused}
 use Rattle.door_bytes.proofs.Refusals.{refuses}
 use Rattle.door_bytes.proofs.AsByValue.{tells-as-access, image-as-access, memory-as-access, registers-left, words-left}
@@ -115,34 +114,20 @@ module _ (l : Lent) (s : AreBytes (l .image)) (t : AreBytes (l .memory)) (x : Si
   calls-alike =
       ⊎-elim alike-unfit (λ e. alike-fit (fitting (l .image) (l .memory) e)) (either-way (misfit (l .image) (l .memory)))
 
--- ---- sequences
+-- ---- what a call leaves is bytes again, fitting or not
 module _ (l : Lent) (s : AreBytes (l .image)) (t : AreBytes (l .memory)) (a : Access) where
-  image-stays-bytes : AreBytes (left l a .image)
+  -- The image after it is bytes,
+  pub image-stays-bytes : AreBytes (left l a .image)
   image-stays-bytes =
       ⊎-elim
       (λ e. subst (λ (k : Lent). AreBytes (k .image)) (sym (left-unfit l e a)) s)
       (λ e. image-bytes-again (l .image) (l .memory) (fitting (l .image) (l .memory) e) s t a)
       (either-way (misfit (l .image) (l .memory)))
 
-  memory-stays-bytes : AreBytes (left l a .memory)
+  -- and so is the memory.
+  pub memory-stays-bytes : AreBytes (left l a .memory)
   memory-stays-bytes =
       ⊎-elim
       (λ e. subst (λ (k : Lent). AreBytes (k .memory)) (sym (left-unfit l e a)) t)
       (λ e. memory-bytes-again (l .image) (l .memory) (fitting (l .image) (l .memory) e) s t a)
       (either-way (misfit (l .image) (l .memory)))
-
--- Any sequence of accesses done by byte calls leaves what the whole calls leave.
-pub calls-end-alike : (l : Lent) (xs : List Sixteen) → AreBytes (l .image) → AreBytes (l .memory) → byte-ends l xs ≡ ends l xs
-unfolding byte-ends ends
-calls-end-alike l [] s t = refl
-calls-end-alike l (x ∷ rest) s t =
-    rw (calls-alike l s t x .end)
-    (calls-end-alike (left l (on 3 x)) rest (image-stays-bytes l s t (on 3 x)) (memory-stays-bytes l s t (on 3 x)))
-
--- It tells what the whole calls tell.
-pub calls-answer-alike : (l : Lent) (xs : List Sixteen) → AreBytes (l .image) → AreBytes (l .memory) → byte-answers l xs ≡ answers l xs
-unfolding byte-answers answers
-calls-answer-alike l [] s t = refl
-calls-answer-alike l (x ∷ rest) s t =
-    let p = calls-alike l s t x in
-    rw (p .end, p .answer, calls-answer-alike (left l (on 3 x)) rest (image-stays-bytes l s t (on 3 x)) (memory-stays-bytes l s t (on 3 x)))

@@ -16,16 +16,9 @@ use Rattle.port.proofs.Taken.{number-is}
 use Rattle.port.proofs.Widths.{access-word}
 use Rattle.door_bytes.specs.Answer.{cycle-number, packed, refusing}
 use Rattle.door_bytes.specs.Door.{call-number, outcome-of, call-tells, call-answer}
-use Rattle.door_bytes.specs.InPlainWords.{word-in, number-in, hollow-in, cycle-in, rest-in}
+use Rattle.door_bytes.specs.InPlainWords.{number-in}
+use Rattle.door_bytes.specs.Runs.{Unpacks}
 use Rattle.door_bytes.proofs.Numbers.{When, numbered, fit-number}
-
--- p is the answer a as one number
-pub record Unpacks (p : ℕ) (a : Answer) : Type 0 where
-  pub word : word-in p ≡ a .word
-  pub number : number-in p ≡ a .number
-  pub hollow : hollow-in p ≡ cond (a .hollow) 1 0
-  pub cycle : cycle-in p ≡ cycle-number (a .cycle)
-  pub rest : rest-in p ≡ 0
 
 -- The number of a cycle tells which it was.
 pub record Tells (c : Cycle) : Type 0 where

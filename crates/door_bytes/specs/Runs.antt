@@ -1,16 +1,22 @@
 -- Calls one after the other on what is lent, each access done by one call or by two: the words of demand 3 at the door.
 --   Lent, told, left         what is lent, and what one call tells and leaves
+--   control-in               HSTCTL, as the image has it
 --   opening, closing         the two byte calls of a sixteen-bit access, in the order that LBL commands when it begins
---   answers, ends            a sequence done by whole calls: what they tell, and what they leave
---   byte-answers, byte-ends  the same sequence done by byte calls
+--   Unpacks p x              the number p is the answer x, packed
+--   at-the-door              what a call may do, by its contract
 use Prim.Native.Nat.{ℕ}
-use mathlib.Core.List.{List, [], _∷_}
+use mathlib.Core.Bool.{cond}
+use mathlib.Core.List.{List}
+use mathlib.Core.Path.{_≡_}
 use Rattle.control.specs.Control.{first-lane, last-lane}
-use Rattle.port.specs.Runs.{Sixteen, on, joined}
+use Rattle.port.specs.Calls.{Call}
+use Rattle.port.specs.Runs.{Sixteen, on}
 use Rattle.port.specs.declared.Access.{Access}
 use Rattle.port.specs.declared.Answer.{Answer}
 use Rattle.door_bytes.specs.Image.{registers-of}
-use Rattle.door_bytes.specs.Door.{call-tells, call-image, call-memory}
+use Rattle.door_bytes.specs.Answer.{cycle-number}
+use Rattle.door_bytes.specs.Door.{call-tells, call-image, call-memory, Called}
+use Rattle.door_bytes.specs.InPlainWords.{word-in, number-in, hollow-in, cycle-in, rest-in}
 
 pub record Lent : Type 0 where
   pub image : List ℕ
@@ -22,27 +28,23 @@ told l a = call-tells (l .image) (l .memory) a
 abbrev pub left : Lent → Access → Lent
 left l a = record { image = call-image (l .image) (l .memory) a; memory = call-memory (l .image) (l .memory) a }
 
+abbrev pub control-in : Lent → ℕ
+control-in l = registers-of (l .image) .control
+
 -- "A word done byte by byte ends with its closing byte"
 abbrev pub opening : Lent → Sixteen → Access
-opening l x = on (first-lane (registers-of (l .image) .control)) x
+opening l x = on (first-lane (control-in l)) x
 
 abbrev pub closing : Lent → Sixteen → Access
-closing l x = on (last-lane (registers-of (l .image) .control)) x
+closing l x = on (last-lane (control-in l)) x
 
-unfoldable pub answers : Lent → List Sixteen → List Answer
-answers l [] = []
-answers l (x ∷ rest) = told l (on 3 x) ∷ answers (left l (on 3 x)) rest
+pub record Unpacks (p : ℕ) (a : Answer) : Type 0 where
+  pub word : word-in p ≡ a .word
+  pub number : number-in p ≡ a .number
+  pub hollow : hollow-in p ≡ cond (a .hollow) 1 0
+  pub cycle : cycle-in p ≡ cycle-number (a .cycle)
+  pub rest : rest-in p ≡ 0
 
-unfoldable pub ends : Lent → List Sixteen → Lent
-ends l [] = l
-ends l (x ∷ rest) = ends (left l (on 3 x)) rest
-
-unfoldable pub byte-answers : Lent → List Sixteen → List Answer
-byte-answers l [] = []
-byte-answers l (x ∷ rest) =
-    joined (told l (opening l x)) (told (left l (opening l x)) (closing l x)) ∷
-    byte-answers (left (left l (opening l x)) (closing l x)) rest
-
-unfoldable pub byte-ends : Lent → List Sixteen → Lent
-byte-ends l [] = l
-byte-ends l (x ∷ rest) = byte-ends (left (left l (opening l x)) (closing l x)) rest
+-- a call that answers with some number, and that number tells the answer x
+abbrev pub at-the-door : Call Lent
+at-the-door l a x t = (p : ℕ) × Called (l .image) (l .memory) a p (t .image) (t .memory) × Unpacks p x
