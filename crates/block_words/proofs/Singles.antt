@@ -1,6 +1,6 @@
--- Demand 3 for blocks: a block of any permitted length ends like its single accesses, place by place, and like the same accesses
--- done by bytes. Document 01, 'Blocks and the two doors'. The definitions take the accesses as one run; here the run is taken
--- apart, by its length.
+-- Demand 3 for blocks: a block of any permitted length ends like its single accesses, place by place. Document 01, 'Blocks and the two
+-- doors'. The definitions take the accesses as one run; here the run is taken apart, by its length. `Promised` says the same of calls, by
+-- words and by bytes.
 use Prim.Native.Nat.{ℕ, zero, suc, _+_, _<_, _≤_}
 use native.Mathlib.Omega.{arith}
 use mathlib.Core.Path.{_≡_, refl, sym, ap, _∙_}
@@ -9,10 +9,9 @@ use lib.ListN.{length, getD, drop}
 use lib.ListN.{length-drop, length-take}
 use lib.Seq.{getD-drop, getD-take}
 use Rattle.registers.specs.declared.Registers.{Registers}
-use Rattle.port.specs.Runs.{Machine, machine, words-in, answer-of, after, answers, ends, byte-answers, byte-ends}
+use Rattle.port.specs.Runs.{Machine, machine, words-in, answer-of, after, answers, ends}
 use Rattle.port.specs.Table.{reading}
 use Rattle.port.specs.declared.Access.the-variants.{Read, Write}
-use Rattle.port.proofs.Alike.{answers-alike, ends-alike}
 use Rattle.block_words.specs.Block.{writing, stretch, counted, tally, hollows-in, is-empty, empties-in}
 use Rattle.block_words.specs.Block.{block-read, list-after, block-write, memory-left}
 use Rattle.block_words.specs.InPlainWords.{kth-read, kth-write, number-below}
@@ -107,35 +106,20 @@ module _ (r : Registers) (m l : List ℕ) (place count : ℕ) where
             ap (machine (ends s (writing ws) .registers)) (memory-taken r m l place count e);
       }
 
-  -- The same accesses done by bytes, in the order that LBL commands, end there too.
-  pub read-by-bytes : block-read r m l place count .number ≡ 0 →
-      machine (block-read r m l place count .registers) m ≡ byte-ends (machine r m) (reading count)
-  read-by-bytes n = like-reads n .ended ∙ sym (ends-alike (machine r m) (reading count))
-
-  -- And a block write's.
-  pub write-by-bytes : block-write r m l place count .number ≡ 0 →
-      machine (block-write r m l place count .registers) (memory-left r m l place count) ≡
-      byte-ends (machine r m) (writing (stretch l place count))
-  write-by-bytes n = like-writes n .ended ∙ sym (ends-alike (machine r m) (writing (stretch l place count)))
-
-  -- Their answers hand out the words of the list's stretch, and as many hollow ones.
-  pub read-bytes-answer : block-read r m l place count .number ≡ 0 →
-      (stretch (list-after r m l place count) place count ≡ words-in (byte-answers (machine r m) (reading count)))
-      × (block-read r m l place count .hollows ≡ hollows-in (byte-answers (machine r m) (reading count)))
-  read-bytes-answer n =
+  -- The list's stretch is the words that the single reads hand out, and as many of these are hollow.
+  pub reads-answer : block-read r m l place count .number ≡ 0 →
+      (stretch (list-after r m l place count) place count ≡ words-in (answers (machine r m) (reading count)))
+      × (block-read r m l place count .hollows ≡ hollows-in (answers (machine r m) (reading count)))
+  reads-answer n =
       let s = machine r m in
       let e = sym (read-number r m l place count) ∙ n in
-      let fits = when (length m) (length l) place count .done .0 e .2 in
-      let alike = sym (answers-alike s (reading count)) in (
-        rw (list-taken r m l place count e) (laid-stretch place count l (words-in (answers s (reading count))) fits (filled-length s count)) ∙
-            ap words-in alike,
-        ap (λ (x : BlockRead). x .hollows) (read-taken r m l place count e) ∙ ap hollows-in alike,
+      let fits = when (length m) (length l) place count .done .0 e .2 in (
+        rw (list-taken r m l place count e) (laid-stretch place count l (words-in (answers s (reading count))) fits (filled-length s count)),
+        ap (λ (x : BlockRead). x .hollows) (read-taken r m l place count e),
       )
 
-  -- The bytes' stores fell empty as often.
-  pub write-bytes-answer : block-write r m l place count .number ≡ 0 →
-      block-write r m l place count .empties ≡ empties-in (byte-answers (machine r m) (writing (stretch l place count)))
-  write-bytes-answer n =
-      let e = sym (write-number r m l place count) ∙ n in
-      ap (λ (x : BlockWrite). x .empties) (write-taken r m l place count e) ∙
-      ap empties-in (sym (answers-alike (machine r m) (writing (stretch l place count))))
+  -- As many stores of the single writes fell empty.
+  pub writes-answer : block-write r m l place count .number ≡ 0 →
+      block-write r m l place count .empties ≡ empties-in (answers (machine r m) (writing (stretch l place count)))
+  writes-answer n =
+      ap (λ (x : BlockWrite). x .empties) (write-taken r m l place count (sym (write-number r m l place count) ∙ n))
