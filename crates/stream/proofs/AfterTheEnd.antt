@@ -3,20 +3,17 @@ use Prim.Native.Nat.{ℕ, _≤_}
 use native.Mathlib.Omega.{arith}
 use mathlib.Core.Path.{_≡_, refl, sym, ap, _∙_}
 use mathlib.Core.Bool.{true, false, true≢false}
-use mathlib.Core.List.{List, [], _∷_, _++_}
+use mathlib.Core.List.{List}
 use mathlib.Core.Logic.{_↔_}
 use Rattle.transcript_bytes.specs.Lists.{Lists}
-use Rattle.transcript_bytes.specs.declared.Entry.{Entry}
 use Rattle.stream.specs.InPlainWords.{answer, Came, ended-before, too-long, too-small, taken-in, then-bad}
-use Rattle.stream.specs.InPlainWords.{handed, EndCame, already-ended, nothing-missing, number-missing}
-use Rattle.stream.specs.InPlainWords.{Turn, Took, none, and-then, handed-out}
+use Rattle.stream.specs.InPlainWords.{EndCame, already-ended, nothing-missing, number-missing}
 use Rattle.stream.specs.Stream.{fresh-stream, end-answer, TookDelivery}
 use Rattle.stream.specs.declared.Stream.{Stream}
 use Rattle.stream.specs.declared.Streamed.{Streamed}
 use Rattle.stream.proofs.One.{one-delivery}
 use Rattle.stream.proofs.Outcomes.{comes-exactly}
 use Rattle.stream.proofs.TheEnd.{ends-exactly}
-use Rattle.stream.proofs.Told.{handed-none}
 
 module _ {st : Stream} {s : List ℕ} {l l′ : Lists} {o : Streamed} (p : TookDelivery st s l o l′) where
   -- A delivery is refused with 25 exactly if the stream had ended.
@@ -78,17 +75,3 @@ end-after st z p = p ∙ sym (ends-exactly st .1 (already-ended z))
 -- A fresh start goes on.
 pub fresh-goes-on : fresh-stream .ended ≡ false
 fresh-goes-on = refl
-
--- However many deliveries there are, the stream stays as it was, and nothing is handed out.
-pub stays-ended : (ts : List Turn) {st st′ : Stream} → st .ended ≡ true → Took st ts st′ → (st′ ≡ st) × (handed-out ts ≡ [])
-unfolding handed-out
-stays-ended [] z none = (refl, refl)
-stays-ended (t ∷ ts) {st} z (and-then p q) =
-    let e = delivery-after z p .0 in
-    let f = ap (λ (o : Streamed). o .stream) e in
-    let x = stays-ended ts (ap (λ (y : Stream). y .ended) f ∙ z) q in (
-      x .0 ∙ f,
-      ap (λ (o : Streamed). handed o (t .left) ++ handed-out ts) e
-          ∙ ap (λ (es : List Entry). es ++ handed-out ts) (handed-none 25 0 st (t .left))
-          ∙ x .1,
-    )

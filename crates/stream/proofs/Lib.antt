@@ -13,6 +13,7 @@ pub mod OneTurn
 pub mod OffTheLine
 pub mod AsTheReader
 pub mod HoweverCut
+pub mod EndInTheMiddle
 -- ---- open streams, record by record
 pub mod OpenStreams
 pub mod Answered

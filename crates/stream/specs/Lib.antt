@@ -2,5 +2,6 @@
 pub mod Stream
 -- ---- the words of the laws
 pub mod InPlainWords
+pub mod AnyCalls
 pub mod OpenStreams
 pub mod Table
