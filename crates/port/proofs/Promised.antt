@@ -1,30 +1,32 @@
 -- What the contract of an access by the host promises, said of any outcome that `Accessed` allows, with the call's own arguments: the number
 -- when and only then; what a refusal returns and leaves; of an access that is done what is answered and left, register by register; its
--- cycle's mark. `CallAfterCall` goes on with calls in sequence.
+-- cycle's mark. And of a cycle, of any outcome that `Cycled` allows. `CallAfterCall` goes on with calls in sequence.
 use Prim.Native.Nat.{ℕ}
-use mathlib.Core.Path.{_≡_, sym, ap, _∙_}
-use mathlib.Core.Bool.{true, false, _&&_}
+use mathlib.Core.Path.{_≡_, refl, sym, ap, _∙_}
+use mathlib.Core.Bool.{Bool, true, false, cond, _&&_}
 use mathlib.Core.List.{List}
 use mathlib.Core.Logic.{_≢_}
 use lib.ListN.{length}
 use borrow.Author.Tests.{ne-eqb}
-use Rattle.words.specs.Addresses.{word-at}
+use Rattle.words.specs.Addresses.{word-at, stepped-from}
 use Rattle.words.specs.Bytes.{replaced, shown}
-use Rattle.words.specs.Memory.{in-memory, store-at}
+use Rattle.words.specs.Memory.{in-memory, fetch-at, store-at}
 use Rattle.control.specs.Control.{incw, closes, fetches, host-low, control-laid}
 use Rattle.registers.specs.Registers.{with-latch, with-control, register-word, written}
 use Rattle.registers.specs.declared.Registers.{Registers}
-use Rattle.port.specs.Cycle.{standing}
+use Rattle.port.specs.Cycle.{stepped, mark, after-fetch, after-store, carried, memory-after, Cycled, standing}
 use Rattle.port.specs.Host.{register-of, lanes-of, access, Accessed}
 use Rattle.port.specs.Deeds.{content, Says, writes-data, has-cycle, ahead, word-used}
 use Rattle.port.specs.declared.Access.{Access}
 use Rattle.port.specs.declared.Access.the-variants.{Read, Write}
-use Rattle.port.specs.declared.Cycle.the-variants.{None, Empty}
+use Rattle.port.specs.declared.Carried.{Carried}
+use Rattle.port.specs.declared.Cycle.the-variants.{None, Inside, Empty}
+use Rattle.port.specs.declared.Due.the-variants.{Nothing, Fetch, Store}
 use Rattle.port.specs.declared.Outcome.{Outcome}
 use Rattle.port.proofs.Numbers.{When, numbered, refuses}
 use Rattle.port.proofs.HostTold.{read-answers, write-is-silent}
 use Rattle.port.proofs.OpenByte.{open-has-no-cycle, open-keeps-memory}
-use Rattle.port.proofs.Leaves.{after-storing}
+use Rattle.port.proofs.Leaves.{after-storing, fetch-leaves, store-leaves}
 use Rattle.port.proofs.DataRegister.{read-fetches, read-open, write-stores, write-steps, write-open, read-keeps-memory}
 use Rattle.port.proofs.OtherRegisters.{read-changes-nothing, load-fetches, load-open, load-keeps-memory, control-written}
 use Rattle.port.proofs.NoMiss.{TrueMark, true-mark, rule, hollow-filler, miss-leaves}
@@ -143,3 +145,26 @@ module _ {r : Registers} {m : List ℕ} {lanes w : ℕ} {o : Outcome} {m′ : Li
   -- Without it the byte is laid into HSTDATA; the mark and the other registers stay.
   pub write-stays-open : closes (r .control) lanes ≡ false → o .registers ≡ with-latch r (replaced lanes (r .latch) w) (r .hollow)
   write-stays-open e = ap (λ (x : Outcome). x .registers) (k .outcome) ∙ write-open r m lanes w (done-there k z) e
+
+-- ---- a cycle that is due, done by itself
+module _ {r : Registers} {m : List ℕ} {c : Carried} {m′ : List ℕ} where
+  -- Where none is due, nothing changes, and none is marked.
+  pub no-cycle-done : Cycled r Nothing m c m′ → (c .registers ≡ r) × (c .cycle ≡ None) × (m′ ≡ m)
+  unfolding carried memory-after
+  no-cycle-done k = rw (k .outcome, k .memory) (refl, refl, refl)
+
+  -- A fetch leaves the registers standing at its address, stepped to or not, is marked by whether its word is there, and leaves the memory.
+  pub fetch-done : {s : Bool} → Cycled r (Fetch s) m c m′ →
+      (c .registers ≡ standing m (r .control) (stepped-from s (r .pointer)))
+      × (c .cycle ≡ cond (in-memory m (word-at (stepped-from s (r .pointer)))) Inside Empty)
+      × (m′ ≡ m)
+  unfolding carried memory-after after-fetch stepped fetch-at mark
+  fetch-done {s} k = (ap (λ (x : Carried). x .registers) (k .outcome) ∙ fetch-leaves r m s, ap (λ (x : Carried). x .cycle) (k .outcome), k .memory)
+
+  -- A store leaves HSTDATA held, and steps or not, is marked by whether its word is there, and stores HSTDATA at the pointer.
+  pub store-done : {s : Bool} → Cycled r (Store s) m c m′ →
+      (c .registers ≡ after-storing r (r .latch) s)
+      × (c .cycle ≡ cond (in-memory m (word-at (r .pointer))) Inside Empty)
+      × (m′ ≡ store-at m (word-at (r .pointer)) (r .latch))
+  unfolding carried memory-after after-store mark
+  store-done {s} k = (ap (λ (x : Carried). x .registers) (k .outcome) ∙ store-leaves r m s, ap (λ (x : Carried). x .cycle) (k .outcome), k .memory)

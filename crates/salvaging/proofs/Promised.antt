@@ -10,6 +10,7 @@ use lib.ListN.{length, take, drop, length-take, length-drop}
 use lib.Seq.{take-append-seam, drop-append-seam}
 use borrow.Author.Tests.{eq-eqb, ne-eqb}
 use Rattle.words.proofs.Choices.{same-or-not}
+use Rattle.words.proofs.Contracts.{Contract}
 use Rattle.transcript_bytes.specs.Lists.{over}
 use Rattle.salvaging.specs.InPlainWords.{SalvagedAs, SalvagedAll}
 use Rattle.salvaging.specs.InPlainWords as plain
@@ -17,6 +18,8 @@ use Rattle.salvaging.specs.Salvage.{run, salvage-answer, bytes-after, Sa
 use Rattle.salvaging.specs.declared.Salvaged.{Salvaged}
 use Rattle.salvaging.proofs.Divides.{found}
 use Rattle.salvaging.proofs.Exactly.{salvages-exactly}
+use Rattle.salvaging.proofs.salvage_transcript.Kinds as salvage-transcript-kinds
+use Rattle.salvaging.proofs.salvage_transcript.Reads as salvage-transcript
 
 module _ {s out : List ℕ} {o : Salvaged} {out′ : List ℕ} (p : SalvagedTranscript s out o out′) where
   -- Its answer is the one that the string calls for.
@@ -82,3 +85,13 @@ module _ {s out : List ℕ} {o : Salvaged} {out′ : List ℕ} (p : SalvagedTran
           let d = length-drop n out′ in
           let e = length-drop n out in
           omega (arith, x .fits)
+
+-- ---- the contracts themselves: each is a statement on the call's own arguments
+-- `salvage_transcript`: damaged, sound.
+pub salvage-transcript-contract : Contract salvage-transcript-kinds.ps salvage-transcript-kinds.r salvage-transcript.Pre salvage-transcript.Post
+    (λ κs args o left.
+    let damaged = args .0 in
+    let sound = args .1 .0 in
+    let sound′ = left .1 .0 in
+    SalvagedTranscript (damaged .now) (sound .now) o (sound′ .now))
+salvage-transcript-contract = record { takes-any = λ κs args. tt; says = λ κs args o left p. p }

@@ -8,3 +8,4 @@ pub mod LentFront
 pub mod TicksTaken
 pub mod TableRead
 pub mod One
+pub mod Promised

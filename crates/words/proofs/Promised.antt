@@ -1,11 +1,16 @@
--- What the contracts of the calls say, taken from the contracts themselves (`Contract`): each is a statement on the call's own arguments.
-use Prim.Native.Nat.{_*_, _+_, min}
-use mathlib.Core.Path.{_≡_}
-use mathlib.Core.Bool.{_&&_, _||_}
+-- What the contract of a store promises; and what the contracts of all calls say, taken from the contracts themselves (`Contract`).
+use Prim.Native.Nat.{ℕ, _+_, _*_, _<_, min}
+use mathlib.Core.Path.{_≡_, sym, ap, _∙_}
+use mathlib.Core.Bool.{Bool, true, false, _&&_, _||_}
+use mathlib.Core.List.{List}
+use mathlib.Core.Logic.{_↔_, _≢_}
+use lib.ListN.{length, getD}
 use Rattle.words.specs.Addresses.{step, word-at}
 use Rattle.words.specs.Bytes.{are-lanes, bit, hi, lay, lo, replaced, shown, takes-high, takes-low}
 use Rattle.words.specs.Memory.{Stored, fetch-at, over-limit}
+use Rattle.words.specs.declared.WordNumber.{WordNumber}
 use Rattle.words.proofs.Contracts.{Contract}
+use Rattle.words.proofs.MemoryWords.{in-memory-when, stored-beyond, stored-here, stored-elsewhere, stored-length}
 use Rattle.words.proofs.word_of.Kinds as word-of-kinds
 use Rattle.words.proofs.word_of.Reads as word-of
 use Rattle.words.proofs.step_address.Kinds as step-address-kinds
@@ -45,6 +50,26 @@ use Rattle.words.proofs.fetch_word.Reads as fetch-word
 use Rattle.words.proofs.store_word.Kinds as store-word-kinds
 use Rattle.words.proofs.store_word.Reads as store-word
 
+-- ---- a store, of any outcome that `Stored` allows
+module _ {m : List ℕ} {n : WordNumber} {w : ℕ} {inside : Bool} {m′ : List ℕ} (k : Stored m n w inside m′) where
+  -- It says inside exactly if the word's number is below the memory's length.
+  pub store-says-inside : inside ≡ true ↔ n .0 < length m
+  store-says-inside = (λ e. in-memory-when m n .0 (sym (k .fell) ∙ e), λ h. k .fell ∙ in-memory-when m n .1 h)
+
+  -- Inside, the word is found in its place.
+  pub store-lays-the-word : inside ≡ true → getD m′ (n .0) 0 ≡ w
+  store-lays-the-word e = ap (λ (x : List ℕ). getD x (n .0) 0) (k .memory) ∙ stored-here m n w (sym (k .fell) ∙ e)
+
+  -- Every other word stays, and the memory is as long as it was.
+  pub store-keeps-the-rest : ((j : ℕ) → j ≢ n .0 → getD m′ j 0 ≡ getD m j 0) × (length m′ ≡ length m)
+  store-keeps-the-rest =
+      (λ j d. ap (λ (x : List ℕ). getD x j 0) (k .memory) ∙ stored-elsewhere m n w j d, ap length (k .memory) ∙ stored-length m n w)
+
+  -- Beyond memory it is dropped.
+  pub store-beyond : inside ≡ false → m′ ≡ m
+  store-beyond e = k .memory ∙ stored-beyond m n w (sym (k .fell) ∙ e)
+
+-- ---- the contracts themselves: each is a statement on the call's own arguments
 -- `word_of`: a.
 pub word-of-contract : Contract word-of-kinds.ps word-of-kinds.r word-of.Pre word-of.Post
     (λ κs args r left.

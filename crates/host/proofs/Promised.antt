@@ -1,0 +1,124 @@
+-- What the contracts of the calls say, taken from the contracts themselves (`Contract`): each is a statement on the call's own arguments.
+use mathlib.Core.Path.{_≡_}
+use Rattle.port.specs.declared.Access.the-variants.{Read, Write}
+use Rattle.port.specs.Host.{Accessed, begin-access, finished, lanes-of, refusal, refused, register-of}
+use Rattle.port.specs.Cycle.{Cycled, after-fetch, after-store, stepped}
+use Rattle.words.proofs.Contracts.{Contract}
+use Rattle.host.proofs.access.begin_read.Kinds as begin-read-kinds
+use Rattle.host.proofs.access.begin_read.Reads as begin-read
+use Rattle.host.proofs.access.begin_write.Kinds as begin-write-kinds
+use Rattle.host.proofs.access.begin_write.Reads as begin-write
+use Rattle.host.proofs.access.begin.Kinds as begin-kinds
+use Rattle.host.proofs.access.begin.Reads as begin
+use Rattle.host.proofs.access.number_of.Kinds as number-of-kinds
+use Rattle.host.proofs.access.number_of.Reads as number-of
+use Rattle.host.proofs.access.refuse.Kinds as refuse-kinds
+use Rattle.host.proofs.access.refuse.Reads as refuse
+use Rattle.host.proofs.access.finish.Kinds as finish-kinds
+use Rattle.host.proofs.access.finish.Reads as finish
+use Rattle.host.proofs.access.host_access.Kinds as host-access-kinds
+use Rattle.host.proofs.access.host_access.Reads as host-access
+use Rattle.host.proofs.cycles.step_if.Kinds as step-if-kinds
+use Rattle.host.proofs.cycles.step_if.Reads as step-if
+use Rattle.host.proofs.cycles.settle_fetch.Kinds as settle-fetch-kinds
+use Rattle.host.proofs.cycles.settle_fetch.Reads as settle-fetch
+use Rattle.host.proofs.cycles.settle_store.Kinds as settle-store-kinds
+use Rattle.host.proofs.cycles.settle_store.Reads as settle-store
+use Rattle.host.proofs.cycles.carry.Kinds as carry-kinds
+use Rattle.host.proofs.cycles.carry.Reads as carry
+
+-- `begin_read`: r, register, lanes.
+pub begin-read-contract : Contract begin-read-kinds.ps begin-read-kinds.r begin-read.Pre begin-read.Post
+    (λ κs args b left.
+    let r = args .0 in
+    let register = args .1 .0 in
+    let lanes = args .1 .1 .0 in
+    b ≡ begin-access r (Read register lanes))
+begin-read-contract = record { takes-any = λ κs args. tt; says = λ κs args b left p. p }
+
+-- `begin_write`: r, register, lanes, word.
+pub begin-write-contract : Contract begin-write-kinds.ps begin-write-kinds.r begin-write.Pre begin-write.Post
+    (λ κs args b left.
+    let r = args .0 in
+    let register = args .1 .0 in
+    let lanes = args .1 .1 .0 in
+    let word = args .1 .1 .1 .0 in
+    b ≡ begin-access r (Write register lanes word))
+begin-write-contract = record { takes-any = λ κs args. tt; says = λ κs args b left p. p }
+
+-- `begin`: r, a.
+pub begin-contract : Contract begin-kinds.ps begin-kinds.r begin.Pre begin.Post
+    (λ κs args b left.
+    let r = args .0 in
+    let a = args .1 .0 in
+    b ≡ begin-access r a)
+begin-contract = record { takes-any = λ κs args. tt; says = λ κs args b left p. p }
+
+-- `number_of`: words, a.
+pub number-of-contract : Contract number-of-kinds.ps number-of-kinds.r number-of.Pre number-of.Post
+    (λ κs args r left.
+    let words = args .0 in
+    let a = args .1 .0 in
+    r ≡ refusal words (register-of a) (lanes-of a))
+number-of-contract = record { takes-any = λ κs args. tt; says = λ κs args r left p. p }
+
+-- `refuse`: number, r.
+pub refuse-contract : Contract refuse-kinds.ps refuse-kinds.r refuse.Pre refuse.Post
+    (λ κs args o left.
+    let number = args .0 in
+    let r = args .1 .0 in
+    o ≡ refused number r)
+refuse-contract = record { takes-any = λ κs args. tt; says = λ κs args o left p. p }
+
+-- `finish`: b, c.
+pub finish-contract : Contract finish-kinds.ps finish-kinds.r finish.Pre finish.Post
+    (λ κs args o left.
+    let b = args .0 in
+    let c = args .1 .0 in
+    o ≡ finished b c)
+finish-contract = record { takes-any = λ κs args. tt; says = λ κs args o left p. p }
+
+-- `host_access`: r, memory, a.
+pub host-access-contract : Contract host-access-kinds.ps host-access-kinds.r host-access.Pre host-access.Post
+    (λ κs args o left.
+    let r = args .0 in
+    let memory = args .1 .0 in
+    let memory′ = left .1 .0 in
+    let a = args .1 .1 .0 in
+    Accessed r (memory .now) a o (memory′ .now))
+host-access-contract = record { takes-any = λ κs args. tt; says = λ κs args o left p. p }
+
+-- `step_if`: step, r.
+pub step-if-contract : Contract step-if-kinds.ps step-if-kinds.r step-if.Pre step-if.Post
+    (λ κs args x left.
+    let step = args .0 in
+    let r = args .1 .0 in
+    x ≡ stepped step r)
+step-if-contract = record { takes-any = λ κs args. tt; says = λ κs args x left p. p }
+
+-- `settle_fetch`: r, f.
+pub settle-fetch-contract : Contract settle-fetch-kinds.ps settle-fetch-kinds.r settle-fetch.Pre settle-fetch.Post
+    (λ κs args c left.
+    let r = args .0 in
+    let f = args .1 .0 in
+    c ≡ after-fetch r f)
+settle-fetch-contract = record { takes-any = λ κs args. tt; says = λ κs args c left p. p }
+
+-- `settle_store`: r, step, inside.
+pub settle-store-contract : Contract settle-store-kinds.ps settle-store-kinds.r settle-store.Pre settle-store.Post
+    (λ κs args c left.
+    let r = args .0 in
+    let step = args .1 .0 in
+    let inside = args .1 .1 .0 in
+    c ≡ after-store r step inside)
+settle-store-contract = record { takes-any = λ κs args. tt; says = λ κs args c left p. p }
+
+-- `carry`: r, due, memory.
+pub carry-contract : Contract carry-kinds.ps carry-kinds.r carry.Pre carry.Post
+    (λ κs args c left.
+    let r = args .0 in
+    let due = args .1 .0 in
+    let memory = args .1 .1 .0 in
+    let memory′ = left .1 .1 .0 in
+    Cycled r due (memory .now) c (memory′ .now))
+carry-contract = record { takes-any = λ κs args. tt; says = λ κs args c left p. p }
