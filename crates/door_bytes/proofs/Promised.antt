@@ -4,19 +4,19 @@ use Prim.Native.Nat.{ℕ, _*_, _/_}
 use native.Mathlib.Omega.{arith}
 use mathlib.Core.Path.{_≡_, refl, sym, ap, subst, _∙_}
 use mathlib.Core.Bool.{Bool, true, false, cond}
-use mathlib.Core.List.{List, [], _∷_}
+use mathlib.Core.List.{List}
 use mathlib.Core.Logic.{_≢_}
 use Rattle.words.specs.Addresses.{word-at}
 use Rattle.words.specs.Bytes.{AreBytes}
-use Rattle.port.specs.Calls.{ByWords, no-word, a-word, ByBytes, no-byte, two-bytes}
+use Rattle.port.specs.Calls.{ByWords, ByBytes, AddUp, AllAddUp}
 use Rattle.port.specs.Host.{access, access-memory}
-use Rattle.port.specs.Runs.{Sixteen, on, joined}
+use Rattle.port.specs.Runs.{Sixteen, on}
 use Rattle.port.specs.declared.Access.{Access}
 use Rattle.port.specs.declared.Access.the-variants.{Read}
 use Rattle.port.specs.declared.Answer.{Answer}
 use Rattle.port.specs.declared.Cycle.{Cycle}
 use Rattle.port.specs.declared.Cycle.the-variants.{None, Inside, Empty}
-use Rattle.port.proofs.Sequences.{PairAlike, pair-alike, sequences-alike}
+use Rattle.port.proofs.Sequences.{PairAlike, pair-alike, sequences-alike, words-made, bytes-made}
 use Rattle.door_bytes.specs.Bytes.{words-of, bytes-of, byte}
 use Rattle.door_bytes.specs.Image.{registers-of, image-of}
 use Rattle.door_bytes.specs.Answer.{cycle-number, packed}
@@ -138,44 +138,40 @@ still-bytes : (l : Lent) (a : Access) → Bytes l → Bytes (left l a)
 still-bytes l a h = (image-stays-bytes l (h .0) (h .1) a, memory-stays-bytes l (h .0) (h .1) a)
 
 pairs : (l : Lent) (y : Sixteen) → Bytes l → PairAlike control-in told left l y
-pairs l y h = let p = calls-alike l (h .0) (h .1) y in record { answer = p .answer; end = p .end }
+pairs l y h =
+    let p = calls-alike l (h .0) (h .1) y in
+    record {
+      answer =
+          record {
+            word = ap (λ (z : Answer). z .word) (p .answer);
+            number = ap (λ (z : Answer). z .number) (p .answer);
+            hollow = ap (λ (z : Answer). z .hollow) (p .answer);
+            cycle = ap (λ (z : Answer). z .cycle) (p .answer);
+            first-number = p .first-number;
+            first-hollow = p .first-hollow;
+            first-cycle = p .first-cycle;
+          };
+      end = p .end;
+    }
 
--- a sixteen-bit access done as one call; and as two byte calls, the second on what the first left
-module _ {l t t₁ t₂ : Lent} (y : Sixteen) {x x₁ x₂ : Answer} (h : Bytes l) (whole : at-the-door l (on 3 y) x t)
-    (first : at-the-door l (opening l y) x₁ t₁) (second : at-the-door t₁ (closing l y) x₂ t₂) where
-  -- The two byte calls leave the bytes that the one call leaves. Their words add up to its word, and the second has its number, its hollow mark
-  -- and its cycle.
-  pub byte-calls-alike : (joined x₁ x₂ ≡ x) × (t₂ ≡ t)
-  byte-calls-alike = pair-alike at-the-door control-in told left Bytes call-exact still-bytes pairs y h whole first second
-
-  -- The first has its number and its hollow mark too, and no cycle.
-  pub first-byte-call : (x₁ .number ≡ x .number) × (x₁ .hollow ≡ x .hollow) × (x₁ .cycle ≡ None)
-  first-byte-call =
-      let p = calls-alike l (h .0) (h .1) y in
-      let e = call-exact l (opening l y) x₁ t₁ first .0 in
-      let f = call-exact l (on 3 y) x t whole .0 in (
-        ap (λ (u : Answer). u .number) e ∙ p .first-number ∙ sym (ap (λ (u : Answer). u .number) f),
-        ap (λ (u : Answer). u .hollow) e ∙ p .first-hollow ∙ sym (ap (λ (u : Answer). u .hollow) f),
-        ap (λ (u : Answer). u .cycle) e ∙ p .first-cycle,
-      )
+-- A sixteen-bit access done by two byte calls, the second on what the first left, answers what one call answers, and leaves the bytes that it
+-- leaves.
+pub byte-calls-alike : {l t t₁ t₂ : Lent} (y : Sixteen) {x x₁ x₂ : Answer} → AreBytes (l .image) → AreBytes (l .memory) →
+    at-the-door l (on 3 y) x t → at-the-door l (opening l y) x₁ t₁ → at-the-door t₁ (closing l y) x₂ t₂ → AddUp x₁ x₂ x × (t₂ ≡ t)
+byte-calls-alike y b c whole first second =
+    pair-alike at-the-door control-in told left Bytes call-exact still-bytes pairs y (b, c) whole first second
 
 -- Any sequence of accesses done by byte calls answers and leaves what the word calls answer and leave, whatever bytes are lent, refused calls
 -- too.
-pub calls-end-alike : {l t u : Lent} {ys : List Sixteen} {xs zs : List Answer} → AreBytes (l .image) → AreBytes (l .memory) →
-    ByWords at-the-door l ys xs t → ByBytes at-the-door control-in l ys zs u → (zs ≡ xs) × (u ≡ t)
+pub calls-end-alike : {l t u : Lent} {ys : List Sixteen} {xs : List Answer} {ps : List (Answer × Answer)} →
+    AreBytes (l .image) → AreBytes (l .memory) →
+    ByWords at-the-door l ys xs t → ByBytes at-the-door control-in l ys ps u → AllAddUp ps xs × (u ≡ t)
 calls-end-alike b c w v = sequences-alike at-the-door control-in told left Bytes call-exact still-bytes pairs (b, c) w v
 
 -- Any sequence of accesses can be made by word calls,
-pub words-made : (l : Lent) (ys : List Sixteen) → (xs : List Answer) × (t : Lent) × ByWords at-the-door l ys xs t
-words-made l [] = ([], l, no-word)
-words-made l (y ∷ rest) =
-    let q = words-made (left l (on 3 y)) rest in
-    (told l (on 3 y) ∷ q .0, q .1, a-word y (call-made l (on 3 y)) (q .2))
+pub words-called : (l : Lent) (ys : List Sixteen) → (xs : List Answer) × (t : Lent) × ByWords at-the-door l ys xs t
+words-called l ys = words-made at-the-door control-in told left Bytes call-exact still-bytes pairs call-made l ys
 
 -- and by byte calls.
-pub bytes-made : (l : Lent) (ys : List Sixteen) → (xs : List Answer) × (t : Lent) × ByBytes at-the-door control-in l ys xs t
-bytes-made l [] = ([], l, no-byte)
-bytes-made l (y ∷ rest) =
-    let m = left l (opening l y) in
-    let q = bytes-made (left m (closing l y)) rest in
-    (joined (told l (opening l y)) (told m (closing l y)) ∷ q .0, q .1, two-bytes y (call-made l (opening l y)) (call-made m (closing l y)) (q .2))
+pub bytes-called : (l : Lent) (ys : List Sixteen) → (ps : List (Answer × Answer)) × (t : Lent) × ByBytes at-the-door control-in l ys ps t
+bytes-called l ys = bytes-made at-the-door control-in told left Bytes call-exact still-bytes pairs call-made l ys

@@ -1,5 +1,5 @@
--- Demand 3, the tuner's law and the keeper's law, said of all that the contract of an access allows: of calls made one after the other, each
--- on the registers and the memory that the one before it left. Each call has one outcome, so a sequence of them is the run that the
+-- Demand 3, the tuner's law and the keeper's law, said of all that the contract of an access allows: of calls made one after the other,
+-- each on the registers and the memory that the one before it left. Each call has one outcome, so a sequence of them is the run that the
 -- definitions make.
 use Prim.Native.Nat.{ℕ, _+_, _*_, _^_, _<_, _≤_}
 use native.Mathlib.Omega.{arith}
@@ -14,21 +14,20 @@ use Rattle.control.specs.Control.{first-lane, last-lane, incr}
 use Rattle.registers.specs.declared.ProcessorWrite.{ProcessorWrite}
 use Rattle.registers.specs.declared.Woken.{Woken}
 use Rattle.port.specs.Host.{access-memory}
-use Rattle.port.specs.Runs.{Machine, machine, answer-of, after, Sixteen, on, joined, answers, ends}
+use Rattle.port.specs.Runs.{Machine, machine, answer-of, after, Sixteen, on, answers, ends}
 use Rattle.port.specs.Table.{Memory, loading, loaded, reading, table, Lies, given, held, filler}
 use Rattle.port.specs.Deeds.{Deed, woken, does, ran, Says}
 use Rattle.port.specs.Origin.{unset, told, story, Came}
-use Rattle.port.specs.Calls.{ByWords, no-word, a-word, ByBytes, by-value, control-of, Made}
+use Rattle.port.specs.Calls.{ByWords, no-word, a-word, ByBytes, AddUp, AllAddUp, by-value, control-of, Made}
 use Rattle.port.specs.Calls.{Did, nothing, by-host, by-processor, by-reset, by-others}
 use Rattle.port.specs.declared.Access.{Access}
 use Rattle.port.specs.declared.Access.the-variants.{Read}
 use Rattle.port.specs.declared.Answer.{Answer}
-use Rattle.port.specs.declared.Cycle.the-variants.{None}
 use Rattle.port.specs.declared.Outcome.{Outcome}
 use Rattle.port.proofs.Alike.{alike}
 use Rattle.port.proofs.EveryWord.{every-word, then-hollow, only-hollow}
 use Rattle.port.proofs.NoMiss.{since-reset, held-came}
-use Rattle.port.proofs.Sequences.{PairAlike, pair-alike, sequences-alike}
+use Rattle.port.proofs.Sequences.{one-sums, PairAlike, pair-alike, sequences-alike, bytes-made}
 
 -- ---- one call: its answer, and the machine after it
 call-exact : (s : Machine) (a : Access) (x : Answer) (t : Machine) → by-value s a x t → (x ≡ answer-of s a) × (t ≡ after s a)
@@ -48,32 +47,38 @@ abbrev any-machine : Machine → Type 0
 any-machine s = Unit
 
 pairs : (s : Machine) (a : Sixteen) → any-machine s → PairAlike control-of answer-of after s a
-pairs s a h = let p = alike s a in record { answer = p .answer; end = p .end }
+pairs s a h =
+    let p = alike s a in
+    record {
+      answer =
+          record {
+            word = ap (λ (z : Answer). z .word) (p .answer);
+            number = ap (λ (z : Answer). z .number) (p .answer);
+            hollow = ap (λ (z : Answer). z .hollow) (p .answer);
+            cycle = ap (λ (z : Answer). z .cycle) (p .answer);
+            first-number = p .first-number;
+            first-hollow = p .first-hollow;
+            first-cycle = p .first-cycle;
+          };
+      end = p .end;
+    }
 
--- a sixteen-bit access done by one call; and by two byte calls, the second on what the first left
-module _ {s t t₁ t₂ : Machine} (a : Sixteen) {x x₁ x₂ : Answer} (whole : by-value s (on 3 a) x t)
-    (first : by-value s (on (first-lane (control-of s)) a) x₁ t₁) (second : by-value t₁ (on (last-lane (control-of s)) a) x₂ t₂) where
-  -- The two byte calls leave the registers and the memory that the one call leaves. Their words add up to its word, and the second has its
-  -- number, its hollow mark and its cycle.
-  pub byte-calls-alike : (joined x₁ x₂ ≡ x) × (t₂ ≡ t)
-  byte-calls-alike = pair-alike by-value control-of answer-of after any-machine call-exact (λ _ _ _. tt) pairs a tt whole first second
-
-  -- The first has its number and its hollow mark too, and no cycle.
-  pub first-byte-call : (x₁ .number ≡ x .number) × (x₁ .hollow ≡ x .hollow) × (x₁ .cycle ≡ None)
-  first-byte-call =
-      let p = alike s a in
-      let e = call-exact s (on (first-lane (control-of s)) a) x₁ t₁ first .0 in
-      let f = call-exact s (on 3 a) x t whole .0 in (
-        ap (λ (y : Answer). y .number) e ∙ p .first-number ∙ sym (ap (λ (y : Answer). y .number) f),
-        ap (λ (y : Answer). y .hollow) e ∙ p .first-hollow ∙ sym (ap (λ (y : Answer). y .hollow) f),
-        ap (λ (y : Answer). y .cycle) e ∙ p .first-cycle,
-      )
+-- A sixteen-bit access done by two byte calls, the second on what the first left, answers what one call answers, and leaves the registers and
+-- the memory that it leaves.
+pub byte-calls-alike : {s t t₁ t₂ : Machine} (a : Sixteen) {x x₁ x₂ : Answer} → by-value s (on 3 a) x t →
+    by-value s (on (first-lane (control-of s)) a) x₁ t₁ → by-value t₁ (on (last-lane (control-of s)) a) x₂ t₂ → AddUp x₁ x₂ x × (t₂ ≡ t)
+byte-calls-alike a whole first second =
+    pair-alike by-value control-of answer-of after any-machine call-exact (λ _ _ _. tt) pairs a tt whole first second
 
 -- Any sequence of sixteen-bit accesses done by byte calls answers the words and both marks that the word calls answer, and leaves the
 -- registers and the memory that they leave, whatever the registers, the memory and the accesses.
-pub calls-end-alike : {s t u : Machine} {l : List Sixteen} {xs ys : List Answer} → ByWords by-value s l xs t → ByBytes by-value control-of s l ys u →
-    (ys ≡ xs) × (u ≡ t)
+pub calls-end-alike : {s t u : Machine} {l : List Sixteen} {xs : List Answer} {ps : List (Answer × Answer)} →
+    ByWords by-value s l xs t → ByBytes by-value control-of s l ps u → AllAddUp ps xs × (u ≡ t)
 calls-end-alike w b = sequences-alike by-value control-of answer-of after any-machine call-exact (λ _ _ _. tt) pairs tt w b
+
+-- Any such sequence can be made by byte calls.
+pub bytes-called : (s : Machine) (l : List Sixteen) → (ps : List (Answer × Answer)) × (t : Machine) × ByBytes by-value control-of s l ps t
+bytes-called s l = bytes-made by-value control-of answer-of after any-machine call-exact (λ _ _ _. tt) pairs call-made s l
 
 -- ---- a sequence of calls is the run of the definitions
 -- Any sequence of accesses can be made, and this is what it answers and leaves,
@@ -97,7 +102,9 @@ words-called {s} (a-word {t = t} a {x} {rest} c cs) =
 -- So too where the accesses are done by bytes.
 pub made-as-run : {s t : Machine} {l : List Sixteen} {xs : List Answer} → Made s l xs t → (xs ≡ answers s l) × (t ≡ ends s l)
 made-as-run (inl w) = words-called w
-made-as-run {s} {l = l} (inr b) = calls-end-alike (calls-made s l) b
+made-as-run {s} {l = l} (inr b) =
+    let e = calls-end-alike (calls-made s l) (b .1) in
+    (one-sums (b .2) (e .0), e .1)
 
 -- ---- the tuner's law: the pointer is loaded with a, and then HSTDATA is read n times, all by words or by bytes, with INCR set
 module _ {s t u : Machine} (a : BitAddress) (n : ℕ) {xs ys : List Answer}
