@@ -6,5 +6,7 @@ pub mod ByValue
 pub mod Numbers
 -- ---- any number of accesses
 pub mod WholeDay
+-- ---- demand 3
+pub mod ByBytes
 -- ---- for the proofs by hand: the port's types in a walk of the code
 pub mod PlainData

@@ -6,7 +6,7 @@ use mathlib.Core.List.{List, [], _∷_}
 use Rattle.words.proofs.One.{one-value}
 use Rattle.registers.specs.declared.Registers.{Registers}
 use Rattle.port.specs.Host.{access}
-use Rattle.port.specs.Runs.{Machine, answer-of, after, Sixteen, on, answers, ends}
+use Rattle.port.specs.Runs.{Machine, machine, answer-of, after, Sixteen, on, answers, ends}
 use Rattle.port.specs.Deeds.{does, ran}
 use Rattle.port.specs.declared.Access.{Access}
 use Rattle.port.specs.declared.Answer.{Answer}
@@ -14,20 +14,26 @@ use Rattle.bench.specs.InPlace.{AccessedInPlace}
 use Rattle.bench.specs.Day.{Day, over, next, day-answers, day-ends, wholes, by-host}
 
 -- ---- one access
-abbrev machine : Registers → List ℕ → Machine
-machine r m = record { registers = r; memory = m }
 
-answered : {s u : Machine} {a : Access} {x : Answer} →
+-- An access in place answers what the machine answers.
+pub answered : {s u : Machine} {a : Access} {x : Answer} →
     AccessedInPlace (s .registers) (s .memory) a x (u .registers) (u .memory) → x ≡ answer-of s a
 unfolding answer-of
 answered e = e .answer
 
-left : {s u : Machine} {a : Access} {x : Answer} →
+-- It leaves the machine that comes after it.
+pub left : {s u : Machine} {a : Access} {x : Answer} →
     AccessedInPlace (s .registers) (s .memory) a x (u .registers) (u .memory) → u ≡ after s a
 unfolding after
 left {s} {u} {a} e =
     ap (λ (r : Registers). machine r (u .memory)) (e .registers) ∙
     ap (λ (m : List ℕ). machine (access (s .registers) (s .memory) a .registers) m) (e .memory)
+
+-- What the machine answers and leaves, an access in place may answer and leave.
+pub can-be-done : (s : Machine) (a : Access) →
+    AccessedInPlace (s .registers) (s .memory) a (answer-of s a) (after s a .registers) (after s a .memory)
+unfolding answer-of after
+can-be-done s a = record { answer = refl; registers = refl; memory = refl }
 
 -- ---- any number of them
 
@@ -45,9 +51,9 @@ day-by-value (next {s = s} {a = a} {x = x} {l = l} e d) =
 
 -- Any accesses make a day: the one that the accesses by value say.
 pub every-day : (s : Machine) (l : List Access) → Day s l (day-answers s l) (day-ends s l)
-unfolding answer-of after day-answers day-ends
+unfolding day-answers day-ends
 every-day s [] = over
-every-day s (a ∷ l) = next (record { answer = refl; registers = refl; memory = refl }) (every-day (after s a) l)
+every-day s (a ∷ l) = next (can-be-done s a) (every-day (after s a) l)
 
 -- So a day has one outcome.
 pub one-day : {s t u : Machine} {l : List Access} {xs ys : List Answer} → Day s l xs t → Day s l ys u → (xs ≡ ys) × (t ≡ u)
