@@ -11,7 +11,8 @@ use Rattle.port.proofs.Alike.{alike}
 use Rattle.bench.specs.InPlace.{AccessedInPlace}
 use Rattle.bench.specs.Day.{Day, wholes}
 use Rattle.bench.specs.ByBytes.{ByteDay, bytes-over, two-bytes, AddUp, AllAddUp, no-pair, a-pair}
-use Rattle.bench.proofs.WholeDay.{answered, left, can-be-done, whole-day}
+use Rattle.bench.proofs.Promised.{answered, left, can-be-done}
+use Rattle.bench.proofs.WholeDay.{whole-day}
 
 -- ---- one access
 

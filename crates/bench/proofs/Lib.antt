@@ -1,9 +1,8 @@
 -- The laws of the bench, in reading order. Proofs of single functions are in the folders beside them.
--- ---- what is stated: one outcome, and the one that the access by value has
+-- ---- what is promised of the call: demand 1, the access by value, the contracts themselves; one outcome
+pub mod Promised
 pub mod One
 pub mod ByValue
--- ---- demand 1
-pub mod Numbers
 -- ---- any number of accesses
 pub mod WholeDay
 -- ---- demand 3

@@ -1,41 +1,14 @@
 -- A day in place and the same accesses by value are alike: answers, record and memory. So what port's laws say of sequences of accesses
 -- and of runs of deeds holds of the day. By the day's length: the first access goes by its contract, the rest starts where it ended.
 use mathlib.Core.Path.{_≡_, refl, ap, _∙_}
-use Prim.Native.Nat.{ℕ}
 use mathlib.Core.List.{List, [], _∷_}
 use Rattle.words.proofs.One.{one-value}
-use Rattle.registers.specs.declared.Registers.{Registers}
-use Rattle.port.specs.Host.{access}
-use Rattle.port.specs.Runs.{Machine, machine, answer-of, after, Sixteen, on, answers, ends}
+use Rattle.port.specs.Runs.{Machine, answer-of, after, Sixteen, on, answers, ends}
 use Rattle.port.specs.Deeds.{does, ran}
 use Rattle.port.specs.declared.Access.{Access}
 use Rattle.port.specs.declared.Answer.{Answer}
-use Rattle.bench.specs.InPlace.{AccessedInPlace}
 use Rattle.bench.specs.Day.{Day, over, next, day-answers, day-ends, wholes, by-host}
-
--- ---- one access
-
--- An access in place answers what the machine answers.
-pub answered : {s u : Machine} {a : Access} {x : Answer} →
-    AccessedInPlace (s .registers) (s .memory) a x (u .registers) (u .memory) → x ≡ answer-of s a
-unfolding answer-of
-answered e = e .answer
-
--- It leaves the machine that comes after it.
-pub left : {s u : Machine} {a : Access} {x : Answer} →
-    AccessedInPlace (s .registers) (s .memory) a x (u .registers) (u .memory) → u ≡ after s a
-unfolding after
-left {s} {u} {a} e =
-    ap (λ (r : Registers). machine r (u .memory)) (e .registers) ∙
-    ap (λ (m : List ℕ). machine (access (s .registers) (s .memory) a .registers) m) (e .memory)
-
--- What the machine answers and leaves, an access in place may answer and leave.
-pub can-be-done : (s : Machine) (a : Access) →
-    AccessedInPlace (s .registers) (s .memory) a (answer-of s a) (after s a .registers) (after s a .memory)
-unfolding answer-of after
-can-be-done s a = record { answer = refl; registers = refl; memory = refl }
-
--- ---- any number of them
+use Rattle.bench.proofs.Promised.{answered, left, can-be-done}
 
 -- A day of accesses in place answers what the accesses by value answer, and leaves the record and the memory where they end.
 pub day-by-value : {s t : Machine} {l : List Access} {xs : List Answer} → Day s l xs t → (xs ≡ day-answers s l) × (t ≡ day-ends s l)
