@@ -10,11 +10,11 @@ use mathlib.Core.Logic.{inl, inr}
 use lib.ListN.{length, replicate}
 use Rattle.words.specs.Addresses.{word-at}
 use Rattle.words.specs.declared.BitAddress.{BitAddress}
-use Rattle.control.specs.Control.{first-lane, last-lane, incr}
+use Rattle.control.specs.Control.{incr}
 use Rattle.registers.specs.declared.ProcessorWrite.{ProcessorWrite}
 use Rattle.registers.specs.declared.Woken.{Woken}
 use Rattle.port.specs.Host.{access-memory}
-use Rattle.port.specs.Runs.{Machine, machine, answer-of, after, Sixteen, on, answers, ends}
+use Rattle.port.specs.Runs.{Machine, machine, answer-of, after, Sixteen, on, opening, closing, answers, ends}
 use Rattle.port.specs.Table.{Memory, loading, loaded, reading, table, Lies, given, held, filler}
 use Rattle.port.specs.Deeds.{Deed, woken, does, ran, Says}
 use Rattle.port.specs.Origin.{unset, told, story, Came}
@@ -43,11 +43,9 @@ unfolding answer-of after
 call-made s a = record { outcome = refl; memory = refl }
 
 -- ---- demand 3
-abbrev any-machine : Machine → Type 0
-any-machine s = Unit
-
-pairs : (s : Machine) (a : Sixteen) → any-machine s → PairAlike control-of answer-of after s a
-pairs s a h =
+-- On any registers and memory, a sixteen-bit access done as two byte accesses answers and ends as done whole.
+pub bytes-alike : (s : Machine) (a : Sixteen) → PairAlike control-of answer-of after s a
+bytes-alike s a =
     let p = alike s a in
     record {
       answer =
@@ -63,10 +61,16 @@ pairs s a h =
       end = p .end;
     }
 
+abbrev any-machine : Machine → Type 0
+any-machine s = Unit
+
+pairs : (s : Machine) (a : Sixteen) → any-machine s → PairAlike control-of answer-of after s a
+pairs s a h = bytes-alike s a
+
 -- A sixteen-bit access done by two byte calls, the second on what the first left, answers what one call answers, and leaves the registers and
 -- the memory that it leaves.
 pub byte-calls-alike : {s t t₁ t₂ : Machine} (a : Sixteen) {x x₁ x₂ : Answer} → by-value s (on 3 a) x t →
-    by-value s (on (first-lane (control-of s)) a) x₁ t₁ → by-value t₁ (on (last-lane (control-of s)) a) x₂ t₂ → AddUp x₁ x₂ x × (t₂ ≡ t)
+    by-value s (opening s a) x₁ t₁ → by-value t₁ (closing s a) x₂ t₂ → AddUp x₁ x₂ x × (t₂ ≡ t)
 byte-calls-alike a whole first second =
     pair-alike by-value control-of answer-of after any-machine call-exact (λ _ _ _. tt) pairs a tt whole first second
 
