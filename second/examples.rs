@@ -1,7 +1,8 @@
 //! Document 01's "Checked examples" K1 to K10, its "To run" cases and its listing, with values
-//! written from that paper by hand; and one case of 24 bits over three words. A line is a call and
-//! the number, x and y it must answer, in hexadecimal; numbers left out are 0. Each example starts
-//! a new run.
+//! written from that paper by hand; K1, K2 and K3 on the record in place, by words, by bytes and
+//! beside accesses by value, and what is refused there; and one case of 24 bits over three words. A
+//! line is a call and the number, x and y it must answer, in hexadecimal; numbers left out are 0.
+//! Each example starts a new run.
 
 use crate::run::Run;
 
@@ -55,6 +56,25 @@ N 8000; R 3 3 = 0 8000
 : listing
 W 3 3 0800; W 0 3 0000; W 1 3 0000 = 0 0 1
 W 2 3 1234 = 0 0 1; R 2 3 = 0 1234 1; R 2 3 = 0 0 1
+: in place
+N 3; M 1111 1111; K 3 3 1000; K 0 3 0
+K 1 3 0 = 0 0 1
+H 2 3 = 0 1111 1; H 2 3 = 0 2222 1; H 2 3 = 0 3333 2; H 2 3 = 0 FFFF 12
+H 0 3 = 0 40; H 1 3 = 0 0
+: in place by bytes
+N 3; M 1111 1111; K 3 2 1000; K 0 1 0; K 0 2 0; K 1 1 0
+K 1 2 0 = 0 0 1
+H 2 1 = 0 11; H 2 2 = 0 1100 1; H 2 1 = 0 22; H 2 2 = 0 2200 1
+H 0 1 = 0 20
+: in place and by value
+N 3; M 1111 1111; W 3 3 0800; K 0 3 0; W 1 3 0 = 0 0 1
+K 2 3 AAAA = 0 0 1
+R 2 3 = 0 AAAA 1; H 2 3 = 0 2222 1
+R 0 3 = 0 10; H 0 3 = 0 10
+: refused in place
+N 8001; H 3 3 = 1; K 0 3 1234 = 1
+N 1; H 4 3 = 2; K 4 3 1234 = 2; H 3 0 = 3; K 0 4 1234 = 3
+R 0 3 = 0 0; R 1 3 = 0 0; R 3 3 = 0 8000; R 2 3 = 0 0 11
 : third word
 N 3; F F 18 FFFFFFFF = 0 0 5
 T 0 10 = 0 8000 1; T 10 10 = 0 FFFF 1; T 20 10 = 0 007F 1

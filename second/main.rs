@@ -3,6 +3,7 @@
 //! from documents 01 and 02 and source document 001 without sight of the proved code, to compare
 //! the results of both by running.
 
+mod access;
 mod bank;
 mod bank_accesses;
 mod bank_caller;

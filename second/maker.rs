@@ -11,6 +11,8 @@ pub struct Maker {
     /// Length of the lent memory and size of the lent list, as the calls set them.
     pub length: u32,
     pub size: u32,
+    /// How many of two accesses by the host are in place.
+    pub in_place: u32,
 }
 
 impl Maker {
@@ -22,7 +24,19 @@ impl Maker {
             every,
             length: 32_768,
             size: 8_192,
+            in_place: 0,
         }
+    }
+
+    /// Adds an access by the host, R or W, or the same in place.
+    pub fn host(&mut self, letter: char, numbers: &[u32]) {
+        let in_place = self.below(2) < self.in_place;
+        let letter = match letter {
+            'R' if in_place => 'H',
+            'W' if in_place => 'K',
+            _ => letter,
+        };
+        self.call(letter, numbers);
     }
 
     /// Adds a call; numbers left out are 0.

@@ -2,6 +2,7 @@
 //! letter and four numbers, each a space and eight upper-case hexadecimal digits; each call prints
 //! its letter, number, two values and the state after it.
 
+use crate::access::{by_value, in_place, Access};
 use crate::block;
 use crate::bus::Bus;
 use crate::field;
@@ -40,8 +41,7 @@ impl Run {
     pub fn call(&mut self, letter: u8, [a, b, c, d]: [u32; 4]) -> Option<Reply> {
         let memory = &mut self.room[..self.length];
         let reply = match letter {
-            b'R' => host_reply(self.port.read(memory, a, b)),
-            b'W' => host_reply(self.port.write(memory, a, b, c as u16)),
+            b'R' | b'W' | b'H' | b'K' => host(&mut self.port, memory, letter, [a, b, c]),
             b'P' => reply(self.port.processor_read(a)),
             b'Q' => (self.port.processor_write(a, b as u16), 0, 0),
             b'T' | b'S' => {
@@ -112,6 +112,22 @@ impl Run {
 
 fn reply<T: Into<u32>>((number, x): (u8, T)) -> Reply {
     (number, x.into(), 0)
+}
+
+/// R and W by value, H and K in place.
+fn host(port: &mut Port, memory: &mut [u16], letter: u8, [register, lanes, c]: [u32; 3]) -> Reply {
+    let writes = matches!(letter, b'W' | b'K');
+    let access = Access {
+        register,
+        lanes,
+        word: writes.then_some(c as u16),
+    };
+    if matches!(letter, b'H' | b'K') {
+        return host_reply(in_place(port, memory, access));
+    }
+    let (answer, left) = by_value(*port, memory, access);
+    *port = left;
+    host_reply(answer)
 }
 
 fn host_reply(answer: Answer) -> Reply {

@@ -17,7 +17,9 @@ pub fn script(seed: u64, calls: u64) -> Vec<u8> {
 }
 
 impl Maker {
+    /// A scene's accesses by the host are all by value, all in place, or now so and now so.
     fn scene(&mut self) {
+        self.in_place = self.pick(&[0, 0, 1, 2]);
         match self.below(40) {
             0..=3 => self.new_memory(),
             4 => self.too_long(),
@@ -117,7 +119,7 @@ impl Maker {
         for (register, half) in halves {
             lanes
                 .iter()
-                .for_each(|&lane| self.call('W', &[register, lane, half]));
+                .for_each(|&lane| self.host('W', &[register, lane, half]));
         }
     }
 
@@ -127,7 +129,7 @@ impl Maker {
         let lbl = self.pick(&[0, LBL]);
         let steps = self.pick(&[0, INCR, INCR, INCW, INCR | INCW, INCR | INCW]);
         let control = self.control(INCR | INCW | LBL, steps | lbl);
-        self.call('W', &[3, 3, control]);
+        self.host('W', &[3, 3, control]);
         let before = self.below(self.length.min(9) + 1);
         let end = self.pick(&[self.length, self.length, self.length, 0x1000_0000]);
         let pointer = (end - before).wrapping_mul(16) | self.low_bits();
@@ -139,7 +141,7 @@ impl Maker {
             let word = if letter == 'W' { self.bits() } else { 0 };
             lanes
                 .iter()
-                .for_each(|&lane| self.call(letter, &[2, lane, word]));
+                .for_each(|&lane| self.host(letter, &[2, lane, word]));
             if self.one_in(10) {
                 self.between();
             }
@@ -160,14 +162,14 @@ impl Maker {
         let (first, closing) = if lbl == 0 { (1, 2) } else { (2, 1) };
         let control = self.control(LBL | BIT_10, lbl);
         self.call('G', &[self.address(), 0xFFFF, control, 1]);
-        self.call('W', &[2, first, self.bits()]);
-        self.call('R', &[2, self.pick(&[first, first, closing, 3])]);
+        self.host('W', &[2, first, self.bits()]);
+        self.host('R', &[2, self.pick(&[first, first, closing, 3])]);
         if self.one_in(3) {
             self.between();
         }
-        self.call('W', &[2, self.pick(&[closing, closing, 3]), self.bits()]);
-        self.call('R', &[2, first]);
-        self.call('R', &[2, 3]);
+        self.host('W', &[2, self.pick(&[closing, closing, 3]), self.bits()]);
+        self.host('R', &[2, first]);
+        self.host('R', &[2, 3]);
     }
 
     fn either_side(&mut self) {
@@ -193,9 +195,9 @@ impl Maker {
             _ => self.bits(),
         };
         if self.one_in(2) {
-            self.call('R', &[register, lanes]);
+            self.host('R', &[register, lanes]);
         } else {
-            self.call('W', &[register, lanes, word]);
+            self.host('W', &[register, lanes, word]);
         }
     }
 
@@ -218,8 +220,8 @@ impl Maker {
         for _ in 0..3 + self.below(4) {
             let (lanes, half) = (1 + self.below(3), 3 + self.below(2));
             match self.below(6) {
-                0 | 1 => self.call('R', &[3, lanes]),
-                2 => self.call('W', &[3, lanes, self.bits()]),
+                0 | 1 => self.host('R', &[3, lanes]),
+                2 => self.host('W', &[3, lanes, self.bits()]),
                 3 => self.call('P', &[half]),
                 4 => self.call('Q', &[half, self.bits()]),
                 _ => self.access(),
@@ -316,7 +318,7 @@ impl Maker {
         self.call('Z', &[]);
         match self.below(3) {
             0 => self.call('B', &[]),
-            1 => self.call('R', &[2, 3]),
+            1 => self.host('R', &[2, 3]),
             _ => self.call('I', &[0, 0, 2]),
         }
     }

@@ -2,7 +2,7 @@
 --   digits-from s at n        n digits stand in s from place at on
 --   number-from s at n        the number that they say
 --   has-number s at           a space and eight digits stand at a place
---   host-letter .. lent-letter, known   the letters, by what they are calls of
+--   in-place-letter .. lent-letter, known   the letters, by what they are calls of
 --   shaped, is-call           a line has the shape, and is a call
 --   call-in s                 the call that it says
 --   line-in s                 what any bytes say
@@ -31,9 +31,13 @@ has-number s at = eqb (getD s at 0) 0x20 && digits-from s (at + 1) 8
 
 -- ---- the letters
 
--- R, W
+-- H, K
+unfoldable pub in-place-letter : ℕ → Bool
+in-place-letter l = eqb l 0x48 || eqb l 0x4b
+
+-- R, W; H, K
 unfoldable pub host-letter : ℕ → Bool
-host-letter l = eqb l 0x52 || eqb l 0x57
+host-letter l = (eqb l 0x52 || eqb l 0x57) || in-place-letter l
 
 -- P, Q
 unfoldable pub processor-letter : ℕ → Bool

@@ -1,14 +1,21 @@
 // The letters of the calls, by what they are calls of.
 ghost use mathlib.Core.Path.{_≡_};
-ghost use Rattle.script.specs.Script.{host-letter, processor-letter, field-letter, bus-letter, block-letter};
+ghost use Rattle.script.specs.Script.{in-place-letter, host-letter, processor-letter, field-letter, bus-letter, block-letter};
 ghost use Rattle.script.specs.Script.{setting-letter, whole-letter, plain-letter, lent-letter, known};
 use words::either;
 
-// Of the host.
+// Of the host, where the record is updated in place.
+pub fn is_in_place_letter(l: u8) -> bool
+    ensures { λ r. ⌜ r ≡ in-place-letter l ⌝ }
+{
+    either(l == b'H', l == b'K')
+}
+
+// Of the host, by value or in place.
 pub fn is_host_letter(l: u8) -> bool
     ensures { λ r. ⌜ r ≡ host-letter l ⌝ }
 {
-    either(l == b'R', l == b'W')
+    either(either(l == b'R', l == b'W'), is_in_place_letter(l))
 }
 
 // Of the processor.

@@ -21,6 +21,8 @@
 //   Z  reset (registers and bus; memory stays)
 //   R  host read                                                        a: register, b: lanes
 //   W  host write                                                       a: register, b: lanes, c: word mod 65,536
+//   H  host read that updates the register record in place              as R
+//   K  host write that updates the register record in place             as W
 //   P  processor read                                                   a: register
 //   Q  processor write                                                  a: register, b: word mod 65,536
 //   T  field taken out, unsigned                                        a: bit address, b: size
@@ -42,14 +44,14 @@
 //   hollow mark, 0 or 1; the bus, two digits (bit s set: source s waits);
 //   a line feed.
 //
-//   R, W   x: the word answered. y: 16 if the answer is hollow, plus 0 for no cycle, 1 for inside, 2 for empty
-//   P      x: the word answered
-//   T, S   x: the number taken out (signed: modulo 2^32). y: the memory cycles
-//   F      y: the memory cycles
-//   B      x: the source granted
-//   I      x: the hollow words handed out
-//   O      x: the stores that fell empty
-//   D      x: the digest of the room. y: the digest of the list
+//   R, W, H, K   x: the word answered. y: 16 if the answer is hollow, plus 0 for no cycle, 1 for inside, 2 for empty
+//   P            x: the word answered
+//   T, S         x: the number taken out (signed: modulo 2^32). y: the memory cycles
+//   F            y: the memory cycles
+//   B            x: the source granted
+//   I            x: the hollow words handed out
+//   O            x: the stores that fell empty
+//   D            x: the digest of the room. y: the digest of the list
 // Any x and y not listed here is 0. N, M, L, J, G, Z and D answer number 0. A refused call: x and y 0, the state as it stood.
 // The digest of words: it starts as 0; for each word w, in order of their places, h becomes (h * 31 + w) mod 2^32.
 mod letters;
@@ -60,6 +62,7 @@ use bus::Bus;
 pub use letters::is_bus_letter;
 pub use letters::is_field_letter;
 pub use letters::is_host_letter;
+pub use letters::is_in_place_letter;
 pub use letters::is_plain_letter;
 pub use letters::is_processor_letter;
 pub use letters::is_whole_letter;

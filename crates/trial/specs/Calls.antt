@@ -6,7 +6,7 @@
 --   filled, digest              the words that M and J lay down; the digest of the first n words of a list
 --   answer-to, room-after, list-after, Carried   any call
 use Prim.Native.Nat.{ℕ, zero, suc, _+_, _*_, _-_, _%_, _^_}
-use mathlib.Core.Bool.{cond}
+use mathlib.Core.Bool.{cond, _||_}
 use mathlib.Core.List.{List, [], _∷_, _++_}
 use mathlib.Core.Path.{_≡_}
 use lib.Dec.{eqb}
@@ -62,11 +62,12 @@ first-state = woken 32768 8192
 abbrev pub done : State → ℕ → ℕ → ℕ → Done
 done s n x y = record { state = s; number = n; x = x; y = y }
 
--- ---- R, W: an access by the host, on the lent memory m
+-- ---- R, W, H, K: an access by the host, on the lent memory m; one in place leaves in the record what the one by value returns
 
 -- "a: register, b: lanes, c: word mod 65,536"
 unfoldable pub access-in : Call → Access
-access-in c = cond (eqb (c .letter) 0x52) (Read (c .a) (c .b)) (Write (c .a) (c .b) (c .c % 65536))
+access-in c =
+    cond (eqb (c .letter) 0x52 || eqb (c .letter) 0x48) (Read (c .a) (c .b)) (Write (c .a) (c .b) (c .c % 65536))
 
 abbrev pub cycle-number : Cycle → ℕ
 cycle-number None = 0

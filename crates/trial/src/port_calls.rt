@@ -1,4 +1,4 @@
-// The port's calls: an access by the host, R and W; one by the processor, P and Q.
+// The port's calls: an access by the host, R and W, and in place H and K; one by the processor, P and Q.
 ghost use mathlib.Core.Path.{_≡_};
 ghost use Prim.Native.Nat.{_≤_};
 ghost use Rattle.trial.specs.Calls.{marks, access-in, HostDone, processor-answer};
@@ -12,7 +12,9 @@ use port::Outcome;
 use script::Call;
 use script::Done;
 use script::State;
+use script::is_in_place_letter;
 use script::one_if;
+use words::either;
 
 // The cycle as a number.
 fn cycle_number(cycle: Cycle) -> u32
@@ -46,7 +48,7 @@ fn host_done(s: State, o: Outcome) -> Done
 fn access_of(call: Call) -> Access
     ensures { λ a. ⌜ a ≡ access-in call ⌝ }
 {
-    if call.letter == b'R' {
+    if either(call.letter == b'R', call.letter == b'H') {
         return Access::Read {
             register: call.a,
             lanes: call.b,
@@ -59,11 +61,14 @@ fn access_of(call: Call) -> Access
     }
 }
 
-// R or W, on the lent memory.
+// R or W, by value, and H or K, in place, on the lent memory.
 pub(crate) fn call_host(s: State, memory: &mut [u16], call: Call) -> Done
     ensures { λ d. ⌜ HostDone s (now (memory .entry)) call d (now (memory .exit)) ⌝ }
 {
     let r = s.registers;
+    if is_in_place_letter(call.letter) {
+        return host_done(s, bench::host_access_by_lending(r, memory, access_of(call)));
+    }
     host_done(s, host::host_access(r, memory, access_of(call)))
 }
 
