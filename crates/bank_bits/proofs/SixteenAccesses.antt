@@ -9,16 +9,22 @@ use Rattle.words.proofs.Choices.{same-or-not}
 use Rattle.bank_bits.specs.Access.{next, read-answer, write-answer}
 use Rattle.bank_bits.specs.InPlainWords.{Access, read, write, answer-to, after, lanes-of, counted}
 use Rattle.bank_bits.specs.declared.BankPort.{BankPort}
-use Rattle.bank_bits.proofs.Numbers.{access-numbers}
+use Rattle.bank_bits.proofs.Numbers.{AccessNumbers, when, read-numbers, write-numbers}
 
--- An access of sixteen bits steps it; any other leaves it.
+-- Each access of a row has its number, and refused leaves all.
+pub access-numbers : (p : BankPort) (x : Access) → AccessNumbers p (lanes-of x) (answer-to p x)
+access-numbers p (read lanes) = read-numbers p lanes
+access-numbers p (write lanes w) = write-numbers p lanes w
+
+-- An access of sixteen bits steps the index.
 pub steps : (p : BankPort) (x : Access) → lanes-of x ≡ 3 → answer-to p x .port .index ≡ next (p .index)
 unfolding read-answer write-answer
-steps p (read lanes) e = rw (eq-eqb lanes 3 e)
-steps p (write lanes w) e = rw (eq-eqb lanes 3 e)
+steps p (read lanes) e = rw (when lanes .done .1 e)
+steps p (write lanes w) e = rw (when lanes .done .1 e)
 
+-- Any other, of a byte or with no lanes, leaves the port.
 pub stays : (p : BankPort) (x : Access) → lanes-of x ≢ 3 → answer-to p x .port ≡ p
-stays p x d = let k = access-numbers p x in k .refused (λ z. d (k .done .0 z)) .1
+stays p x d = let k = access-numbers p x in k .refused (λ z. d (k .number .done .0 z)) .1
 
 -- It counts the accesses of sixteen bits, modulo 16.
 pub index-after : (p : BankPort) (xs : List Access) → after p xs .index % 16 ≡ (p .index + counted xs) % 16
@@ -45,7 +51,7 @@ index-small p (x ∷ xs) h =
     (λ d. index-small (answer-to p x .port) xs (rw (ne-eqb (lanes-of x) 3 d) at h))
     (same-or-not (lanes-of x) 3)
 
--- Sixteen accesses of sixteen bits, whatever byte accesses are refused between them, return it to its start.
+-- Sixteen accesses of sixteen bits, whatever others are refused between them, return it to its start.
 pub sixteen-return : (p : BankPort) (xs : List Access) → counted xs ≡ 16 → after p xs .index ≡ p .index % 16
 sixteen-return p xs e =
     let small = index-small p xs (omega (arith, e)) in

@@ -6,9 +6,10 @@ use mathlib.Core.Path.{_≡_, refl, sym, ap, subst, _∙_}
 use mathlib.Core.List.{List, [], _∷_}
 use mathlib.Core.Logic.{_≢_}
 use lib.ListN.{length, getD}
+use Rattle.words.specs.Bytes.{are-lanes}
 use Rattle.words.specs.Memory.{AreWords}
 use Rattle.bank_bits.specs.Registers.{bank, half-at}
-use Rattle.bank_bits.specs.Access.{next, port, read-answer, write-answer}
+use Rattle.bank_bits.specs.Access.{next, port, refusal, read-answer, write-answer}
 use Rattle.bank_bits.specs.InPlainWords.{after, counted, writes, words-read}
 use Rattle.bank_bits.specs.declared.Banks.{Banks}
 use Rattle.bank_bits.specs.declared.BankPort.{BankPort}
@@ -18,25 +19,28 @@ use Rattle.bank_bits.proofs.SixteenAccesses.{sixteen-return}
 
 -- ---- one access of sixteen bits
 
--- A read hands out what is at its place, and leaves the registers.
-pub read-is : (p : BankPort) → (read-answer p 3 .word ≡ half-at (p .banks) (p .index % 16)) × (read-answer p 3 .port .banks ≡ p .banks)
-unfolding read-answer
-read-is p = (refl, refl)
+-- A read is done: it hands out what is at its place, leaves the registers, and steps the index.
+pub read-is : (p : BankPort) →
+    let o = read-answer p 3 in
+    (o .number ≡ 0) × (o .word ≡ half-at (p .banks) (p .index % 16)) × (o .port .banks ≡ p .banks) × (o .port .index ≡ (p .index + 1) % 16)
+unfolding read-answer refusal are-lanes
+read-is p = (refl, refl, refl, omega arith)
 
--- A write answers no word.
-pub write-answers-0 : (p : BankPort) (w : ℕ) → write-answer p 3 w .word ≡ 0
-unfolding write-answer
-write-answers-0 p w = refl
+-- A write is done: it answers no word, and steps the index.
+pub write-is : (p : BankPort) (w : ℕ) →
+    let o = write-answer p 3 w in (o .number ≡ 0) × (o .word ≡ 0) × (o .port .index ≡ (p .index + 1) % 16)
+unfolding write-answer refusal are-lanes
+write-is p w = (refl, refl, omega arith)
 
 module _ (p : BankPort) (w : ℕ) (l : w < 65536) where
   -- After a write its place reads back what was written,
   pub written-there : half-at (write-answer p 3 w .port .banks) (p .index % 16) ≡ w
-  unfolding write-answer
+  unfolding write-answer refusal are-lanes
   written-there = reads-back (p .banks) (p .index % 16) w l
 
   -- and no other place is changed.
   pub nowhere-else : (j : ℕ) → j < 16 → j ≢ p .index % 16 → half-at (write-answer p 3 w .port .banks) j ≡ half-at (p .banks) j
-  unfolding write-answer
+  unfolding write-answer refusal are-lanes
   nowhere-else j h d = others-stay (p .banks) (p .index % 16) w j l (omega arith) h (λ e. d (sym e))
 
 -- ---- a row of writes, and a row of reads
@@ -44,7 +48,7 @@ module _ (p : BankPort) (w : ℕ) (l : w < 65536) where
 -- Places that a row of writes does not come to keep what they held.
 passed-by : (p : BankPort) (ws : List ℕ) → AreWords ws → (j : ℕ) → j < 16 →
     ((k : ℕ) → k < length ws → j ≢ (p .index + k) % 16) → half-at (after p (writes ws) .banks) j ≡ half-at (p .banks) j
-unfolding write-answer
+unfolding write-answer refusal are-lanes
 passed-by p [] a j h d = refl
 passed-by p (w ∷ ws) a j h d =
     passed-by (write-answer p 3 w .port) ws (λ k. a (suc k)) j h (λ k l e. d (suc k) (omega (arith, l)) (omega (arith, e)))
@@ -53,7 +57,7 @@ passed-by p (w ∷ ws) a j h d =
 -- Each of the others holds the word that was written when the index came to it.
 pub row-written : (p : BankPort) (ws : List ℕ) → AreWords ws → length ws ≤ 16 → (k : ℕ) → k < length ws →
     half-at (after p (writes ws) .banks) ((p .index + k) % 16) ≡ getD ws k 0
-unfolding write-answer
+unfolding write-answer refusal are-lanes
 row-written p [] a s k h = absurd (omega arith)
 row-written p (w ∷ ws) a s zero h =
     passed-by (write-answer p 3 w .port) ws (λ k. a (suc k)) ((p .index + 0) % 16) (omega arith) (λ k l e. omega (arith, l, e, s))
@@ -66,7 +70,7 @@ row-written p (w ∷ ws) a s (suc k) h =
 -- A row of reads hands out what is at the places that the index comes to.
 row-read : (p : BankPort) (ws : List ℕ) → ((k : ℕ) → k < length ws → half-at (p .banks) ((p .index + k) % 16) ≡ getD ws k 0) →
     words-read p (length ws) ≡ ws
-unfolding read-answer
+unfolding read-answer refusal are-lanes
 row-read p [] h = refl
 row-read p (w ∷ ws) h =
     let rest = row-read (port (p .banks) (next (p .index))) ws (λ k l. ap (half-at (p .banks)) (then k) ∙ h (suc k) (omega (arith, l))) in

@@ -1,14 +1,16 @@
--- An access to BKPORT: document 02, request (vi); source document 001, 'BKPORT' and BPNT in 'BKCTL'.
+-- An access to BKPORT: document 02, request (vi); source document 001, 'BKPORT' and BPNT in 'BKCTL'; document 01, 'Numbers returned'.
 --   place i                 the place that the index i names
 --   next i                  the index after an access
 --   port b i                the registers b, with the index i
 --   answered n w p          an answer, by its parts
---   refused p               that to an access which is not of sixteen bits
+--   refusal lanes           number 3 or 30, or 0 where neither applies
+--   refused n p             the answer to an access that is refused with n
 --   read-answer p lanes     what a read answers
 --   write-answer p lanes w  what a write of w answers
 use Prim.Native.Nat.{ℕ, _+_, _%_}
-use mathlib.Core.Bool.{cond}
+use mathlib.Core.Bool.{cond, not}
 use lib.Dec.{eqb}
+use Rattle.words.specs.Bytes.{are-lanes}
 use Rattle.bank_bits.specs.Registers.{half-at, with-half-at}
 use Rattle.bank_bits.specs.declared.Banks.{Banks}
 use Rattle.bank_bits.specs.declared.BankPort.{BankPort}
@@ -28,15 +30,26 @@ port b i = record { banks = b; index = i }
 abbrev pub answered : ℕ → ℕ → BankPort → BankAnswer
 answered n w p = record { number = n; word = w; port = p }
 
--- "Refusals: 30 byte access to the port (the index stays)"
-abbrev pub refused : BankPort → BankAnswer
-refused p = answered 30 0 p
+-- document 01: "3 lanes not 1, 2 or 3"; document 02: "30 byte access to the port"; "Tested in this order: .. as numbered". Lanes 3 are "both"
+-- bytes, so that of the lanes there are 1 and 2 are those of a byte
+unfoldable pub refusal : ℕ → ℕ
+refusal lanes =
+    cond (not (are-lanes lanes)) 3
+    (cond (not (eqb lanes 3)) 30
+    0)
 
--- an access is of sixteen bits if its lanes are 3, and of bytes if they are any others
+-- "A refusal returns zeros ..; nothing lent or passed on changes"; "(the index stays)"
+abbrev pub refused : ℕ → BankPort → BankAnswer
+refused n p = answered n 0 p
+
 unfoldable pub read-answer : BankPort → ℕ → BankAnswer
 read-answer p lanes =
-    cond (eqb lanes 3) (answered 0 (half-at (p .banks) (place (p .index))) (port (p .banks) (next (p .index)))) (refused p)
+    cond (eqb (refusal lanes) 0)
+    (answered 0 (half-at (p .banks) (place (p .index))) (port (p .banks) (next (p .index))))
+    (refused (refusal lanes) p)
 
 unfoldable pub write-answer : BankPort → ℕ → ℕ → BankAnswer
 write-answer p lanes w =
-    cond (eqb lanes 3) (answered 0 0 (port (with-half-at (p .banks) (place (p .index)) w) (next (p .index)))) (refused p)
+    cond (eqb (refusal lanes) 0)
+    (answered 0 0 (port (with-half-at (p .banks) (place (p .index)) w) (next (p .index))))
+    (refused (refusal lanes) p)

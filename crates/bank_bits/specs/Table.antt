@@ -10,7 +10,7 @@
 --   none, all             a decode's answers that show no bank, all four; only0 to only3, those that show one
 --   unset, apart, anywhere   registers to start with
 --   sample-map            source document 001's sample memory map
---   order, bytes, wrap, special, refresh, several, seen, table   the other rows, and all of them
+--   order, bytes, no-lanes, wrap, special, refresh, several, seen, table   the other rows, and all of them
 use Prim.Native.Nat.{ℕ}
 use mathlib.Core.Bool.{true, false}
 use mathlib.Core.List.{List, [], _∷_, _++_}
@@ -171,16 +171,32 @@ bytes =
     reads 2 (told 30 0 5) ∷
     writes 1 0xABCD (told 30 0 5) ∷
     writes 2 0xABCD (told 30 0 5) ∷
-    reads 0 (told 30 0 5) ∷
-    writes 4 0xABCD (told 30 0 5) ∷
-    reads 7 (told 30 0 5) ∷
-    writes 0xFFFFFFFF 0xABCD (told 30 0 5) ∷
     reads 3 (told 0 0x5555 6) ∷
     writes 3 0xABCD (told 0 0 7) ∷
     writes 1 0x1234 (told 30 0 7) ∷
     writes 3 0x1234 (told 0 0 8) ∷
     [])
     (banks 0x11110000 0x99998888 0x33332222 0xBBBBAAAA 0x55554444 0xDDDDCCCC 0x1234ABCD 0xFFFFEEEE) ∷
+    []
+
+unfoldable pub no-lanes : List Row
+no-lanes =
+    -- lanes that are none, amid others: nothing moves either
+    row apart 9
+    (reads 0 (told 3 0 9) ∷
+    reads 4 (told 3 0 9) ∷
+    reads 7 (told 3 0 9) ∷
+    reads 0xFFFFFFFF (told 3 0 9) ∷
+    writes 0 0xABCD (told 3 0 9) ∷
+    writes 4 0xABCD (told 3 0 9) ∷
+    writes 5 0xABCD (told 3 0 9) ∷
+    writes 0xFFFFFFFF 0xABCD (told 3 0 9) ∷
+    reads 1 (told 30 0 9) ∷
+    reads 3 (told 0 0x9999 10) ∷
+    writes 4 0x1234 (told 3 0 10) ∷
+    reads 3 (told 0 0xAAAA 11) ∷
+    [])
+    apart ∷
     []
 
 unfoldable pub wrap : List Row
@@ -194,7 +210,7 @@ wrap =
     -- the greatest index is the last place, and stays as it was passed until an access of sixteen bits
     row apart 0xFFFFFFFF
     (reads 2 (told 30 0 0xFFFFFFFF) ∷
-    writes 0 0xABCD (told 30 0 0xFFFFFFFF) ∷
+    writes 0 0xABCD (told 3 0 0xFFFFFFFF) ∷
     reads 3 (told 0 0xFFFF 0) ∷
     [])
     apart ∷
@@ -310,4 +326,4 @@ seen =
     []
 
 unfoldable pub table : List Row
-table = sample-map ++ order ++ bytes ++ wrap ++ special ++ refresh ++ several ++ seen
+table = sample-map ++ order ++ bytes ++ no-lanes ++ wrap ++ special ++ refresh ++ several ++ seen

@@ -30,7 +30,7 @@ pub struct BankAnswer {
     pub number: u8,
     // Of a read: the half. Else 0.
     pub word: u16,
-    // The port afterwards. Under 30 it is as it was.
+    // The port afterwards. Refused, under 3 and 30, it is as it was.
     pub port: BankPort,
 }
 
