@@ -1,17 +1,31 @@
 // An access to BKPORT: a read, a write.
 ghost use mathlib.Core.Path.{_≡_};
-ghost use Rattle.bank_bits.specs.Access.{next, refused, read-answer, write-answer};
+ghost use Rattle.bank_bits.specs.Access.{next, refusal, refused, read-answer, write-answer};
 use crate::places::half_at;
 use crate::places::with_half_at;
 use bank_bits::BankAnswer;
 use bank_bits::BankPort;
+use words::names_lanes;
 
-// The answer to a byte access, which changes nothing.
-fn refuse(p: BankPort) -> BankAnswer
-    ensures { λ o. ⌜ o ≡ refused p ⌝ }
+// Number 3 or 30, or 0 where neither applies.
+fn refusal_of(lanes: u32) -> u8
+    ensures { λ r. ⌜ r ≡ refusal lanes ⌝ }
+{
+    if !names_lanes(lanes) {
+        return 3;
+    }
+    if lanes != 3 {
+        return 30;
+    }
+    0
+}
+
+// A refusal: its number, no word, and the port as it stood.
+fn refuse(number: u8, p: BankPort) -> BankAnswer
+    ensures { λ o. ⌜ o ≡ refused number p ⌝ }
 {
     BankAnswer {
-        number: 30,
+        number,
         word: 0,
         port: p,
     }
@@ -28,8 +42,9 @@ fn next_index(i: u32) -> u32
 pub fn read_bank_port(p: BankPort, lanes: u32) -> BankAnswer
     ensures { λ o. ⌜ o ≡ read-answer p lanes ⌝ }
 {
-    if lanes != 3 {
-        return refuse(p);
+    let number = refusal_of(lanes);
+    if number != 0 {
+        return refuse(number, p);
     }
     let banks = p.banks;
     BankAnswer {
@@ -46,8 +61,9 @@ pub fn read_bank_port(p: BankPort, lanes: u32) -> BankAnswer
 pub fn write_bank_port(p: BankPort, lanes: u32, word: u16) -> BankAnswer
     ensures { λ o. ⌜ o ≡ write-answer p lanes word ⌝ }
 {
-    if lanes != 3 {
-        return refuse(p);
+    let number = refusal_of(lanes);
+    if number != 0 {
+        return refuse(number, p);
     }
     BankAnswer {
         number: 0,
