@@ -5,9 +5,9 @@ use mathlib.Core.Path.{_≡_, refl}
 use mathlib.Core.Bool.{Bool, true, false}
 use mathlib.Core.List.{List, [], _∷_, _++_}
 use Rattle.words.specs.Addresses.{address}
-use Rattle.words.specs.Bytes.{bit}
+use Rattle.words.specs.Bytes.{bit, are-lanes}
 use Rattle.bank_bits.specs.Registers.{bank, bank-at, with-bank, half, with-half, value-of, with-value, half-at, with-half-at}
-use Rattle.bank_bits.specs.Access.{port, read-answer, write-answer}
+use Rattle.bank_bits.specs.Access.{port, refusal, read-answer, write-answer}
 use Rattle.bank_bits.specs.Decode.{agrees-at, agrees-below, agrees, in-turn, admits, selects, decoded-as, decoded}
 use Rattle.bank_bits.specs.declared.BankPort.{BankPort}
 use Rattle.bank_trial.specs.Record.{starts, reads, writes, number-in, banks, port-in, word-in, address-in, control-in, zeroed}
@@ -108,6 +108,8 @@ pub record Leaves : Type 0 where
   pub begins : carried zeroed (asking 0 46 registers) ≡ left 0 0 0 begun
   -- place 14 is the low half of the last mask: a write to its low byte is refused with 30, and the index stays
   pub byte-write : carried begun (asking 2 1 (word-bytes 0x8000)) ≡ left 30 0 0 begun
+  -- a read with lanes 4, which are none, is refused with 3
+  pub no-lanes-read : carried begun (asking 1 4 []) ≡ left 3 0 0 begun
   -- a write to both its bytes
   pub write : carried begun (asking 2 3 (word-bytes 0x8000)) ≡ left 0 0 0 (with-last-mask 0xFFFE8000 15)
   -- place 15, the high half, is read, and the index returns to 0
@@ -124,12 +126,13 @@ pub record Leaves : Type 0 where
 -- They leave so.
 pub they-leave : Leaves
 unfolding
-    carried decoded-by bank-at with-bank half with-half value-of with-value half-at with-half-at read-answer write-answer agrees-at
-    agrees-below agrees in-turn admits selects decoded bit
+    carried decoded-by bank-at with-bank half with-half value-of with-value half-at with-half-at are-lanes refusal read-answer write-answer
+    agrees-at agrees-below agrees in-turn admits selects decoded bit
 they-leave =
     record {
       begins = refl;
       byte-write = refl;
+      no-lanes-read = refl;
       write = refl;
       read = refl;
       ordinary = refl;
