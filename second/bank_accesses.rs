@@ -18,11 +18,12 @@ pub fn index(random: &Random) -> u32 {
     }
 }
 
-/// Lanes that select something else than both bytes and no more.
+/// Lanes that are refused: of one byte, or none. Some are none only by their high bits.
 pub fn other_lanes(random: &Random) -> u32 {
-    let above = 3 + random.pick(&[1 << 8, 1 << 16, 1 << 24, 1 << 31]);
+    let high = random.pick(&[1 << 8, 1 << 16, 1 << 24, 1 << 31]);
+    let above = random.pick(&[0, 1, 2, 3, 3]) + high;
     let other = random.pick(&[5, 6, 8, 255, u32::MAX, random.bits()]);
-    random.pick(&[0, 1, 1, 2, 2, 4, 7, above, other])
+    random.pick(&[0, 0, 1, 1, 2, 2, 4, 4, 7, above, above, other])
 }
 
 /// Mostly lanes 3.

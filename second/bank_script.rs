@@ -42,8 +42,8 @@ fn any(caller: &mut Caller) {
     }
 }
 
-/// Accesses from any index over the last place and on, so that every place is met; byte accesses
-/// and decodes among them.
+/// Accesses from any index over the last place and on, so that every place is met; accesses that
+/// are refused, and decodes, among them.
 fn walk(caller: &mut Caller) {
     caller.start(index(caller), map(caller));
     let writes = caller.below(3);
