@@ -1,2 +1,2 @@
--- What the three calls promise. The laws of that are crate `bank_bits`; proofs of single functions are in the folders beside this.
+-- What the contracts of the calls say. The laws of bank selects are crate `bank_bits`; proofs of single functions are in the folders beside this.
 pub mod Promised
