@@ -9,6 +9,6 @@ use Rattle.bank_bits.specs.Table.{worked, sample-map, order, bytes, no-l
 
 pub table-holds : map worked table ≡ table
 unfolding
-    table sample-map order bytes no-lanes wrap special refresh several seen bit are-lanes bank-at with-bank half with-half value-of with-value
-    half-at with-half-at refusal read-answer write-answer agrees-at agrees-below agrees in-turn admits selects decoded
+    table sample-map order bytes no-lanes wrap special refresh several seen bit are-lanes bank-at with-bank half with-half value-of
+    with-value half-at with-half-at refusal read-answer write-answer agrees-at agrees-below agrees in-turn admits selects decoded
 table-holds = refl

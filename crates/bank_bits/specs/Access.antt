@@ -30,8 +30,8 @@ port b i = record { banks = b; index = i }
 abbrev pub answered : ℕ → ℕ → BankPort → BankAnswer
 answered n w p = record { number = n; word = w; port = p }
 
--- document 01: "3 lanes not 1, 2 or 3", "Tested in this order: .. as numbered"; document 02: "30 byte access to the port". Lanes 3 are "both"
--- bytes, so a byte access is one with lanes 1 or 2
+-- document 01: "3 lanes not 1, 2 or 3", "Tested in this order: .. as numbered"; document 02: "30 byte access to the port". Lanes 3 are
+-- "both" bytes, so a byte access is one with lanes 1 or 2
 unfoldable pub refusal : ℕ → ℕ
 refusal lanes =
     cond (not (are-lanes lanes)) 3
