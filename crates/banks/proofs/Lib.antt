@@ -1,2 +1,3 @@
--- What the contracts of the calls say. The laws of bank selects are crate `bank_bits`; proofs of single functions are in the folders beside this.
+-- What the contracts of the calls say. The laws of bank selects are crate `bank_bits`; proofs of single functions are in the folders
+-- beside this.
 pub mod Promised

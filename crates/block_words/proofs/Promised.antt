@@ -72,8 +72,8 @@ module _ {r : Registers} {m l : List ℕ} {place count : ℕ} {o : BlockRead} {l
     pub read-ends-alike : machine (o .registers) m ≡ ends (machine r m) (reading count)
     read-ends-alike = ap (λ (x : BlockRead). machine (x .registers) m) (k .outcome) ∙ like .ended
 
-    -- It ends like any calls that read one by one, by words or by bytes: with their registers, their words in the list's stretch, and as many
-    -- hollow ones.
+    -- It ends like any calls that read one by one, by words or by bytes: with their registers, their words in the list's stretch, and as
+    -- many hollow ones.
     pub read-like-calls : {xs : List Answer} {t : Machine} → Made (machine r m) (reading count) xs t →
         (machine (o .registers) m ≡ t) × (stretch l′ place count ≡ words-in xs) × (o .hollows ≡ hollows-in xs)
     read-like-calls c =

@@ -114,7 +114,8 @@ module _ (r : Registers) (m l : List ℕ) (place count : ℕ) where
       let s = machine r m in
       let e = sym (read-number r m l place count) ∙ n in
       let fits = when (length m) (length l) place count .done .0 e .2 in (
-        rw (list-taken r m l place count e) (laid-stretch place count l (words-in (answers s (reading count))) fits (filled-length s count)),
+        rw (list-taken r m l place count e)
+            (laid-stretch place count l (words-in (answers s (reading count))) fits (filled-length s count)),
         ap (λ (x : BlockRead). x .hollows) (read-taken r m l place count e),
       )
 

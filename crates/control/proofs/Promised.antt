@@ -64,7 +64,8 @@ pub write-by-host-contract : Contract write-by-host-kinds.ps write-by-host-kinds
 write-by-host-contract = record { takes-any = λ κs args. tt; says = λ κs args r left p. p }
 
 -- `write_by_processor`: c, lanes, w.
-pub write-by-processor-contract : Contract write-by-processor-kinds.ps write-by-processor-kinds.r write-by-processor.Pre write-by-processor.Post
+pub write-by-processor-contract :
+    Contract write-by-processor-kinds.ps write-by-processor-kinds.r write-by-processor.Pre write-by-processor.Post
     (λ κs args r left.
     let c = args .0 in
     let lanes = args .1 .0 in

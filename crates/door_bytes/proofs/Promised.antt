@@ -128,7 +128,9 @@ call-exact l a x t k = (
 
 call-made : (l : Lent) (a : Access) → at-the-door l a (told l a) (left l a)
 call-made l a =
-    (call-answer (l .image) (l .memory) a, record { answered = refl; image-left = refl; memory-left = refl }, call-unpacks (l .image) (l .memory) a)
+    let kept : Called (l .image) (l .memory) a (call-answer (l .image) (l .memory) a) (left l a .image) (left l a .memory) =
+    record { answered = refl; image-left = refl; memory-left = refl } in
+    (call-answer (l .image) (l .memory) a, kept, call-unpacks (l .image) (l .memory) a)
 
 -- what is lent is bytes
 abbrev Bytes : Lent → Type 0
@@ -154,15 +156,15 @@ pairs l y h =
       end = p .end;
     }
 
--- A sixteen-bit access done by two byte calls, the second on what the first left, answers what one call answers, and leaves the bytes that it
--- leaves.
+-- A sixteen-bit access done by two byte calls, the second on what the first left, answers what one call answers, and leaves the bytes that
+-- it leaves.
 pub byte-calls-alike : {l t t₁ t₂ : Lent} (y : Sixteen) {x x₁ x₂ : Answer} → AreBytes (l .image) → AreBytes (l .memory) →
     at-the-door l (on 3 y) x t → at-the-door l (opening l y) x₁ t₁ → at-the-door t₁ (closing l y) x₂ t₂ → AddUp x₁ x₂ x × (t₂ ≡ t)
 byte-calls-alike y b c whole first second =
     pair-alike at-the-door control-in told left Bytes call-exact still-bytes pairs y (b, c) whole first second
 
--- Any sequence of accesses done by byte calls answers and leaves what the word calls answer and leave, whatever bytes are lent, refused calls
--- too.
+-- Any sequence of accesses done by byte calls answers and leaves what the word calls answer and leave, whatever bytes are lent, refused
+-- calls too.
 pub calls-end-alike : {l t u : Lent} {ys : List Sixteen} {xs : List Answer} {ps : List (Answer × Answer)} →
     AreBytes (l .image) → AreBytes (l .memory) →
     ByWords at-the-door l ys xs t → ByBytes at-the-door control-in l ys ps u → AllAddUp ps xs × (u ≡ t)

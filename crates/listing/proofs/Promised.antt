@@ -41,7 +41,8 @@ module _ (r : Registers) (m input out : List ℕ) where
   lines-first = sym (lines-are (machine r m) (take fit input)) ∙ take-take (x .used) fit input used-fits
 
   -- listed alone, they leave the port as the stretch leaves it
-  lines-alone : listing (start (machine r m)) (take (x .used) input) ≡ between (x .machine) (whole (machine r m) (take fit input) .text) (x .used)
+  lines-alone :
+      listing (start (machine r m)) (take (x .used) input) ≡ between (x .machine) (whole (machine r m) (take fit input) .text) (x .used)
   lines-alone = ap (listing (start (machine r m))) (sym lines-first) ∙ whole (machine r m) (take fit input) .alone
 
   -- the text of the stretch has room in the output
@@ -114,7 +115,9 @@ module _ {r : Registers} {m input out : List ℕ} {o : Listed} {m′ out′ : Li
       writes-the-text ∙
       whole (machine r m) (take (fitting (length out)) input) .said ∙
       ap (λ (l : List ℕ). l ++ cond (stretch-listing r m input out .ended) bad-line [])
-      (sym (ap (λ (n : ℕ). listing (start (machine r m)) (take n input) .text) used-is ∙ ap (λ (y : Listing). y .text) (lines-alone r m input out))) ∙
+      (sym
+      (ap (λ (n : ℕ). listing (start (machine r m)) (take n input) .text) used-is ∙
+      ap (λ (y : Listing). y .text) (lines-alone r m input out))) ∙
       ap (λ (c : Bool). lines-text ++ cond c bad-line []) (sym ended-is)
 
   -- Where no bad line ended it, the text is what the bytes used print.
@@ -145,7 +148,8 @@ module _ {r : Registers} {m input out : List ℕ} {o : Listed} {m′ out′ : Li
       ap (λ (t : List ℕ). behind t (y .used) (listing (start (y .machine)) (y .begun ++ v))) text ∙
       ap (λ (n : ℕ). behind (take (o .wrote) out′) n (listing (start (y .machine)) (y .begun ++ v))) (uses-whole-lines .0) ∙
       ap (λ (q : Machine). behind (take (o .wrote) out′) (o .used) (listing (start q) (y .begun ++ v))) (sym leaves-the-port) ∙
-      ap (λ (l : List ℕ). behind (take (o .wrote) out′) (o .used) (listing (start (machine (o .registers) m′)) (l ++ v))) (uses-whole-lines .1)
+      ap (λ (l : List ℕ). behind (take (o .wrote) out′) (o .used) (listing (start (machine (o .registers) m′)) (l ++ v)))
+      (uses-whole-lines .1)
 
   -- Where one did, the text is what the whole input prints, and the port is left as the whole input leaves it.
   pub ends-there : o .ended ≡ true →

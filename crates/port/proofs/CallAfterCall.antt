@@ -67,8 +67,8 @@ any-machine s = Unit
 pairs : (s : Machine) (a : Sixteen) → any-machine s → PairAlike control-of answer-of after s a
 pairs s a h = bytes-alike s a
 
--- A sixteen-bit access done by two byte calls, the second on what the first left, answers what one call answers, and leaves the registers and
--- the memory that it leaves.
+-- A sixteen-bit access done by two byte calls, the second on what the first left, answers what one call answers, and leaves the registers
+-- and the memory that it leaves.
 pub byte-calls-alike : {s t t₁ t₂ : Machine} (a : Sixteen) {x x₁ x₂ : Answer} → by-value s (on 3 a) x t →
     by-value s (opening s a) x₁ t₁ → by-value t₁ (closing s a) x₂ t₂ → AddUp x₁ x₂ x × (t₂ ≡ t)
 byte-calls-alike a whole first second =
@@ -153,13 +153,14 @@ unfolding ran does
 did-as-ran nothing = refl
 did-as-ran {s} (by-host {t = t} {a = a} {x = x} {rest = rest} c d) =
     did-as-ran d ∙ ap (λ (z : Machine). ran z rest) (call-exact s a x t c .1)
-did-as-ran {s} (by-processor {rest = rest} e d) = did-as-ran d ∙ ap (λ (o : ProcessorWrite). ran (machine (o .registers) (s .memory)) rest) e
+did-as-ran {s} (by-processor {rest = rest} e d) =
+    did-as-ran d ∙ ap (λ (o : ProcessorWrite). ran (machine (o .registers) (s .memory)) rest) e
 did-as-ran {s} (by-reset {rest = rest} e d) = did-as-ran d ∙ ap (λ (o : Woken). ran (machine (o .registers) (s .memory)) rest) e
 did-as-ran (by-others d) = did-as-ran d
 
 -- from reset on, any run of deeds, and then a call that reads HSTDATA and is done
-module _ {m : List ℕ} {l : List Deed} {lanes : ℕ} {s t : Machine} {x : Answer} (run : Did (woken m) l s) (call : by-value s (Read 2 lanes) x t)
-    (z : x .number ≡ 0) where
+module _ {m : List ℕ} {l : List Deed} {lanes : ℕ} {s t : Machine} {x : Answer} (run : Did (woken m) l s)
+    (call : by-value s (Read 2 lanes) x t) (z : x .number ≡ 0) where
   there : x ≡ answer-of (ran (woken m) l) (Read 2 lanes)
   there = call-exact s (Read 2 lanes) x t call .0 ∙ ap (λ (q : Machine). answer-of q (Read 2 lanes)) (did-as-ran run)
 

@@ -1,6 +1,6 @@
--- What the contract of an access by the host promises, said of any outcome that `Accessed` allows, with the call's own arguments: the number
--- when and only then; what a refusal returns and leaves; of an access that is done what is answered and left, register by register; its
--- cycle's mark. And of a cycle, of any outcome that `Cycled` allows. `CallAfterCall` goes on with calls in sequence.
+-- What the contract of an access by the host promises, said of any outcome that `Accessed` allows, with the call's own arguments: the
+-- number when and only then; what a refusal returns and leaves; of an access that is done what is answered and left, register by register;
+-- its cycle's mark. And of a cycle, of any outcome that `Cycled` allows. `CallAfterCall` goes on with calls in sequence.
 use Prim.Native.Nat.{ℕ}
 use mathlib.Core.Path.{_≡_, refl, sym, ap, _∙_}
 use mathlib.Core.Bool.{Bool, true, false, cond, _&&_}
@@ -99,7 +99,8 @@ module _ {r : Registers} {m : List ℕ} {lanes : ℕ} {o : Outcome} {m′ : List
   read-stays e = ap (λ (x : Outcome). x .registers) (k .outcome) ∙ read-open r m lanes (done-there k z) e
 
 -- ---- a write
-module _ {r : Registers} {m : List ℕ} {register lanes w : ℕ} {o : Outcome} {m′ : List ℕ} (k : Accessed r m (Write register lanes w) o m′) where
+module _ {r : Registers} {m : List ℕ} {register lanes w : ℕ} {o : Outcome} {m′ : List ℕ}
+    (k : Accessed r m (Write register lanes w) o m′) where
   -- Done or refused, it answers no word and no hollow mark.
   pub write-answers-nothing : (o .answer .word ≡ 0) × (o .answer .hollow ≡ false)
   write-answers-nothing =
@@ -159,7 +160,8 @@ module _ {r : Registers} {m : List ℕ} {c : Carried} {m′ : List ℕ} where
       × (c .cycle ≡ cond (in-memory m (word-at (stepped-from s (r .pointer)))) Inside Empty)
       × (m′ ≡ m)
   unfolding carried memory-after after-fetch stepped fetch-at mark
-  fetch-done {s} k = (ap (λ (x : Carried). x .registers) (k .outcome) ∙ fetch-leaves r m s, ap (λ (x : Carried). x .cycle) (k .outcome), k .memory)
+  fetch-done {s} k =
+      (ap (λ (x : Carried). x .registers) (k .outcome) ∙ fetch-leaves r m s, ap (λ (x : Carried). x .cycle) (k .outcome), k .memory)
 
   -- A store leaves HSTDATA held, and steps or not, is marked by whether its word is there, and stores HSTDATA at the pointer.
   pub store-done : {s : Bool} → Cycled r (Store s) m c m′ →
@@ -167,4 +169,5 @@ module _ {r : Registers} {m : List ℕ} {c : Carried} {m′ : List ℕ} where
       × (c .cycle ≡ cond (in-memory m (word-at (r .pointer))) Inside Empty)
       × (m′ ≡ store-at m (word-at (r .pointer)) (r .latch))
   unfolding carried memory-after after-store mark
-  store-done {s} k = (ap (λ (x : Carried). x .registers) (k .outcome) ∙ store-leaves r m s, ap (λ (x : Carried). x .cycle) (k .outcome), k .memory)
+  store-done {s} k =
+      (ap (λ (x : Carried). x .registers) (k .outcome) ∙ store-leaves r m s, ap (λ (x : Carried). x .cycle) (k .outcome), k .memory)

@@ -11,12 +11,14 @@ use Rattle.port.specs.declared.Answer.{Answer}
 
 -- Two answers to a word that the same bytes add up to are one.
 pub one-sum : {x y z w : Answer} → AddUp x y z → AddUp x y w → z ≡ w
-one-sum {z = z} {w = w} p q = rw (sym (p .word) ∙ q .word, sym (p .number) ∙ q .number, sym (p .hollow) ∙ q .hollow, sym (p .cycle) ∙ q .cycle)
+one-sum {z = z} {w = w} p q =
+    rw (sym (p .word) ∙ q .word, sym (p .number) ∙ q .number, sym (p .hollow) ∙ q .hollow, sym (p .cycle) ∙ q .cycle)
 
 -- So are any answers that the same pairs add up to.
 pub one-sums : {ps : List (Answer × Answer)} {zs ws : List Answer} → AllAddUp ps zs → AllAddUp ps ws → zs ≡ ws
 one-sums no-pair no-pair = refl
-one-sums (a-pair {zs = zs} p ps) (a-pair {z = w} q qs) = ap (λ (y : Answer). y ∷ zs) (one-sum p q) ∙ ap (λ (ys : List Answer). w ∷ ys) (one-sums ps qs)
+one-sums (a-pair {zs = zs} p ps) (a-pair {z = w} q qs) =
+    ap (λ (y : Answer). y ∷ zs) (one-sum p q) ∙ ap (λ (ys : List Answer). w ∷ ys) (one-sums ps qs)
 
 -- what one call answers and leaves, and the two byte calls for one sixteen-bit access
 module _ {S : Type 0} (control : S → ℕ) (tells : S → Access → Answer) (leaves : S → Access → S) (s : S) (a : Sixteen) where

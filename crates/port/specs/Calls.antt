@@ -76,7 +76,8 @@ pub data Did : Machine → List Deed → Machine → Type 0 where
   by-host : {s t u : Machine} {a : Access} {x : Answer} {rest : List Deed} →
       by-value s a x t → Did t rest u → Did s (host a ∷ rest) u
   by-processor : {s u : Machine} {register w : ℕ} {o : ProcessorWrite} {rest : List Deed} →
-      o ≡ processor-writes (s .registers) register w → Did (machine (o .registers) (s .memory)) rest u → Did s (processor register w ∷ rest) u
+      o ≡ processor-writes (s .registers) register w → Did (machine (o .registers) (s .memory)) rest u →
+      Did s (processor register w ∷ rest) u
   by-reset : {s u : Machine} {o : Woken} {rest : List Deed} →
       o ≡ at-reset → Did (machine (o .registers) (s .memory)) rest u → Did s (reset ∷ rest) u
   by-others : {s u : Machine} {m : List ℕ} {rest : List Deed} → Did (machine (s .registers) m) rest u → Did s (elsewhere m ∷ rest) u

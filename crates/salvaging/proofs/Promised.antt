@@ -88,7 +88,8 @@ module _ {s out : List ℕ} {o : Salvaged} {out′ : List ℕ} (p : SalvagedTran
 
 -- ---- the contracts themselves: each is a statement on the call's own arguments
 -- `salvage_transcript`: damaged, sound.
-pub salvage-transcript-contract : Contract salvage-transcript-kinds.ps salvage-transcript-kinds.r salvage-transcript.Pre salvage-transcript.Post
+pub salvage-transcript-contract :
+    Contract salvage-transcript-kinds.ps salvage-transcript-kinds.r salvage-transcript.Pre salvage-transcript.Post
     (λ κs args o left.
     let damaged = args .0 in
     let sound = args .1 .0 in

@@ -26,7 +26,8 @@ use Rattle.script.proofs.reading.read_line.Kinds as read-line-kinds
 use Rattle.script.proofs.reading.read_line.Reads as read-line
 
 -- `is_in_place_letter`: l.
-pub is-in-place-letter-contract : Contract is-in-place-letter-kinds.ps is-in-place-letter-kinds.r is-in-place-letter.Pre is-in-place-letter.Post
+pub is-in-place-letter-contract :
+    Contract is-in-place-letter-kinds.ps is-in-place-letter-kinds.r is-in-place-letter.Pre is-in-place-letter.Post
     (λ κs args r left.
     let l = args .0 in
     r ≡ in-place-letter l)
@@ -40,7 +41,8 @@ pub is-host-letter-contract : Contract is-host-letter-kinds.ps is-host-letter-ki
 is-host-letter-contract = record { takes-any = λ κs args. tt; says = λ κs args r left p. p }
 
 -- `is_processor_letter`: l.
-pub is-processor-letter-contract : Contract is-processor-letter-kinds.ps is-processor-letter-kinds.r is-processor-letter.Pre is-processor-letter.Post
+pub is-processor-letter-contract :
+    Contract is-processor-letter-kinds.ps is-processor-letter-kinds.r is-processor-letter.Pre is-processor-letter.Post
     (λ κs args r left.
     let l = args .0 in
     r ≡ processor-letter l)

@@ -1,5 +1,6 @@
--- Whatever calls follow an end, deliveries and further ends in any order, they are refused with 25, hand out nothing and leave the stream. So
--- from a fresh start, with ends anywhere, what is handed out and the final refusal are those of the bytes that came before the first end.
+-- Whatever calls follow an end, deliveries and further ends in any order, they are refused with 25, hand out nothing and leave the stream.
+-- So from a fresh start, with ends anywhere, what is handed out and the final refusal are those of the bytes that came before the first
+-- end.
 use mathlib.Core.Path.{_≡_, refl, ap, _∙_}
 use mathlib.Core.Bool.{true, cond}
 use mathlib.Core.List.{List, [], _∷_, _++_}

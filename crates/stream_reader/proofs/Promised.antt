@@ -29,7 +29,8 @@ pub take-delivery-contract : Contract take-delivery-kinds.ps take-delivery-kinds
     let lanes′ = left .1 .1 .1 .1 .0 in
     let words = args .1 .1 .1 .1 .1 .0 in
     let words′ = left .1 .1 .1 .1 .1 .0 in
-    TookDelivery st (bytes .now) (lists (kinds .now) (registers .now) (lanes .now) (words .now)) o (lists (kinds′ .now) (registers′ .now) (lanes′ .now) (words′ .now)))
+    TookDelivery st (bytes .now) (lists (kinds .now) (registers .now) (lanes .now) (words .now)) o
+    (lists (kinds′ .now) (registers′ .now) (lanes′ .now) (words′ .now)))
 take-delivery-contract = record { takes-any = λ κs args. tt; says = λ κs args o left p. p }
 
 -- `end_stream`: st.

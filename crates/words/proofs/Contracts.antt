@@ -1,5 +1,5 @@
--- A call's contract, taken from the contract itself. The check makes `Pre` of a function's `requires` and `Post` of its `ensures`, both over
--- the arguments, in the order in which the call takes them, and `Post` also over the result and over what is left of the arguments.
+-- A call's contract, taken from the contract itself. The check makes `Pre` of a function's `requires` and `Post` of its `ensures`, both
+-- over the arguments, in the order in which the call takes them, and `Post` also over the result and over what is left of the arguments.
 --   Contract ps r pre post claim   a call with parameters ps and result r takes any arguments, and all that its `ensures` allows is as
 --                                  `claim` says
 -- A law on a record binds a call only if its `ensures` states that record of its own arguments, each in its place. The laws named
@@ -12,4 +12,5 @@ use denote.Triple.Clauses.{AtExit}
 
 pub record Contract {n : ℕ} (ps : List (PK n)) (r : RK n) (pre : In n ps) (post claim : Out n ps r) : Type 0 where
   pub takes-any : (κs : Lfts n) (args : Dens κs ps) → pre κs args
-  pub says : (κs : Lfts n) (args : Dens κs ps) (x : resT r κs .Denot) (left : AtExit (endedOf n ps r) κs) → post κs args x left → claim κs args x left
+  pub says : (κs : Lfts n) (args : Dens κs ps) (x : resT r κs .Denot) (left : AtExit (endedOf n ps r) κs) →
+      post κs args x left → claim κs args x left
