@@ -13,13 +13,43 @@ use Rattle.transcript_bytes.specs.Writing.{entry-refusal, refused, first-bad}
 use Rattle.transcript_bytes.specs.declared.Entry.{Entry}
 use Rattle.transcript_bytes.specs.declared.Transcribed.{Transcribed}
 use Rattle.transcript_bytes.proofs.WrittenExactly.{passes-good}
+use Rattle.transcript.specs.Entries.{judged-entry}
 use Rattle.transcript.specs.WriterParts.{judged}
+use Rattle.transcript.specs.declared.JudgedEntry.{JudgedEntry}
 use Rattle.transcript.specs.declared.writing.Judged.{Judged}
 
 abbrev pub found : ℕ → ℕ → ℕ → Judged
 found number place wanted = record { number = number; place = place; wanted = wanted }
 
--- ---- one entry
+-- ---- what is said of one entry
+
+abbrev pub said : ℕ → ℕ → JudgedEntry
+said number size = record { number = number; size = size }
+
+module _ (e : Entry) {number : ℕ} (is : number ≡ entry-refusal e) where
+  -- It is refused: its record has no bytes.
+  pub said-refused : number ≢ 0 → said number 0 ≡ judged-entry e
+  unfolding judged-entry
+  said-refused d = rw (ne-eqb (entry-refusal e) 0 (λ z. d (is ∙ z))) (ap (λ (n : ℕ). said n 0) is)
+
+  -- It is not: they are counted.
+  pub said-good : number ≡ 0 → {size : ℕ} → size ≡ length (record-of e) → said number size ≡ judged-entry e
+  unfolding judged-entry
+  said-good z {size} long =
+      rw (eq-eqb (entry-refusal e) 0 (sym is ∙ z)) (ap (λ (n : ℕ). said n size) is ∙ ap (said (entry-refusal e)) long)
+
+module _ (e : Entry) {o : JudgedEntry} (is : o ≡ judged-entry e) where
+  -- Its number is the entry's refusal.
+  pub number-said : o .number ≡ entry-refusal e
+  unfolding judged-entry
+  number-said = ap (λ (x : JudgedEntry). x .number) is
+
+  -- With number 0 its size is that of the record.
+  pub size-said : o .number ≡ 0 → o .size ≡ length (record-of e)
+  unfolding judged-entry
+  size-said z = ap (λ (x : JudgedEntry). x .size) is ∙ rw (eq-eqb (entry-refusal e) 0 (sym number-said ∙ z)) refl
+
+-- ---- one entry of a list
 module _ (k wanted : ℕ) (e : Entry) (rest : List Entry) where
   -- It is good: the others are judged.
   pub good-one : entry-refusal e ≡ 0 → judged k wanted (e ∷ rest) ≡ judged (suc k) (wanted + length (record-of e)) rest

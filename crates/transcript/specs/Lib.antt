@@ -1,3 +1,5 @@
+-- what the contract of `judge_entry` cites
+pub mod Entries
 -- what only private functions state
 pub mod WriterParts
 pub mod ReaderParts

@@ -1,7 +1,7 @@
 // The reader: a string of bytes to the four lists of a transcript's entries, or to a refusal with the lists as they were.
 ghost use mathlib.Core.Path.{_≡_};
 ghost use Rattle.transcript_bytes.specs.Lists.{lists};
-ghost use Rattle.transcript_bytes.specs.Reading.{ReadTranscript};
+ghost use Rattle.transcript_bytes.specs.Reading.{read-answer, ReadTranscript};
 ghost use Rattle.transcript.specs.ReaderParts.{answer-for};
 use crate::answers::refuse;
 use transcript_bytes::Transcribed;
@@ -29,6 +29,13 @@ fn answer_for(found: Scanned, room: usize) -> Transcribed
     }
 }
 
+// What the reader answers of a string, where the lists have places for so many entries.
+pub fn judge_bytes(bytes: &[u8], room: usize) -> Transcribed
+    ensures { λ o. ⌜ o ≡ read-answer (now (bytes .entry)) room ⌝ }
+{
+    answer_for(scan(bytes), room)
+}
+
 // A transcript's entries, in the first places of the four lists, which hold as many as the shortest of them. Nothing is put there
 // before all records are known to be good and to fit.
 pub fn read_transcript(
@@ -43,7 +50,7 @@ pub fn read_transcript(
         o (lists (now (kinds .exit)) (now (registers .exit)) (now (lanes .exit)) (now (words .exit))) ⌝ }
 {
     let room = shortest(kinds.len(), registers.len(), lanes.len(), words.len());
-    let answer = answer_for(scan(bytes), room);
+    let answer = judge_bytes(bytes, room);
     if answer.number != 0 {
         return answer;
     }

@@ -1,10 +1,13 @@
-// The record of a good entry: its head and, for a write, its word, in groups of seven bits.
+// The record of an entry: its head and, for a write, its word, in groups of seven bits; or the refusal of one that has none.
 ghost use mathlib.Core.Path.{_≡_};
 ghost use Prim.Native.Nat.{_+_, _≤_, _<_};
 ghost use lib.ListN.{length};
 ghost use Rattle.transcript_bytes.specs.Format.{head-of, groups, record-of};
 ghost use Rattle.transcript_bytes.specs.InPlainWords.{Good};
+ghost use Rattle.transcript.specs.Entries.{judged-entry};
 ghost use Rattle.transcript.specs.WriterParts.{Put};
+use crate::JudgedEntry;
+use crate::entries::refusal_of;
 use transcript_bytes::Entry;
 
 // The head of an entry's record.
@@ -29,7 +32,7 @@ fn count_groups(v: u32) -> usize
 }
 
 // How many bytes an entry's record has.
-pub(crate) fn count_bytes(e: Entry) -> usize
+fn count_bytes(e: Entry) -> usize
     requires { ⌜ Good e ⌝ }
     ensures { λ n. ⌜ n ≡ length (record-of e) ⌝ }
 {
@@ -38,6 +41,20 @@ pub(crate) fn count_bytes(e: Entry) -> usize
         return head + count_groups(e.word);
     }
     head
+}
+
+// What the writer says of one entry: it is refused, or its record has so many bytes.
+pub fn judge_entry(e: Entry) -> JudgedEntry
+    ensures { λ r. ⌜ r ≡ judged-entry e ⌝ }
+{
+    let number = refusal_of(e);
+    if number != 0 {
+        return JudgedEntry { number, size: 0 };
+    }
+    JudgedEntry {
+        number,
+        size: count_bytes(e),
+    }
 }
 
 // Puts the groups of a number into the bytes from a place on, and answers the place after them.

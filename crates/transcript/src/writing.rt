@@ -6,8 +6,7 @@ ghost use Rattle.transcript_bytes.specs.Lists.{lists, size, entries-from, over}
 ghost use Rattle.transcript_bytes.specs.Writing.{WroteTranscript};
 ghost use Rattle.transcript.specs.WriterParts.{judged, Writable};
 use crate::answers::refuse;
-use crate::entries::refusal_of;
-use crate::records::count_bytes;
+use crate::records::judge_entry;
 use crate::records::put_record;
 use transcript_bytes::Transcribed;
 use transcript_lists::entry_at;
@@ -32,16 +31,15 @@ fn judge(kinds: &[u32], registers: &[u32], lanes: &[u32], words: &[u32], n: usiz
     while i < n {
         let place = i;
         i += 1;
-        let e = entry_at(kinds, registers, lanes, words, place);
-        let number = refusal_of(e);
-        if number != 0 {
+        let found = judge_entry(entry_at(kinds, registers, lanes, words, place));
+        if found.number != 0 {
             return Judged {
-                number,
+                number: found.number,
                 place,
                 wanted,
             };
         }
-        wanted += count_bytes(e);
+        wanted += found.size;
     }
     Judged {
         number: 0,

@@ -1,27 +1,23 @@
 -- `transcript::reading::read_transcript` meets its contract: its answer is right, and by that answer the lists are filled or left.
 use native.Mathlib.Omega.{arith}
-use mathlib.Core.Path.{_≡_}
+use mathlib.Core.Path.{_≡_, ap, _∙_}
 use Rattle.transcript_bytes.specs.Lists.{lists, size}
 use Rattle.transcript_bytes.specs.Reading.{read-answer}
-use Rattle.transcript.proofs.ReadOutcomes.{right-answer, nothing-put, all-put}
+use Rattle.transcript.proofs.ReadOutcomes.{nothing-put, all-put}
 use Rattle.transcript.proofs.reading.read_transcript.Statement.{statement}
 use Rattle.transcript.proofs.reading.read_transcript.Tie as tie
 
 -- the answer, wherever it is used
-right : (c : tie.After-answer-for) →
-    let x = c .before .before .before .before .before .before .before .before .args in
-    c .answer-for .result ≡ read-answer (x .bytes .now) (size (lists (x .kinds .now) (x .registers .now) (x .lanes .now) (x .words .now)))
-right c =
-    right-answer _ _ (c .answer-for .ensures) (c .before .scan .ensures) (c .before .before .shortest .ensures)
+right : (c : tie.After-judge-bytes) →
+    let x = c .before .before .before .before .before .before .before .args in
+    c .judge-bytes .result ≡ read-answer (x .bytes .now) (size (lists (x .kinds .now) (x .registers .now) (x .lanes .now) (x .words .now)))
+right c = c .judge-bytes .ensures ∙ ap (read-answer _) (c .before .shortest .ensures)
 
 shortest-requires : tie.Need-shortest-requires
 shortest-requires c κs = tt
 
-scan-requires : tie.Need-scan-requires
-scan-requires c κs = tt
-
-answer-for-requires : tie.Need-answer-for-requires
-answer-for-requires c κs = tt
+judge-bytes-requires : tie.Need-judge-bytes-requires
+judge-bytes-requires c κs = tt
 
 returns : tie.Need-returns
 returns c = nothing-put _ _ (right (c .before .before)) (c .if1 .taken)
@@ -57,8 +53,7 @@ read-transcript-spec =
     tie.close
     (tie.spec
     shortest-requires
-    scan-requires
-    answer-for-requires
+    judge-bytes-requires
     returns
     fresh-part-requires
     fill-on-requires

@@ -13,7 +13,7 @@ use Rattle.transcript_bytes.specs.Writing.{entry-refusal}
 use Rattle.transcript_bytes.specs.declared.Entry.{Entry}
 use Rattle.transcript.specs.WriterParts.{judged}
 use Rattle.transcript_bytes.proofs.EntriesLeft.{left, all-left, next-left, none-left}
-use Rattle.transcript.proofs.Judging.{found, good-one, bad-one}
+use Rattle.transcript.proofs.Judging.{found, number-said, size-said, good-one, bad-one}
 use Rattle.transcript_bytes.proofs.RecordBytes.{short}
 use Rattle.transcript_bytes.proofs.WrittenExactly.{passes-good}
 use Rattle.transcript.proofs.writing.judge.Statement.{statement}
@@ -67,38 +67,39 @@ add-i c = omega arith
 entry-at-requires : tie.Need-entry-at-requires Inv-loop μ-loop
 entry-at-requires c κs = tt
 
-refusal-of-requires : tie.Need-refusal-of-requires Inv-loop μ-loop
-refusal-of-requires c κs = tt
+judge-entry-requires : tie.Need-judge-entry-requires Inv-loop μ-loop
+judge-entry-requires c κs = tt
 
 returns : tie.Need-returns Inv-loop μ-loop
 returns c =
-    let judged = c .before in
+    let judged = c .before .before in
     let taken = judged .before in
     fell (taken .before .before .loop .inv) (taken .before .loop-test .taken) _ (taken .entry-at .ensures)
-    _ (judged .refusal-of .ensures) (c .if1 .taken)
-
-count-bytes-requires : tie.Need-count-bytes-requires Inv-loop μ-loop
-count-bytes-requires c κs = passes-good _ (sym (c .before .refusal-of .ensures) ∙ c .if1 .left)
+    _ (number-said _ (judged .judge-entry .ensures)) (c .if1 .taken)
 
 add-wanted : tie.Need-add-wanted Inv-loop μ-loop
 add-wanted c =
-    let judged = c .before .before in
+    let good = c .before in
+    let judged = good .before .before in
     let taken = judged .before in
+    let e = taken .entry-at .result in
     let j = taken .before .before .loop .inv in
     let start = taken .before .before .before .before .before .before .before in
-    let good = passes-good (taken .entry-at .result) (sym (judged .refusal-of .ensures) ∙ c .before .if1 .left) in
-    let four = short (taken .entry-at .result) good in
-    omega (arith, j .few, taken .before .loop-test .taken, start .pre, c .count-bytes .ensures, four)
+    let size = size-said e (judged .judge-entry .ensures) (good .if1 .left) in
+    let four = short e (passes-good e (sym (number-said e (judged .judge-entry .ensures)) ∙ good .if1 .left)) in
+    omega (arith, j .few, taken .before .loop-test .taken, start .pre, size, four)
 
 loop-less : tie.Need-loop-less Inv-loop μ-loop
 loop-less c = omega arith
 
 loop-again : tie.Need-loop-again Inv-loop μ-loop
 loop-again c =
-    let judged = c .before .before in
+    let good = c .before in
+    let judged = good .before .before in
     let taken = judged .before in
-    went-on (taken .before .before .loop .inv) (taken .before .loop-test .taken) _ (taken .entry-at .ensures)
-    (sym (judged .refusal-of .ensures) ∙ c .before .if1 .left) _ (c .count-bytes .ensures)
+    let e = taken .entry-at .result in
+    went-on (taken .before .before .loop .inv) (taken .before .loop-test .taken) e (taken .entry-at .ensures)
+    (sym (number-said e (judged .judge-entry .ensures)) ∙ good .if1 .left) _ (size-said e (judged .judge-entry .ensures) (good .if1 .left))
 
 returns-2 : tie.Need-returns-2 Inv-loop μ-loop
 returns-2 c = ended (c .before .loop .inv) (c .loop-test .left)
@@ -112,9 +113,8 @@ judge-spec =
     loop-holds
     add-i
     entry-at-requires
-    refusal-of-requires
+    judge-entry-requires
     returns
-    count-bytes-requires
     add-wanted
     loop-less
     loop-again

@@ -1,0 +1,14 @@
+-- What the writer says of one entry: document 02, request (ii).
+--   judged-entry e   its refusal, or 0; and how many bytes its record has, 0 where it is refused
+use mathlib.Core.Bool.{cond}
+use lib.Dec.{eqb}
+use lib.ListN.{length}
+use Rattle.transcript_bytes.specs.Format.{record-of}
+use Rattle.transcript_bytes.specs.Writing.{entry-refusal}
+use Rattle.transcript_bytes.specs.declared.Entry.{Entry}
+use Rattle.transcript.specs.declared.JudgedEntry.{JudgedEntry}
+
+-- "The writer tests 2, 3, then 22"; a record is what `record-of` writes
+unfoldable pub judged-entry : Entry → JudgedEntry
+judged-entry e =
+    record { number = entry-refusal e; size = cond (eqb (entry-refusal e) 0) (length (record-of e)) 0 }
