@@ -1,10 +1,14 @@
 // The lines of `portlist` to a list of entries of a transcript, and back: each entry has one line, `R reg lanes` for a read and
-// `W reg lanes hhhh` for a write. It is the text side of the program `transcript`.
+// `W reg lanes hhhh` for a write. It is the text side of the program `transcript`. What the calls judge by is public too, for whoever
+// has to know an answer before a list or a byte is touched.
 mod lines;
 mod putting;
 mod taking;
 
+pub use lines::entry_of;
+pub use lines::line_size;
 pub use putting::put_lines;
+pub use taking::judge_lines;
 pub use taking::take_lines;
 
 // What taking the lines of a text answers.

@@ -13,7 +13,7 @@ use transcript_lists::has_no_record;
 use words::either;
 
 // The entry that a line's access makes: a read has no word.
-pub(crate) fn entry_of(a: Access) -> Entry
+pub fn entry_of(a: Access) -> Entry
     ensures { λ e. ⌜ e ≡ entry-of a ⌝ }
 {
     match a {
@@ -44,7 +44,7 @@ pub(crate) fn is_unsayable(e: Entry) -> bool
 }
 
 // How many bytes the entry's line has, its line feed among them.
-pub(crate) fn line_size(e: Entry) -> usize
+pub fn line_size(e: Entry) -> usize
     ensures { λ r. ⌜ r ≡ length (line e) ⌝ }
 {
     if e.kind == 0 { 6 } else { 11 }

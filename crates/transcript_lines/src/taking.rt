@@ -12,7 +12,7 @@ use transcript_lists::put_entry;
 use transcript_lists::shortest;
 
 // What is answered of a text, where the lists have places for so many entries.
-fn judge_lines(text: &[u8], room: usize) -> LinesTaken
+pub fn judge_lines(text: &[u8], room: usize) -> LinesTaken
     ensures { λ o. ⌜ o ≡ take-answer (now (text .entry)) room ⌝ }
 {
     let mut used = 0;
