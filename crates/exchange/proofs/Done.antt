@@ -2,15 +2,16 @@
 use Prim.Native.Nat.{ℕ, _≤_}
 use native.Mathlib.Omega.{arith}
 use mathlib.Core.Path.{_≡_, refl, sym, ap, _∙_, subst}
-use mathlib.Core.Bool.{true, false}
+use mathlib.Core.Bool.{Bool, true, false, cond}
 use mathlib.Core.List.{List}
-use mathlib.Core.Logic.{_⊎_, inl, inr, ⊎-elim}
+use mathlib.Core.Logic.{⊎-elim, _≢_}
+use lib.Dec.{eqb}
 use lib.ListN.{length}
+use borrow.Author.Tests.{eq-eqb, ne-eqb, lt-ltb, le-ltb}
 use Rattle.words.proofs.Choices.{less-or-not, same-or-not}
 use Rattle.transcript_bytes.specs.Format.{transcript-of}
 use Rattle.transcript_bytes.specs.InPlainWords.{AllGood, Sound, Written, ReadAs}
 use Rattle.transcript_bytes.specs.InPlainWords as plain
-use Rattle.transcript_bytes.specs.Lists.{Lists}
 use Rattle.transcript_bytes.specs.Reading.{entries-read, read-answer}
 use Rattle.transcript_bytes.specs.Writing.{write-answer}
 use Rattle.transcript_bytes.specs.declared.Entry.{Entry}
@@ -22,19 +23,31 @@ use Rattle.transcript_bytes.proofs.WrittenExactly.{bad-number, writes-exactly}
 use Rattle.transcript_lines.specs.Lines.{text-of}
 use Rattle.transcript_lines.specs.Putting.{put-answer}
 use Rattle.transcript_lines.specs.Taking.{taking, take-answer}
-use Rattle.transcript_lines.specs.declared.LinesPut.{LinesPut}
 use Rattle.transcript_lines.specs.declared.LinesPut.the-variants as put
 use Rattle.transcript_lines.specs.declared.LinesTaken.{LinesTaken}
 use Rattle.transcript_lines.specs.declared.LinesTaken.the-variants as taken
 use Rattle.transcript_lines.proofs.GoodEntries.{all-sayable}
 use Rattle.transcript_lines.proofs.PutAnswers.{put-answers}
-use Rattle.exchange.specs.Turning.{by-answer, by-taken, by-put, written, bytes-turned, lines-turned, is-done, ToBytes, ToLines}
+use Rattle.exchange.specs.Turning.{by-answer, by-taken, written, fitting, bytes-turned, lines-turned, is-done}
 use Rattle.exchange.specs.declared.Turned.{Turned}
-use Rattle.exchange.specs.declared.Turned.the-variants.{Done}
-use Rattle.exchange.proofs.Outcomes.{answer-done, refused-not-done}
+use Rattle.exchange.specs.declared.Turned.the-variants.{Done, Refused, TooMany}
 
--- ---- an answer that means that it is turned refuses nothing
-none-refused : (o : Transcribed) (x : Turned) (k : ℕ) → by-answer o x ≡ Done k → (o .number ≡ 0) × (x ≡ Done k)
+-- ---- what an answer means
+pub answer-done : (o : Transcribed) (x : Turned) → o .number ≡ 0 → by-answer o x ≡ x
+unfolding by-answer
+answer-done o x z = rw (eq-eqb (o .number) 0 z)
+
+refused-not-done : (o : Transcribed) (x : Turned) → o .number ≢ 0 → is-done (by-answer o x) ≡ false
+unfolding by-answer
+refused-not-done o x d =
+    rw (ne-eqb (o .number) 0 d) (either (eqb (o .number) 24))
+  where
+    either : (t : Bool) → is-done (cond t TooMany (Refused (o .number) (o .place))) ≡ false
+    either true = refl
+    either false = refl
+
+-- An answer that means that it is turned refuses nothing.
+pub none-refused : (o : Transcribed) (x : Turned) (k : ℕ) → by-answer o x ≡ Done k → (o .number ≡ 0) × (x ≡ Done k)
 none-refused o x k e =
     ⊎-elim
     (λ z. (z, sym (answer-done o x z) ∙ e))
@@ -74,31 +87,17 @@ bytes-are-done {t} {room} {out} {k} e =
     let c : a .count ≡ k = cc in
     record { lines = x .0 .0; taken = x .0 .1; good = z .0; count = sym c ∙ z .1; fits = omega arith }
 
--- What is turned fits the output.
-pub bytes-fit : {t : List ℕ} {l l′ : Lists} {out out′ : List ℕ} {o : Turned} {k : ℕ} → ToBytes t l out o l′ out′ → o ≡ Done k → k ≤ length out
-bytes-fit p e = bytes-are-done (sym (p .answer) ∙ e) .fits
-
 -- ---- bytes to lines
 pub record LinesDone (s : List ℕ) (room out k : ℕ) : Type 0 where
   pub read : read-answer s room .number ≡ 0
-  pub put : put-answer (entries-read s) out ≡ put.Written k
+  pub sound : Sound s (entries-read s)
+  pub places : length (entries-read s) ≤ room
+  pub count : k ≡ length (text-of (entries-read s))
   pub fits : k ≤ out
+  pub put : put-answer (entries-read s) out ≡ put.Written k
 
-of-put : (x : LinesPut) (k : ℕ) → by-put x ≡ Done k → x ≡ put.Written k
-of-put (put.Written n) k e = cc
-of-put (put.Unsayable j) k e = let no : _≡_ {A = ℕ} 0 1 = cc in absurd (omega arith)
-of-put put.NoBytes k e = let no : _≡_ {A = ℕ} 0 1 = cc in absurd (omega arith)
-
-pub lines-are-done : {s : List ℕ} {room out k : ℕ} → lines-turned s room out ≡ Done k → LinesDone s room out k
-unfolding lines-turned
-lines-are-done {s} {room} {out} {k} e =
-    let x = none-refused (read-answer s room) (by-put (put-answer (entries-read s) out)) k e in
-    let y = of-put (put-answer (entries-read s) out) k (x .1) in
-    record { read = x .0; put = y; fits = put-answers (entries-read s) out (put.Written k) .0 y .2 }
-
--- ---- every record has a line
 -- what is accepted is good records, and there are places for their entries
-pub read-all : (s : List ℕ) (room : ℕ) {a : Transcribed} → ReadAs s room a → a .number ≡ 0 →
+read-all : (s : List ℕ) (room : ℕ) {a : Transcribed} → ReadAs s room a → a .number ≡ 0 →
     Sound s (entries-read s) × (length (entries-read s) ≤ room)
 read-all s room (plain.ReadAs.done {es} q h) z =
     let e = sound-exactly s es .0 q .1 in
@@ -106,17 +105,31 @@ read-all s room (plain.ReadAs.done {es} q h) z =
 read-all s room (plain.ReadAs.too-small q h) z = absurd (omega arith)
 read-all s room (plain.ReadAs.bad-record {es} {t} {u} {n} e q b) z = absurd (bad-record-number u n b z)
 
--- Where nothing is refused, the lines of what is read are put, or they have no room: there is none that can't be said.
-pub only-room-is-missing : (s : List ℕ) (room out : ℕ) → read-answer s room .number ≡ 0 →
-    (put-answer (entries-read s) out ≡ put.Written (length (text-of (entries-read s)))) ⊎ (put-answer (entries-read s) out ≡ put.NoBytes)
-only-room-is-missing s room out z =
-    let es = entries-read s in
-    let says = all-sayable es (good-entries (read-all s room (reads-exactly s room (read-answer s room) .0 refl) z .0)) in
+-- What fits has its bytes, and room for them.
+pub fitted : (n room k : ℕ) → fitting n room ≡ Done k → (n ≡ k) × (n ≤ room)
+fitted n room k e =
     ⊎-elim
-    (λ h. inr (put-answers es out put.NoBytes .1 (says, h)))
-    (λ h. inl (put-answers es out (put.Written (length (text-of es))) .1 (says, refl, h)))
-    (less-or-not out (length (text-of es)))
+    (λ h. let over : TooMany ≡ Done k = rw (lt-ltb room n h) at e in let no : _≡_ {A = ℕ} 0 1 = cc in absurd (omega arith))
+    (λ h. (same (rw (le-ltb room n h) at e), h))
+    (less-or-not room n)
+  where
+    same : Done n ≡ Done k → n ≡ k
+    same q = cc
 
--- What is turned fits the output.
-pub lines-fit : {s : List ℕ} {l l′ : Lists} {out out′ : List ℕ} {o : Turned} {k : ℕ} → ToLines s l out o l′ out′ → o ≡ Done k → k ≤ length out
-lines-fit p e = lines-are-done (sym (p .answer) ∙ e) .fits
+pub lines-are-done : {s : List ℕ} {room out k : ℕ} → lines-turned s room out ≡ Done k → LinesDone s room out k
+unfolding lines-turned
+lines-are-done {s} {room} {out} {k} e =
+    let es = entries-read s in
+    let x = none-refused (read-answer s room) (fitting (length (text-of es)) out) k e in
+    let f = fitted (length (text-of es)) out k (x .1) in
+    let a = read-all s room (reads-exactly s room (read-answer s room) .0 refl) (x .0) in
+    record {
+      read = x .0;
+      sound = a .0;
+      places = a .1;
+      count = sym (f .0);
+      fits = omega (arith, f .0, f .1);
+      put =
+          put-answers es out (put.Written k) .1
+          (all-sayable es (good-entries (a .0)), sym (f .0), omega (arith, f .0, f .1));
+    }

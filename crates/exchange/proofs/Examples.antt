@@ -9,8 +9,7 @@ use Rattle.listing.specs.Spelled.{lines-of}
 use Rattle.transcript_bytes.specs.Format.{groups, record-of, transcript-of}
 use Rattle.transcript_bytes.specs.Reading.{with-group, head-read, word-read, step, feed, feeds, read-answer}
 use Rattle.transcript_bytes.specs.Writing.{no-record, entry-refusal, first-bad, write-answer}
-use Rattle.transcript_lines.specs.Lines.{access-of, unsayable}
-use Rattle.transcript_lines.specs.Putting.{first-unsayable, put-answer}
+use Rattle.transcript_lines.specs.Lines.{access-of}
 use Rattle.transcript_lines.specs.Taking.{takes, take-answer}
 use Rattle.exchange.specs.Turning.{by-answer, bytes-turned, lines-turned}
 use Rattle.exchange.specs.declared.Turned.the-variants.{Done, BadLine, Refused, TooMany}
@@ -59,6 +58,5 @@ pub record Strings : Type 0 where
 -- These come out so.
 pub four-strings : Strings
 unfolding
-    lines-turned by-answer read-answer feeds feed step head-read word-read with-group put-answer first-unsayable unsayable no-record
-    lines-of access-of
+    lines-turned by-answer read-answer feeds feed step head-read word-read with-group lines-of access-of
 four-strings = record { two = refl; no-place = refl; no-byte = refl; bad = refl }

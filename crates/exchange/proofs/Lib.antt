@@ -1,7 +1,10 @@
 -- what the functions' proofs rest on
+pub mod Entries
+pub mod AccessByAccess
+pub mod RecordByRecord
+pub mod Done
 pub mod Outcomes
 -- what is promised
-pub mod Done
 pub mod ThereAndBack
 pub mod Examples
 pub mod One

@@ -2,41 +2,38 @@
 use Prim.Native.Nat.{ℕ, _≤_}
 use native.Mathlib.Omega.{arith}
 use mathlib.Core.Path.{_≡_, refl, sym, ap, _∙_, subst}
-use mathlib.Core.Bool.{cond}
 use mathlib.Core.List.{List, [], append-nil}
 use lib.ListN.{length, take, drop}
 use lib.Seq.{take-at}
+use borrow.Author.Tests.{le-ltb}
 use Rattle.words.specs.Bytes.{AreBytes}
 use Rattle.transcript_bytes.specs.Format.{transcript-of}
-use Rattle.transcript_bytes.specs.InPlainWords.{Sound, ReadAs}
+use Rattle.transcript_bytes.specs.InPlainWords.{Sound}
 use Rattle.transcript_bytes.specs.InPlainWords as plain
-use Rattle.transcript_bytes.specs.Lists.{Lists, size, over}
-use Rattle.transcript_bytes.specs.Reading.{entries-read, read-answer}
+use Rattle.transcript_bytes.specs.Lists.{Lists, size}
+use Rattle.transcript_bytes.specs.Reading.{entries-read}
 use Rattle.transcript_bytes.specs.Writing.{accepted}
-use Rattle.transcript_bytes.specs.declared.Entry.{Entry}
 use Rattle.transcript_bytes.specs.declared.Transcribed.{Transcribed}
 use Rattle.transcript_bytes.proofs.OneEncoding.{transcript-sound, sound-is}
 use Rattle.transcript_bytes.proofs.ReadExactly.{reads-exactly, sound-exactly}
 use Rattle.transcript_bytes.proofs.WrittenExactly.{writes-exactly}
-use Rattle.transcript_lines.specs.Lines.{text-of, AllSayable}
-use Rattle.transcript_lines.specs.Putting.{put-answer}
+use Rattle.transcript_lines.specs.Lines.{text-of}
 use Rattle.transcript_lines.specs.Taking.{Taking, taking, take-answer}
-use Rattle.transcript_lines.specs.declared.LinesPut.the-variants as put
 use Rattle.transcript_lines.specs.declared.LinesTaken.{LinesTaken}
 use Rattle.transcript_lines.specs.declared.LinesTaken.the-variants as taken
-use Rattle.transcript_lines.proofs.PutAnswers.{put-answers}
+use Rattle.transcript_lines.proofs.GoodEntries.{all-sayable}
 use Rattle.transcript_lines.proofs.TakeAnswers.{take-answers, then-taken}
 use Rattle.transcript_lines.proofs.TakenLines.{taken-back, nothing-there}
-use Rattle.exchange.specs.Turning.{by-answer, by-taken, by-put, written, bytes-turned, lines-turned, is-done, ToBytes, ToLines}
+use Rattle.exchange.specs.Turning.{by-answer, by-taken, written, fitting, bytes-turned, lines-turned, output-left, ToBytes, ToLines}
 use Rattle.exchange.specs.declared.Turned.{Turned}
 use Rattle.exchange.specs.declared.Turned.the-variants.{Done}
-use Rattle.exchange.proofs.Done.{bytes-are-done, lines-are-done, read-all}
+use Rattle.exchange.proofs.Done.{bytes-are-done, lines-are-done}
 
 -- the output's first bytes, where it is done
-first-bytes : (n : ℕ) (o : Turned) (text out : List ℕ) {out′ : List ℕ} → out′ ≡ cond (is-done o) (over text out) out → o ≡ Done n →
+first-bytes : (n : ℕ) (o : Turned) (text out : List ℕ) {out′ : List ℕ} → out′ ≡ output-left o text out → o ≡ Done n →
     length text ≡ n → take n out′ ≡ text
 first-bytes n o text out e d c =
-    ap (take n) (e ∙ ap (λ (x : Turned). cond (is-done x) (over text out) out) d) ∙ take-at text (drop (length text) out) n c
+    ap (take n) (e ∙ ap (λ (x : Turned). output-left x text out) d) ∙ take-at text (drop (length text) out) n c
 
 -- ---- lines, a transcript, lines
 module _ {t out out′ : List ℕ} {l l′ : Lists} {n : ℕ} (p : ToBytes t l out (Done n) l′ out′) where
@@ -56,13 +53,11 @@ module _ {t out out′ : List ℕ} {l l′ : Lists} {n : ℕ} (p : ToBytes t l o
       let text-is : text-of (entries-read (take n out′)) ≡ t = ap text-of read ∙ lines in
       let few : length es ≤ size k = omega (arith, ap length same, m .0 .count, m .1) in
       let accept = reads-exactly (take n out′) (size k) (accepted (length es)) .1 (plain.ReadAs.done sound few) in
-      let says = subst (λ (x : List Entry). put-answer x (length text) ≡ put.Written (length t)) (sym read)
-      (put-answers es (length text) (put.Written (length t)) .1
-      (subst AllSayable (sym same) (m .0 .says), ap length (sym lines), room)) in
       let answer : o ≡ Done (length t) =
       q .answer
-      ∙ ap (λ (a : Transcribed). by-answer a (by-put (put-answer (entries-read (take n out′)) (length text)))) accept
-      ∙ ap by-put says in
+      ∙ ap (λ (a : Transcribed). by-answer a (fitting (length (text-of (entries-read (take n out′)))) (length text))) accept
+      ∙ ap (λ (u : List ℕ). fitting (length u) (length text)) text-is
+      ∙ rw (le-ltb (length text) (length t) room) refl in
       (answer, first-bytes (length t) o (text-of (entries-read (take n out′))) text (q .output) answer (ap length text-is) ∙ text-is)
 
 -- ---- a transcript, lines, a transcript
@@ -74,13 +69,12 @@ module _ {s out out′ : List ℕ} {l l′ : Lists} {n : ℕ} (b : AreBytes s) (
   bytes-come-back {k} {bytes = bytes} {o = o} q places room =
       let done = lines-are-done (sym (p .answer)) in
       let es = entries-read s in
-      let read = read-all s (size l) (reads-exactly s (size l) (read-answer s (size l)) .0 refl) (done .read) in
-      let whole = sound-is s es b (read .0) in
-      let m = put-answers es (length out) (put.Written n) .0 (done .put) in
-      let text : take n out′ ≡ text-of es = first-bytes n (Done n) (text-of es) out (p .output) refl (sym (m .1)) in
-      let all : taking (take n out′) ≡ record { entries = es; left = [] } = ap taking text ∙ taken-back es (m .0) in
+      let whole = sound-is s es b (done .sound) in
+      let says = all-sayable es (whole .0) in
+      let text : take n out′ ≡ text-of es = first-bytes n (Done n) (text-of es) out (p .output) refl (sym (done .count)) in
+      let all : taking (take n out′) ≡ record { entries = es; left = [] } = ap taking text ∙ taken-back es says in
       let lines = take-answers (take n out′) (size k) (taken.Taken (length es)) .1
-      (record { entries = es; is = text ∙ sym (append-nil (text-of es)); says = m .0; count = refl }, omega (arith, read .1)) in
+      (record { entries = es; is = text ∙ sym (append-nil (text-of es)); says = says; count = refl }, omega (arith, done .places)) in
       let room-there : length (transcript-of es) ≤ length bytes = omega (arith, ap length (whole .1)) in
       let accept = writes-exactly es (length bytes) (accepted (length (transcript-of es))) .1 (plain.Written.done (whole .0) room-there) in
       let answer : o ≡ Done (length s) =

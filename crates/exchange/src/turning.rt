@@ -1,43 +1,25 @@
-// Lines to bytes and bytes to lines, by way of the four lists.
+// Lines to bytes and bytes to lines, by way of the four lists: the input is judged first, and then lists and output are filled.
 ghost use mathlib.Core.Path.{_≡_};
 ghost use Prim.Native.Nat.{_≤_};
 ghost use Rattle.transcript_bytes.specs.InPlainWords.{first-places};
 ghost use Rattle.transcript_bytes.specs.Lists.{lists, size};
 ghost use Rattle.transcript_bytes.specs.Writing.{WroteTranscript};
 ghost use Rattle.transcript_lines.specs.Putting.{PutLines};
-ghost use Rattle.exchange.specs.Turning.{by-answer, by-put, ToBytes, ToLines};
+ghost use Rattle.exchange.specs.Turning.{ToBytes, ToLines};
 use crate::Turned;
+use crate::judging::judge;
+use crate::judging::judge_accesses;
+use crate::judging::judge_room;
+use transcript::judge_bytes;
 use transcript::read_transcript;
 use transcript::write_transcript;
 use transcript_bytes::Transcribed;
 use transcript_lines::LinesPut;
 use transcript_lines::LinesTaken;
+use transcript_lines::judge_lines;
 use transcript_lines::put_lines;
 use transcript_lines::take_lines;
-
-// What a writer's or a reader's answer means; `done` where it refuses nothing.
-fn judge(o: Transcribed, done: Turned) -> Turned
-    ensures { λ t. ⌜ t ≡ by-answer o done ⌝ }
-{
-    if o.number == 0 {
-        return done;
-    }
-    if o.number == 24 {
-        return Turned::TooMany;
-    }
-    Turned::Refused(o.number, o.place)
-}
-
-// What putting the lines of a list means. Each entry of a transcript that is not refused has a line, so that only room can be missing.
-fn judge_lines(p: LinesPut) -> Turned
-    ensures { λ t. ⌜ t ≡ by-put p ⌝ }
-{
-    match p {
-        LinesPut::Written(n) => Turned::Done(n),
-        LinesPut::Unsayable(_) => Turned::TooMany,
-        LinesPut::NoBytes => Turned::TooMany,
-    }
-}
+use transcript_lists::shortest;
 
 // The transcript of the first n entries.
 fn write_first(
@@ -87,7 +69,8 @@ fn put_first(
     )
 }
 
-// The transcript of a text's lines. The lists serve on the way: they are lent, and left with what was taken of the text.
+// The transcript of a text's lines. The lists serve on the way: where the text is turned they hold its entries in their first places. A
+// call that is not done leaves them, and the bytes, as they stood.
 pub fn lines_to_bytes(
     text: &[u8],
     kinds: &mut [u32],
@@ -101,11 +84,16 @@ pub fn lines_to_bytes(
         (now (bytes .entry)) o
         (lists (now (kinds .exit)) (now (registers .exit)) (now (lanes .exit)) (now (words .exit))) (now (bytes .exit)) ⌝ }
 {
-    let taken = take_lines(text, kinds, registers, lanes, words);
+    let room = shortest(kinds.len(), registers.len(), lanes.len(), words.len());
+    let taken = judge_lines(text, room);
     match taken {
         LinesTaken::Taken(n) => {
-            let answer = write_first(kinds, registers, lanes, words, n, bytes);
-            judge(answer, Turned::Done(answer.count))
+            let turned = judge_accesses(text, bytes.len());
+            if let Turned::Done(_) = turned {
+                take_lines(text, kinds, registers, lanes, words);
+                write_first(kinds, registers, lanes, words, n, bytes);
+            }
+            turned
         }
         LinesTaken::BadLine(k) => Turned::BadLine(k),
         LinesTaken::NoPlaces => Turned::TooMany,
@@ -126,9 +114,12 @@ pub fn bytes_to_lines(
         (now (text .entry)) o
         (lists (now (kinds .exit)) (now (registers .exit)) (now (lanes .exit)) (now (words .exit))) (now (text .exit)) ⌝ }
 {
-    let answer = read_transcript(bytes, kinds, registers, lanes, words);
-    if answer.number != 0 {
-        return judge(answer, Turned::TooMany);
+    let room = shortest(kinds.len(), registers.len(), lanes.len(), words.len());
+    let answer = judge_bytes(bytes, room);
+    let turned = judge(answer, judge_room(bytes, text.len()));
+    if let Turned::Done(_) = turned {
+        read_transcript(bytes, kinds, registers, lanes, words);
+        put_first(kinds, registers, lanes, words, answer.count, text);
     }
-    judge_lines(put_first(kinds, registers, lanes, words, answer.count, text))
+    turned
 }

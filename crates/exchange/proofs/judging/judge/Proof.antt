@@ -1,8 +1,8 @@
--- `exchange::turning::judge` meets its contract: its tests are those of the definition.
+-- `exchange::judging::judge` meets its contract: its tests are those of the definition.
 use borrow.Author.Tests.{eq-eqb, ne-eqb}
 use Rattle.exchange.specs.Turning.{by-answer}
-use Rattle.exchange.proofs.turning.judge.Statement.{statement}
-use Rattle.exchange.proofs.turning.judge.Tie as tie
+use Rattle.exchange.proofs.judging.judge.Statement.{statement}
+use Rattle.exchange.proofs.judging.judge.Tie as tie
 
 returns : tie.Need-returns
 unfolding by-answer
