@@ -5,5 +5,6 @@ pub mod Listing
 -- the words of its laws
 pub mod Spelled
 pub mod Pieces
+pub mod InNumbers
 -- what only private functions state
 pub mod Parts
