@@ -48,8 +48,8 @@ data FrontRecord (s : List ℕ) : Type 0 where
   good : (r rest : List ℕ) (e : Entry) → s ≡ r ++ rest → 1 ≤ length r → GoodRecord r e → FrontRecord s
   bad : (n : ℕ) → BadRecord s n → FrontRecord s
 
--- a head that is not refused is that of an entry
-entry-good : (v w : ℕ) → 8 ≤ v → v ≤ 31 → w ≤ 65535 → (v % 2 ≡ 0 → w ≡ 0) → Good (entry-of v w)
+-- A head that is not refused is that of an entry,
+pub entry-good : (v w : ℕ) → 8 ≤ v → v ≤ 31 → w ≤ 65535 → (v % 2 ≡ 0 → w ≡ 0) → Good (entry-of v w)
 entry-good v w l h k z =
     record { kind = omega arith; register = omega arith; a-lane = omega arith; lanes = omega arith; word = k; read = z }
 
@@ -60,7 +60,8 @@ entry-head v w h =
     let c : v ≡ v % 2 + 2 * (v / 2) = omega arith in
     omega arith
 
-says-head : (h : List ℕ) (w : ℕ) → Spelled h → Unpadded h → value-of h ≤ 31 → Says h (head-of (entry-of (value-of h) w))
+-- and says it.
+pub says-head : (h : List ℕ) (w : ℕ) → Spelled h → Unpadded h → value-of h ≤ 31 → Says h (head-of (entry-of (value-of h) w))
 says-head h w p d l = record { spelled = p; unpadded = d; value = sym (entry-head (value-of h) w l) }
 
 module _ (s h rest : List ℕ) (e : s ≡ h ++ rest) (p : Spelled h) (d : Unpadded h) (l : 8 ≤ value-of h) (k : value-of h ≤ 31) where

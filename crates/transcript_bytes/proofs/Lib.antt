@@ -11,6 +11,7 @@ pub mod ThroughNumbers
 pub mod Judged
 pub mod ThroughRecords
 pub mod Divided
+pub mod Steps
 pub mod ReadExactly
 pub mod LongRecords
 -- ---- the writer

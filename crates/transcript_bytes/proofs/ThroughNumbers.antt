@@ -22,7 +22,8 @@ use Rattle.transcript_bytes.proofs.NumberRead.{grown-by}
 pub next-place : (i n : ℕ) → i + 1 + n ≡ i + suc n
 next-place i n = omega arith
 
-grown-snoc : (n : Number) (first : List ℕ) (b : ℕ) → grown (grown-by n first) b ≡ grown-by n (first ++ (b ∷ []))
+-- A byte more behind some is one byte more of all.
+pub grown-snoc : (n : Number) (first : List ℕ) (b : ℕ) → grown (grown-by n first) b ≡ grown-by n (first ++ (b ∷ []))
 unfolding grown-by
 grown-snoc n [] b = refl
 grown-snoc n (x ∷ first) b = grown-snoc (grown n x) first b

@@ -5,4 +5,5 @@ pub mod Writing
 pub mod Reading
 -- ---- the words of the laws
 pub mod InPlainWords
+pub mod InNumbers
 pub mod Table
