@@ -5,3 +5,5 @@ pub mod Putting
 pub mod Written
 -- ---- the reader
 pub mod ReadOutcomes
+-- ---- the contracts
+pub mod Promised
