@@ -6,6 +6,7 @@ pub mod TakeAnswers
 pub mod BadLines
 pub mod PutAnswers
 pub mod Refused
+pub mod Promised
 pub mod ThereAndBack
 pub mod Examples
 pub mod One

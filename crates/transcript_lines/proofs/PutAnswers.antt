@@ -10,11 +10,20 @@ use lib.ListN.{length}
 use borrow.Author.Tests.{lt-ltb, le-ltb}
 use Rattle.words.proofs.Choices.{either-way, less-or-not}
 use Rattle.transcript_bytes.specs.declared.Entry.{Entry}
-use Rattle.transcript_lines.specs.InPlainWords.{FirstUnsayable, PutMeans}
+use Rattle.transcript_bytes.specs.declared.Transcribed.{Transcribed}
+use Rattle.transcript_lines.specs.InNumbers.{put-numbers}
+use Rattle.transcript_lines.specs.InPlainWords.{FirstUnsayable, PutAs}
+use Rattle.transcript_lines.specs.InPlainWords as plain
 use Rattle.transcript_lines.specs.Lines.{unsayable, text-of, AllSayable}
 use Rattle.transcript_lines.specs.Putting.{first-unsayable, fitting, put-answer}
 use Rattle.transcript_lines.specs.declared.LinesPut.{LinesPut}
 use Rattle.transcript_lines.specs.declared.LinesPut.the-variants.{Written, Unsayable, NoBytes}
+
+-- what an answer says of a list and of the room for its lines, by its case
+abbrev pub PutMeans : List Entry → ℕ → LinesPut → Type 0
+PutMeans es room (Written n) = AllSayable es × (n ≡ length (text-of es)) × (n ≤ room)
+PutMeans es room (Unsayable k) = FirstUnsayable es k
+PutMeans es room NoBytes = AllSayable es × (room < length (text-of es))
 
 -- ---- what is so is answered
 
@@ -82,3 +91,20 @@ is-so es room = go (all-or-first es) (less-or-not room (length (text-of es)))
 -- An answer is given exactly if what it says is so.
 pub put-answers : (es : List Entry) (room : ℕ) (o : LinesPut) → put-answer es room ≡ o ↔ PutMeans es room o
 put-answers es room o = (λ e. subst (PutMeans es room) e (is-so es room), answered es room o)
+
+-- ---- in numbers
+put-as : (es : List Entry) (room : ℕ) (o : LinesPut) → PutMeans es room o → PutAs es room (put-numbers o)
+put-as es room (Written n) m =
+    subst (λ (k : ℕ). PutAs es room (put-numbers (Written k))) (sym (m .1)) (plain.PutAs.done (m .0) (omega (arith, m .1, m .2)))
+put-as es room (Unsayable k) m = plain.PutAs.no-line m
+put-as es room NoBytes m = plain.PutAs.no-bytes (m .0) (m .1)
+
+put-says : (es : List Entry) (room : ℕ) (a : Transcribed) → PutAs es room a → put-numbers (put-answer es room) ≡ a
+put-says es room _ (plain.PutAs.done s h) = ap put-numbers (put-answers es room (Written (length (text-of es))) .1 (s, refl, h))
+put-says es room _ (plain.PutAs.no-bytes s h) = ap put-numbers (put-answers es room NoBytes .1 (s, h))
+put-says es room _ (plain.PutAs.no-line {k} f) = ap put-numbers (put-answers es room (Unsayable k) .1 f)
+
+-- The numbers of the answer are these exactly if what they say is so.
+pub puts-exactly : (es : List Entry) (room : ℕ) (a : Transcribed) → put-numbers (put-answer es room) ≡ a ↔ PutAs es room a
+puts-exactly es room a =
+    (λ e. subst (PutAs es room) e (put-as es room (put-answer es room) (is-so es room)), put-says es room a)

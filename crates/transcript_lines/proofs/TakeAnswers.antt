@@ -10,12 +10,21 @@ use lib.Dec.{eqb}
 use lib.ListN.{length}
 use borrow.Author.Tests.{eqb-true, eqb-false, ne-eqb, lt-ltb, le-ltb}
 use Rattle.words.proofs.Choices.{either-way, less-or-not}
-use Rattle.transcript_lines.specs.InPlainWords.{NoGoodLine, LinesThen, TakeMeans}
+use Rattle.transcript_bytes.specs.declared.Transcribed.{Transcribed}
+use Rattle.transcript_lines.specs.InNumbers.{taken-numbers}
+use Rattle.transcript_lines.specs.InPlainWords.{NoGoodLine, LinesThen, BadLineAt, TookAs}
+use Rattle.transcript_lines.specs.InPlainWords as plain
 use Rattle.transcript_lines.specs.Lines.{text-of}
 use Rattle.transcript_lines.specs.Taking.{Taking, taking, judged, take-answer}
 use Rattle.transcript_lines.specs.declared.LinesTaken.{LinesTaken}
 use Rattle.transcript_lines.specs.declared.LinesTaken.the-variants.{Taken, BadLine, NoPlaces}
 use Rattle.transcript_lines.proofs.TakenLines.{nothing-there, text-taken, only-taken}
+
+-- what an answer says of a text and of the places for its entries, by its case
+abbrev pub TakeMeans : List ℕ → ℕ → LinesTaken → Type 0
+TakeMeans t room (Taken n) = LinesThen t n [] × (n ≤ room)
+TakeMeans t room (BadLine n) = BadLineAt t n
+TakeMeans t room NoPlaces = (n : ℕ) × LinesThen t n [] × (room < n)
 
 -- ---- what is so is answered
 
@@ -79,3 +88,19 @@ is-so t room =
 -- An answer is given exactly if what it says is so.
 pub take-answers : (t : List ℕ) (room : ℕ) (o : LinesTaken) → take-answer t room ≡ o ↔ TakeMeans t room o
 take-answers t room o = (λ e. subst (TakeMeans t room) e (is-so t room), answered t room o)
+
+-- ---- in numbers
+took-as : (t : List ℕ) (room : ℕ) (o : LinesTaken) → TakeMeans t room o → TookAs t room (taken-numbers o)
+took-as t room (Taken n) m = plain.TookAs.done (m .0) (m .1)
+took-as t room (BadLine n) m = plain.TookAs.bad-line m
+took-as t room NoPlaces m = plain.TookAs.no-places (m .1) (m .2)
+
+took-says : (t : List ℕ) (room : ℕ) (a : Transcribed) → TookAs t room a → taken-numbers (take-answer t room) ≡ a
+took-says t room _ (plain.TookAs.done {n} g h) = ap taken-numbers (take-answers t room (Taken n) .1 (g, h))
+took-says t room _ (plain.TookAs.no-places {n} g h) = ap taken-numbers (take-answers t room NoPlaces .1 (n, g, h))
+took-says t room _ (plain.TookAs.bad-line {n} b) = ap taken-numbers (take-answers t room (BadLine n) .1 b)
+
+-- The numbers of the answer are these exactly if what they say is so.
+pub takes-exactly : (t : List ℕ) (room : ℕ) (a : Transcribed) → taken-numbers (take-answer t room) ≡ a ↔ TookAs t room a
+takes-exactly t room a =
+    (λ e. subst (TookAs t room) e (took-as t room (take-answer t room) (is-so t room)), took-says t room a)

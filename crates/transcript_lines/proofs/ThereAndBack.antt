@@ -17,6 +17,7 @@ use Rattle.transcript_lines.specs.declared.LinesTaken.{LinesTaken}
 use Rattle.transcript_lines.specs.declared.LinesTaken.the-variants.{Taken}
 use Rattle.transcript_lines.specs.declared.LinesPut.{LinesPut}
 use Rattle.transcript_lines.specs.declared.LinesPut.the-variants.{Written}
+use Rattle.transcript_lines.proofs.Outcomes.{lists-filled, text-filled}
 use Rattle.transcript_lines.proofs.TakenLines.{taken-back, nothing-there}
 use Rattle.transcript_lines.proofs.TakeAnswers.{then-taken, take-answers}
 use Rattle.transcript_lines.proofs.PutAnswers.{put-answers}
@@ -25,12 +26,10 @@ use Rattle.transcript_lines.proofs.PutAnswers.{put-answers}
 
 -- The bytes that were written are the lines of the list.
 pub put-text : {l : Lists} {out out′ : List ℕ} {n : ℕ} → PutLines l out (Written n) out′ → take n out′ ≡ text-of (entries-in l)
-unfolding text-after
 put-text {l} {out} {out′} {n} p =
     let es = entries-in l in
     let m = put-answers es (length out) (Written n) .0 (sym (p .answer)) in
-    let done : out′ ≡ over (text-of es) out = p .text ∙ rw (sym (p .answer)) refl in
-    ap (take n) done ∙ take-at (text-of es) (drop (length (text-of es)) out) n (sym (m .1))
+    ap (take n) (text-filled p) ∙ take-at (text-of es) (drop (length (text-of es)) out) n (sym (m .1))
 
 -- Taken again, they are the list.
 pub take-after-put : {l k k′ : Lists} {out out′ : List ℕ} {n : ℕ} {o : LinesTaken} →
@@ -58,13 +57,11 @@ first-entries es l e =
 -- The first places of the lists that were filled hold what was taken of the text, and they are there.
 pub took-entries : {t : List ℕ} {l l′ : Lists} {n : ℕ} → TookLines t l (Taken n) l′ →
     (n ≤ size l) × (entries-in (first-places n l′) ≡ taking t .entries)
-unfolding lists-after
 took-entries {t} {l} {l′} {n} p =
     let m = take-answers t (size l) (Taken n) .0 (sym (p .answer)) in
     let all = then-taken (m .0) nothing-there in
     let count : length (taking t .entries) ≡ n = ap (λ (x : Taking). length (x .entries)) all ∙ m .0 .count in
-    let done : l′ ≡ with-entries (taking t .entries) l = p .lists ∙ rw (sym (p .answer)) refl in
-    (m .1, ap (λ (k : Lists). entries-in (first-places n k)) done ∙ first-entries (taking t .entries) l count)
+    (m .1, ap (λ (k : Lists). entries-in (first-places n k)) (lists-filled p) ∙ first-entries (taking t .entries) l count)
 
 -- Lines can say these entries, and are the text.
 pub took-text : {t : List ℕ} {l l′ : Lists} {n : ℕ} → TookLines t l (Taken n) l′ →

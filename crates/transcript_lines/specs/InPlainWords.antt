@@ -4,22 +4,23 @@
 --   TextOf t x                  the text is the lines of the entries taken, and what is left, which begins with no good line
 --   LinesThen t n left          a text of n good lines, and then `left`
 --   BadLineAt t n               a text whose first bad line stands behind n good ones
---   TakeMeans t room o          what the answer o says of a text and of the places for its entries
+--   TookAs t room a             what `take_lines` answers of a text, in numbers: each answer, when and only then
+--   TookAll t l a l′            what a taking that is done leaves
 --   FirstUnsayable es k         entry k is the first that no line can say
---   PutMeans es room o          what the answer o says of a list and of the room for its lines
+--   PutAs es room a             what `put_lines` answers of a list, likewise
+--   PutAll l out a out′         what a putting that is done leaves
 use Prim.Native.Nat.{ℕ, _≤_, _<_}
 use mathlib.Core.Path.{_≡_}
 use mathlib.Core.Bool.{true, false}
 use mathlib.Core.List.{List, [], _∷_, _++_}
 use mathlib.Core.Logic.{_≢_}
-use lib.ListN.{length}
+use lib.ListN.{length, take, drop}
+use Rattle.transcript_bytes.specs.InPlainWords.{answer, first-places, later-places}
+use Rattle.transcript_bytes.specs.Lists.{Lists, size, entries-in, columns}
 use Rattle.transcript_bytes.specs.declared.Entry.{Entry}
+use Rattle.transcript_bytes.specs.declared.Transcribed.{Transcribed}
 use Rattle.transcript_lines.specs.Lines.{unsayable, line, text-of, AllSayable}
 use Rattle.transcript_lines.specs.Taking.{Taking}
-use Rattle.transcript_lines.specs.declared.LinesPut.{LinesPut}
-use Rattle.transcript_lines.specs.declared.LinesPut.the-variants.{Written, Unsayable, NoBytes}
-use Rattle.transcript_lines.specs.declared.LinesTaken.{LinesTaken}
-use Rattle.transcript_lines.specs.declared.LinesTaken.the-variants.{Taken, BadLine, NoPlaces}
 
 -- kind 0 or 1, one digit for the register and one for the lanes, a word of 16 bits, and none for a read.
 pub record Says (e : Entry) : Type 0 where
@@ -51,10 +52,20 @@ pub record BadLineAt (t : List ℕ) (n : ℕ) : Type 0 where
   pub some : left ≢ []
   pub bad : NoGoodLine left
 
-abbrev pub TakeMeans : List ℕ → ℕ → LinesTaken → Type 0
-TakeMeans t room (Taken n) = LinesThen t n [] × (n ≤ room)
-TakeMeans t room (BadLine n) = BadLineAt t n
-TakeMeans t room NoPlaces = (n : ℕ) × LinesThen t n [] × (room < n)
+pub data TookAs (t : List ℕ) (room : ℕ) : Transcribed → Type 0 where
+  done : {n : ℕ} → LinesThen t n [] → n ≤ room → TookAs t room (answer 0 n 0)
+  no-places : {n : ℕ} → LinesThen t n [] → room < n → TookAs t room (answer 24 0 0)
+  bad-line : {n : ℕ} → BadLineAt t n → TookAs t room (answer 27 0 n)
+
+pub record TookAll (t : List ℕ) (l : Lists) (a : Transcribed) (l′ : Lists) : Type 0 where
+  pub taken : List Entry
+  pub is : t ≡ text-of taken
+  pub says : AllSayable taken
+  pub count : a .count ≡ length taken
+  pub place : a .place ≡ 0
+  pub fits : a .count ≤ size l
+  pub entries : first-places (a .count) l′ ≡ columns taken
+  pub rest : later-places (a .count) l′ ≡ later-places (a .count) l
 
 -- ---- a list
 
@@ -67,7 +78,15 @@ pub record FirstUnsayable (es : List Entry) (k : ℕ) : Type 0 where
   pub says : AllSayable before
   pub not : unsayable entry ≡ true
 
-abbrev pub PutMeans : List Entry → ℕ → LinesPut → Type 0
-PutMeans es room (Written n) = AllSayable es × (n ≡ length (text-of es)) × (n ≤ room)
-PutMeans es room (Unsayable k) = FirstUnsayable es k
-PutMeans es room NoBytes = AllSayable es × (room < length (text-of es))
+pub data PutAs (es : List Entry) (room : ℕ) : Transcribed → Type 0 where
+  done : AllSayable es → length (text-of es) ≤ room → PutAs es room (answer 0 (length (text-of es)) 0)
+  no-bytes : AllSayable es → room < length (text-of es) → PutAs es room (answer 24 0 0)
+  no-line : {k : ℕ} → FirstUnsayable es k → PutAs es room (answer 22 0 k)
+
+pub record PutAll (l : Lists) (out : List ℕ) (a : Transcribed) (out′ : List ℕ) : Type 0 where
+  pub says : AllSayable (entries-in l)
+  pub count : a .count ≡ length (text-of (entries-in l))
+  pub place : a .place ≡ 0
+  pub fits : a .count ≤ length out
+  pub text : take (a .count) out′ ≡ text-of (entries-in l)
+  pub rest : drop (a .count) out′ ≡ drop (a .count) out
