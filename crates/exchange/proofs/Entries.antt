@@ -1,20 +1,21 @@
 -- What becomes of entries that are written: where all are good, their records fit the output or do not; else the first bad one is refused.
-use Prim.Native.Nat.{ℕ, _+_}
+use Prim.Native.Nat.{ℕ, _+_, _≤_}
 use native.Mathlib.Omega.{arith}
 use mathlib.Core.Path.{_≡_, refl, ap, _∙_}
 use mathlib.Core.Bool.{Bool, true, false, cond}
 use mathlib.Core.List.{List, [], _∷_, _++_, append-nil}
-use mathlib.Core.Logic.{_≢_}
+use mathlib.Core.Logic.{_⊎_, inl, inr}
 use lib.Dec.{ltb}
 use lib.ListN.{length, length-append}
 use borrow.Author.Tests.{ne-eqb}
 use Rattle.transcript_bytes.specs.Format.{record-of, transcript-of}
-use Rattle.transcript_bytes.specs.InPlainWords.{Good, AllGood, BadEntry, no-register, no-lanes, long-word, no-kind, read-with-word}
+use Rattle.transcript_bytes.specs.InPlainWords.{Good, AllGood, BadEntry}
 use Rattle.transcript_bytes.specs.Writing.{refused, accepted, write-answer}
 use Rattle.transcript_bytes.specs.Writing as writer
 use Rattle.transcript_bytes.specs.declared.Entry.{Entry}
 use Rattle.transcript_bytes.specs.declared.Transcribed.{Transcribed}
-use Rattle.transcript_bytes.proofs.WrittenExactly.{bad-number, none-bad, finds-bad}
+use Rattle.transcript_bytes.proofs.BadNumbers.{entry-number}
+use Rattle.transcript_bytes.proofs.WrittenExactly.{none-bad, finds-bad}
 use Rattle.exchange.specs.Turning.{by-answer, written, fitting}
 use Rattle.exchange.specs.declared.Turned.the-variants.{Done, Refused, TooMany}
 
@@ -48,18 +49,20 @@ module _ (es : List Entry) (room : ℕ) where
       either true = refl
       either false = refl
 
--- no bad entry is refused with 24
-not-24 : (e : Entry) (n : ℕ) → BadEntry e n → n ≢ 24
-not-24 e _ (no-register h) z = omega arith
-not-24 e _ (no-lanes r o) z = omega arith
-not-24 e _ (long-word r a l h) z = omega arith
-not-24 e _ (no-kind r a l h) z = omega arith
-not-24 e _ (read-with-word r a l q d) z = omega arith
+-- A bad entry is refused with a number from 2 to 22.
+pub entry-range : {e : Entry} {n : ℕ} → BadEntry e n → (2 ≤ n) × (n ≤ 22)
+entry-range b = go (entry-number b)
+  where
+    go : {n : ℕ} → (n ≡ 2) ⊎ ((n ≡ 3) ⊎ (n ≡ 22)) → (2 ≤ n) × (n ≤ 22)
+    go (inl e) = (omega (arith, e), omega (arith, e))
+    go (inr (inl e)) = (omega (arith, e), omega (arith, e))
+    go (inr (inr e)) = (omega (arith, e), omega (arith, e))
 
 -- One is bad.
 pub bad-written : (xs ys : List Entry) (e : Entry) (n room : ℕ) → AllGood xs → BadEntry e n →
     written (xs ++ (e ∷ ys)) room ≡ Refused n (length xs)
 unfolding by-answer write-answer
 bad-written xs ys e n room g b =
+    let r = entry-range b in
     ap (λ (a : Transcribed). by-answer a (Done (a .count))) (finds-bad 0 xs ys e n _ g b)
-    ∙ rw (ne-eqb n 0 (bad-number e n b), ne-eqb n 24 (not-24 e n b)) (ap (Refused n) (omega arith))
+    ∙ rw (ne-eqb n 0 (λ z. omega (arith, z, r .0)), ne-eqb n 24 (λ z. omega (arith, z, r .1))) (ap (Refused n) (omega arith))

@@ -5,6 +5,9 @@ pub mod RecordByRecord
 pub mod Done
 pub mod Outcomes
 -- what is promised
+pub mod Exactly
+pub mod Left
+pub mod Promised
 pub mod ThereAndBack
 pub mod Examples
 pub mod One

@@ -83,7 +83,8 @@ module _ {s out out′ : List ℕ} {l l′ : Lists} {n : ℕ} (b : AreBytes s) (
       ∙ ap (λ (x : LinesTaken). by-taken x (written es (length bytes))) lines
       ∙ ap (λ (a : Transcribed). by-answer a (Done (a .count))) accept
       ∙ ap (λ (x : List ℕ). Done (length x)) (sym (whole .1)) in
-      let bytes-are : transcript-of (taking (take n out′) .entries) ≡ s = ap (λ (x : Taking). transcript-of (x .entries)) all ∙ sym (whole .1) in (
+      let bytes-are : transcript-of (taking (take n out′) .entries) ≡ s =
+      ap (λ (x : Taking). transcript-of (x .entries)) all ∙ sym (whole .1) in (
         answer,
         first-bytes (length s) o (transcript-of (taking (take n out′) .entries)) bytes (q .output) answer (ap length bytes-are) ∙ bytes-are,
       )
