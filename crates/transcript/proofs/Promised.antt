@@ -1,29 +1,25 @@
--- What the contracts of the calls say, taken from the contracts themselves: `Post` is what the check makes of a function's `ensures`. The
--- arguments are named by their places; what `WroteTranscript`, `ReadTranscript` and `read-answer` promise is `Promised` of crate
--- `transcript_bytes`. And what is said of one entry, exactly if.
+-- What is said of one entry, exactly if; and what the contracts of the calls say, taken from the contracts themselves (`Contract`). What
+-- `WroteTranscript`, `ReadTranscript` and `read-answer` promise is `Promised` of crate `transcript_bytes`.
 use mathlib.Core.Path.{_≡_, refl, sym, _∙_, subst}
 use mathlib.Core.Logic.{⊎-elim, _↔_}
-use borrow.Fn.Kinds.{Dens, endedOf}
-use contract.Lifetimes.{Lfts}
-use denote.Triple.Clauses.{AtExit}
+use Rattle.words.proofs.Contracts.{Contract}
 use Rattle.transcript_bytes.specs.Lists.{lists}
 use Rattle.transcript_bytes.specs.Reading.{read-answer, ReadTranscript}
 use Rattle.transcript_bytes.specs.Writing.{WroteTranscript}
 use Rattle.transcript_bytes.specs.declared.Entry.{Entry}
-use Rattle.transcript_bytes.specs.declared.Transcribed.{Transcribed}
 use Rattle.transcript_bytes.proofs.WrittenExactly.{good-passes, bad-refused, bad-number, good-or-bad}
 use Rattle.transcript.specs.Entries.{judged-entry, EntryAs}
 use Rattle.transcript.specs.Entries as plain
 use Rattle.transcript.specs.declared.JudgedEntry.{JudgedEntry}
 use Rattle.transcript.proofs.Judging.{said-refused, said-good}
-use Rattle.transcript.proofs.reading.judge_bytes.Kinds as judge-kinds
-use Rattle.transcript.proofs.reading.judge_bytes.Reads as judge
-use Rattle.transcript.proofs.reading.read_transcript.Kinds as read-kinds
-use Rattle.transcript.proofs.reading.read_transcript.Reads as read
-use Rattle.transcript.proofs.records.judge_entry.Kinds as entry-kinds
-use Rattle.transcript.proofs.records.judge_entry.Reads as entry
-use Rattle.transcript.proofs.writing.write_transcript.Kinds as write-kinds
-use Rattle.transcript.proofs.writing.write_transcript.Reads as write
+use Rattle.transcript.proofs.reading.judge_bytes.Kinds as judge-bytes-kinds
+use Rattle.transcript.proofs.reading.judge_bytes.Reads as judge-bytes
+use Rattle.transcript.proofs.reading.read_transcript.Kinds as read-transcript-kinds
+use Rattle.transcript.proofs.reading.read_transcript.Reads as read-transcript
+use Rattle.transcript.proofs.records.judge_entry.Kinds as judge-entry-kinds
+use Rattle.transcript.proofs.records.judge_entry.Reads as judge-entry
+use Rattle.transcript.proofs.writing.write_transcript.Kinds as write-transcript-kinds
+use Rattle.transcript.proofs.writing.write_transcript.Reads as write-transcript
 
 -- ---- one entry
 module _ {e : Entry} {o : JudgedEntry} (p : o ≡ judged-entry e) where
@@ -41,27 +37,46 @@ module _ {e : Entry} {o : JudgedEntry} (p : o ≡ judged-entry e) where
     λ w. p ∙ entry-said a w,
   )
 
--- ---- the contracts
--- The writer: the kinds, the registers, the lanes, the words, the bytes.
-pub write-says : (κs : Lfts 5) (a : Dens κs write-kinds.ps) (o : Transcribed) (s : AtExit (endedOf 5 write-kinds.ps write-kinds.r) κs) →
-    write.Post κs a o s →
-    WroteTranscript (lists (a .0 .now) (a .1 .0 .now) (a .1 .1 .0 .now) (a .1 .1 .1 .0 .now)) (a .1 .1 .1 .1 .0 .now) o
-    (s .1 .1 .1 .1 .0 .now)
-write-says κs a o s p = p
+-- ---- the contracts themselves: each is a statement on the call's own arguments
+-- `judge_bytes`: bytes, room.
+pub judge-bytes-contract : Contract judge-bytes-kinds.ps judge-bytes-kinds.r judge-bytes.Pre judge-bytes.Post
+    (λ κs args o left.
+    let bytes = args .0 in
+    let room = args .1 .0 in
+    o ≡ read-answer (bytes .now) room)
+judge-bytes-contract = record { takes-any = λ κs args. tt; says = λ κs args o left p. p }
 
--- The reader: the bytes, the kinds, the registers, the lanes, the words.
-pub read-says : (κs : Lfts 5) (a : Dens κs read-kinds.ps) (o : Transcribed) (s : AtExit (endedOf 5 read-kinds.ps read-kinds.r) κs) →
-    read.Post κs a o s →
-    ReadTranscript (a .0 .now) (lists (a .1 .0 .now) (a .1 .1 .0 .now) (a .1 .1 .1 .0 .now) (a .1 .1 .1 .1 .0 .now)) o
-    (lists (s .1 .0 .now) (s .1 .1 .0 .now) (s .1 .1 .1 .0 .now) (s .1 .1 .1 .1 .0 .now))
-read-says κs a o s p = p
+-- `read_transcript`: bytes, kinds, registers, lanes, words.
+pub read-transcript-contract : Contract read-transcript-kinds.ps read-transcript-kinds.r read-transcript.Pre read-transcript.Post
+    (λ κs args o left.
+    let bytes = args .0 in
+    let kinds = args .1 .0 in
+    let kinds′ = left .1 .0 in
+    let registers = args .1 .1 .0 in
+    let registers′ = left .1 .1 .0 in
+    let lanes = args .1 .1 .1 .0 in
+    let lanes′ = left .1 .1 .1 .0 in
+    let words = args .1 .1 .1 .1 .0 in
+    let words′ = left .1 .1 .1 .1 .0 in
+    ReadTranscript (bytes .now) (lists (kinds .now) (registers .now) (lanes .now) (words .now)) o
+    (lists (kinds′ .now) (registers′ .now) (lanes′ .now) (words′ .now)))
+read-transcript-contract = record { takes-any = λ κs args. tt; says = λ κs args o left p. p }
 
--- What the reader will answer: the bytes, the room.
-pub judge-bytes-says : (κs : Lfts 1) (a : Dens κs judge-kinds.ps) (o : Transcribed)
-    (s : AtExit (endedOf 1 judge-kinds.ps judge-kinds.r) κs) → judge.Post κs a o s → o ≡ read-answer (a .0 .now) (a .1 .0)
-judge-bytes-says κs a o s p = p
+-- `judge_entry`: e.
+pub judge-entry-contract : Contract judge-entry-kinds.ps judge-entry-kinds.r judge-entry.Pre judge-entry.Post
+    (λ κs args r left.
+    let e = args .0 in
+    r ≡ judged-entry e)
+judge-entry-contract = record { takes-any = λ κs args. tt; says = λ κs args r left p. p }
 
--- What the writer says of one entry.
-pub judge-entry-says : (κs : Lfts 0) (a : Dens κs entry-kinds.ps) (o : JudgedEntry)
-    (s : AtExit (endedOf 0 entry-kinds.ps entry-kinds.r) κs) → entry.Post κs a o s → o ≡ judged-entry (a .0)
-judge-entry-says κs a o s p = p
+-- `write_transcript`: kinds, registers, lanes, words, bytes.
+pub write-transcript-contract : Contract write-transcript-kinds.ps write-transcript-kinds.r write-transcript.Pre write-transcript.Post
+    (λ κs args o left.
+    let kinds = args .0 in
+    let registers = args .1 .0 in
+    let lanes = args .1 .1 .0 in
+    let words = args .1 .1 .1 .0 in
+    let bytes = args .1 .1 .1 .1 .0 in
+    let bytes′ = left .1 .1 .1 .1 .0 in
+    WroteTranscript (lists (kinds .now) (registers .now) (lanes .now) (words .now)) (bytes .now) o (bytes′ .now))
+write-transcript-contract = record { takes-any = λ κs args. tt; says = λ κs args o left p. p }

@@ -7,9 +7,7 @@ use mathlib.Core.List.{List, append-nil}
 use mathlib.Core.Logic.{_⊎_, inl, inr, _↔_, _≢_}
 use lib.ListN.{length, take, drop}
 use lib.Seq.{take-append-seam, drop-append-seam}
-use borrow.Fn.Kinds.{Dens, endedOf}
-use contract.Lifetimes.{Lfts}
-use denote.Triple.Clauses.{AtExit}
+use Rattle.words.proofs.Contracts.{Contract}
 use Rattle.transcript_bytes.specs.InPlainWords.{first-places, later-places}
 use Rattle.transcript_bytes.specs.Lists.{Lists, lists, size, entries-in, with-entries}
 use Rattle.transcript_bytes.specs.declared.Entry.{Entry}
@@ -30,16 +28,16 @@ use Rattle.transcript_lines.proofs.PutAnswers.{put-answers, puts-exactl
 use Rattle.transcript_lines.proofs.Refused.{lists-stay, text-stays}
 use Rattle.transcript_lines.proofs.TakeAnswers.{then-taken, take-answers, takes-exactly}
 use Rattle.transcript_lines.proofs.TakenLines.{nothing-there}
-use Rattle.transcript_lines.proofs.lines.entry_of.Kinds as entry-kinds
-use Rattle.transcript_lines.proofs.lines.entry_of.Reads as entry
-use Rattle.transcript_lines.proofs.lines.line_size.Kinds as size-kinds
-use Rattle.transcript_lines.proofs.lines.line_size.Reads as sized
-use Rattle.transcript_lines.proofs.putting.put_lines.Kinds as put-kinds
-use Rattle.transcript_lines.proofs.putting.put_lines.Reads as put
-use Rattle.transcript_lines.proofs.taking.judge_lines.Kinds as judge-kinds
-use Rattle.transcript_lines.proofs.taking.judge_lines.Reads as judged
-use Rattle.transcript_lines.proofs.taking.take_lines.Kinds as take-kinds
-use Rattle.transcript_lines.proofs.taking.take_lines.Reads as took
+use Rattle.transcript_lines.proofs.lines.entry_of.Kinds as entry-of-kinds
+use Rattle.transcript_lines.proofs.lines.entry_of.Reads as entry-of
+use Rattle.transcript_lines.proofs.lines.line_size.Kinds as line-size-kinds
+use Rattle.transcript_lines.proofs.lines.line_size.Reads as line-size
+use Rattle.transcript_lines.proofs.putting.put_lines.Kinds as put-lines-kinds
+use Rattle.transcript_lines.proofs.putting.put_lines.Reads as put-lines
+use Rattle.transcript_lines.proofs.taking.judge_lines.Kinds as judge-lines-kinds
+use Rattle.transcript_lines.proofs.taking.judge_lines.Reads as judge-lines
+use Rattle.transcript_lines.proofs.taking.take_lines.Kinds as take-lines-kinds
+use Rattle.transcript_lines.proofs.taking.take_lines.Reads as take-lines
 
 -- ---- taking lines
 module _ {t : List ℕ} {l l′ : Lists} {o : LinesTaken} (p : TookLines t l o l′) where
@@ -173,30 +171,53 @@ module _ {l : Lists} {out out′ : List ℕ} {o : LinesPut} (p : PutLines l out 
       go (Unsayable k) q = ap length (text-stays q refl)
       go NoBytes q = ap length (text-stays q refl)
 
--- ---- the contracts themselves: `Post` is what the check makes of a function's `ensures`, and the arguments are named by their places
--- Taking lines: the text, the kinds, the registers, the lanes, the words.
-pub take-says : (κs : Lfts 5) (a : Dens κs take-kinds.ps) (o : LinesTaken) (s : AtExit (endedOf 5 take-kinds.ps take-kinds.r) κs) →
-    took.Post κs a o s →
-    TookLines (a .0 .now) (lists (a .1 .0 .now) (a .1 .1 .0 .now) (a .1 .1 .1 .0 .now) (a .1 .1 .1 .1 .0 .now)) o
-    (lists (s .1 .0 .now) (s .1 .1 .0 .now) (s .1 .1 .1 .0 .now) (s .1 .1 .1 .1 .0 .now))
-take-says κs a o s p = p
+-- ---- the contracts themselves: each is a statement on the call's own arguments
+-- `entry_of`: a.
+pub entry-of-contract : Contract entry-of-kinds.ps entry-of-kinds.r entry-of.Pre entry-of.Post
+    (λ κs args e left.
+    let a = args .0 in
+    e ≡ entry-of a)
+entry-of-contract = record { takes-any = λ κs args. tt; says = λ κs args e left p. p }
 
--- Putting lines: the kinds, the registers, the lanes, the words, the text.
-pub put-says : (κs : Lfts 5) (a : Dens κs put-kinds.ps) (o : LinesPut) (s : AtExit (endedOf 5 put-kinds.ps put-kinds.r) κs) →
-    put.Post κs a o s →
-    PutLines (lists (a .0 .now) (a .1 .0 .now) (a .1 .1 .0 .now) (a .1 .1 .1 .0 .now)) (a .1 .1 .1 .1 .0 .now) o (s .1 .1 .1 .1 .0 .now)
-put-says κs a o s p = p
+-- `line_size`: e.
+pub line-size-contract : Contract line-size-kinds.ps line-size-kinds.r line-size.Pre line-size.Post
+    (λ κs args r left.
+    let e = args .0 in
+    r ≡ length (line e))
+line-size-contract = record { takes-any = λ κs args. tt; says = λ κs args r left p. p }
 
--- What taking lines will answer: the text, the room.
-pub judge-says : (κs : Lfts 1) (a : Dens κs judge-kinds.ps) (o : LinesTaken) (s : AtExit (endedOf 1 judge-kinds.ps judge-kinds.r) κs) →
-    judged.Post κs a o s → o ≡ take-answer (a .0 .now) (a .1 .0)
-judge-says κs a o s p = p
+-- `put_lines`: kinds, registers, lanes, words, text.
+pub put-lines-contract : Contract put-lines-kinds.ps put-lines-kinds.r put-lines.Pre put-lines.Post
+    (λ κs args o left.
+    let kinds = args .0 in
+    let registers = args .1 .0 in
+    let lanes = args .1 .1 .0 in
+    let words = args .1 .1 .1 .0 in
+    let text = args .1 .1 .1 .1 .0 in
+    let text′ = left .1 .1 .1 .1 .0 in
+    PutLines (lists (kinds .now) (registers .now) (lanes .now) (words .now)) (text .now) o (text′ .now))
+put-lines-contract = record { takes-any = λ κs args. tt; says = λ κs args o left p. p }
 
--- An access's entry, and the size of an entry's line.
-pub entry-says : (κs : Lfts 0) (a : Dens κs entry-kinds.ps) (e : Entry) (s : AtExit (endedOf 0 entry-kinds.ps entry-kinds.r) κs) →
-    entry.Post κs a e s → e ≡ entry-of (a .0)
-entry-says κs a e s p = p
+-- `judge_lines`: text, room.
+pub judge-lines-contract : Contract judge-lines-kinds.ps judge-lines-kinds.r judge-lines.Pre judge-lines.Post
+    (λ κs args o left.
+    let text = args .0 in
+    let room = args .1 .0 in
+    o ≡ take-answer (text .now) room)
+judge-lines-contract = record { takes-any = λ κs args. tt; says = λ κs args o left p. p }
 
-pub size-says : (κs : Lfts 0) (a : Dens κs size-kinds.ps) (n : ℕ) (s : AtExit (endedOf 0 size-kinds.ps size-kinds.r) κs) →
-    sized.Post κs a n s → n ≡ length (line (a .0))
-size-says κs a n s p = p
+-- `take_lines`: text, kinds, registers, lanes, words.
+pub take-lines-contract : Contract take-lines-kinds.ps take-lines-kinds.r take-lines.Pre take-lines.Post
+    (λ κs args o left.
+    let text = args .0 in
+    let kinds = args .1 .0 in
+    let kinds′ = left .1 .0 in
+    let registers = args .1 .1 .0 in
+    let registers′ = left .1 .1 .0 in
+    let lanes = args .1 .1 .1 .0 in
+    let lanes′ = left .1 .1 .1 .0 in
+    let words = args .1 .1 .1 .1 .0 in
+    let words′ = left .1 .1 .1 .1 .0 in
+    TookLines (text .now) (lists (kinds .now) (registers .now) (lanes .now) (words .now)) o
+    (lists (kinds′ .now) (registers′ .now) (lanes′ .now) (words′ .now)))
+take-lines-contract = record { takes-any = λ κs args. tt; says = λ κs args o left p. p }

@@ -1,41 +1,59 @@
--- What the contracts of the calls say, taken from the contracts themselves: `Post` is what the check makes of a function's `ensures`. The
--- arguments are named by their places.
-use Prim.Native.Nat.{ℕ, min}
-use mathlib.Core.Bool.{Bool}
+-- What the contracts of the calls say, taken from the contracts themselves (`Contract`): each is a statement on the call's own arguments.
+use Prim.Native.Nat.{min}
 use mathlib.Core.Path.{_≡_}
-use borrow.Fn.Kinds.{Dens, endedOf}
-use contract.Lifetimes.{Lfts}
-use denote.Triple.Clauses.{AtExit}
-use Rattle.transcript_bytes.specs.Lists.{lists, entry-at, with-entry}
+use Rattle.transcript_bytes.specs.Lists.{entry-at, lists, with-entry}
 use Rattle.transcript_bytes.specs.Writing.{no-record}
-use Rattle.transcript_bytes.specs.declared.Entry.{Entry}
-use Rattle.transcript_lists.proofs.entry_at.Kinds as at-kinds
-use Rattle.transcript_lists.proofs.entry_at.Reads as at
-use Rattle.transcript_lists.proofs.has_no_record.Kinds as record-kinds
-use Rattle.transcript_lists.proofs.has_no_record.Reads as no
-use Rattle.transcript_lists.proofs.put_entry.Kinds as put-kinds
-use Rattle.transcript_lists.proofs.put_entry.Reads as put
+use Rattle.words.proofs.Contracts.{Contract}
 use Rattle.transcript_lists.proofs.shortest.Kinds as shortest-kinds
 use Rattle.transcript_lists.proofs.shortest.Reads as shortest
+use Rattle.transcript_lists.proofs.entry_at.Kinds as entry-at-kinds
+use Rattle.transcript_lists.proofs.entry_at.Reads as entry-at
+use Rattle.transcript_lists.proofs.put_entry.Kinds as put-entry-kinds
+use Rattle.transcript_lists.proofs.put_entry.Reads as put-entry
+use Rattle.transcript_lists.proofs.has_no_record.Kinds as has-no-record-kinds
+use Rattle.transcript_lists.proofs.has_no_record.Reads as has-no-record
 
--- The shortest of four lengths.
-pub shortest-says : (κs : Lfts 0) (a : Dens κs shortest-kinds.ps) (n : ℕ) (s : AtExit (endedOf 0 shortest-kinds.ps shortest-kinds.r) κs) →
-    shortest.Post κs a n s → n ≡ min (min (a .0) (a .1 .0)) (min (a .1 .1 .0) (a .1 .1 .1 .0))
-shortest-says κs a n s p = p
+-- `shortest`: kinds, registers, lanes, words.
+pub shortest-contract : Contract shortest-kinds.ps shortest-kinds.r shortest.Pre shortest.Post
+    (λ κs args n left.
+    let kinds = args .0 in
+    let registers = args .1 .0 in
+    let lanes = args .1 .1 .0 in
+    let words = args .1 .1 .1 .0 in
+    n ≡ min (min kinds registers) (min lanes words))
+shortest-contract = record { takes-any = λ κs args. tt; says = λ κs args n left p. p }
 
--- An entry taken out: the kinds, the registers, the lanes, the words, the place.
-pub entry-says : (κs : Lfts 4) (a : Dens κs at-kinds.ps) (e : Entry) (s : AtExit (endedOf 4 at-kinds.ps at-kinds.r) κs) →
-    at.Post κs a e s → e ≡ entry-at (lists (a .0 .now) (a .1 .0 .now) (a .1 .1 .0 .now) (a .1 .1 .1 .0 .now)) (a .1 .1 .1 .1 .0)
-entry-says κs a e s p = p
+-- `entry_at`: kinds, registers, lanes, words, i.
+pub entry-at-contract : Contract entry-at-kinds.ps entry-at-kinds.r entry-at.Pre entry-at.Post
+    (λ κs args e left.
+    let kinds = args .0 in
+    let registers = args .1 .0 in
+    let lanes = args .1 .1 .0 in
+    let words = args .1 .1 .1 .0 in
+    let i = args .1 .1 .1 .1 .0 in
+    e ≡ entry-at (lists (kinds .now) (registers .now) (lanes .now) (words .now)) i)
+entry-at-contract = record { takes-any = λ κs args. tt; says = λ κs args e left p. p }
 
--- An entry put in: the kinds, the registers, the lanes, the words, the place, the entry.
-pub put-says : (κs : Lfts 4) (a : Dens κs put-kinds.ps) (x : Unit {0}) (s : AtExit (endedOf 4 put-kinds.ps put-kinds.r) κs) →
-    put.Post κs a x s →
-    lists (s .0 .now) (s .1 .0 .now) (s .1 .1 .0 .now) (s .1 .1 .1 .0 .now) ≡
-    with-entry (lists (a .0 .now) (a .1 .0 .now) (a .1 .1 .0 .now) (a .1 .1 .1 .0 .now)) (a .1 .1 .1 .1 .0) (a .1 .1 .1 .1 .1 .0)
-put-says κs a x s p = p
+-- `put_entry`: kinds, registers, lanes, words, i, e.
+pub put-entry-contract : Contract put-entry-kinds.ps put-entry-kinds.r put-entry.Pre put-entry.Post
+    (λ κs args unit left.
+    let kinds = args .0 in
+    let kinds′ = left .0 in
+    let registers = args .1 .0 in
+    let registers′ = left .1 .0 in
+    let lanes = args .1 .1 .0 in
+    let lanes′ = left .1 .1 .0 in
+    let words = args .1 .1 .1 .0 in
+    let words′ = left .1 .1 .1 .0 in
+    let i = args .1 .1 .1 .1 .0 in
+    let e = args .1 .1 .1 .1 .1 .0 in
+    lists (kinds′ .now) (registers′ .now) (lanes′ .now) (words′ .now) ≡
+    with-entry (lists (kinds .now) (registers .now) (lanes .now) (words .now)) i e)
+put-entry-contract = record { takes-any = λ κs args. tt; says = λ κs args unit left p. p }
 
--- An entry that has no record.
-pub no-record-says : (κs : Lfts 0) (a : Dens κs record-kinds.ps) (b : Bool) (s : AtExit (endedOf 0 record-kinds.ps record-kinds.r) κs) →
-    no.Post κs a b s → b ≡ no-record (a .0)
-no-record-says κs a b s p = p
+-- `has_no_record`: e.
+pub has-no-record-contract : Contract has-no-record-kinds.ps has-no-record-kinds.r has-no-record.Pre has-no-record.Post
+    (λ κs args r left.
+    let e = args .0 in
+    r ≡ no-record e)
+has-no-record-contract = record { takes-any = λ κs args. tt; says = λ κs args r left p. p }
