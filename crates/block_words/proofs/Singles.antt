@@ -4,7 +4,9 @@
 use Prim.Native.Nat.{ℕ, zero, suc, _+_, _<_, _≤_}
 use native.Mathlib.Omega.{arith}
 use mathlib.Core.Path.{_≡_, refl, sym, ap, _∙_}
+use mathlib.Core.Bool.{true, false≢true}
 use mathlib.Core.List.{List, [], _∷_}
+use mathlib.Core.Logic.{_↔_}
 use lib.ListN.{length, getD, drop}
 use lib.ListN.{length-drop, length-take}
 use lib.Seq.{getD-drop, getD-take}
@@ -12,6 +14,8 @@ use Rattle.registers.specs.declared.Registers.{Registers}
 use Rattle.port.specs.Runs.{Machine, machine, words-in, answer-of, after, answers, ends}
 use Rattle.port.specs.Table.{reading}
 use Rattle.port.specs.declared.Access.the-variants.{Read, Write}
+use Rattle.port.specs.declared.Cycle.{Cycle}
+use Rattle.port.specs.declared.Cycle.the-variants.{None, Inside, Empty}
 use Rattle.block_words.specs.Block.{writing, stretch, counted, tally, hollows-in, is-empty, empties-in}
 use Rattle.block_words.specs.Block.{block-read, list-after, block-write, memory-left}
 use Rattle.block_words.specs.InPlainWords.{kth-read, kth-write, number-below}
@@ -20,6 +24,13 @@ use Rattle.block_words.specs.declared.BlockWrite.{BlockWrite}
 use Rattle.block_words.proofs.Numbers.{when, read-number, read-taken, list-taken, write-number, write-taken, memory-taken}
 use Rattle.block_words.proofs.Lent.{laid-length, laid-inside, laid-stretch, laid-before, laid-behind}
 use Rattle.port.proofs.Joined.{reads-keep-memory, filled-length}
+
+-- ---- what is counted
+-- A store is counted exactly if its cycle is marked empty.
+pub counts-the-empty : (c : Cycle) → is-empty c ≡ true ↔ c ≡ Empty
+counts-the-empty None = (λ e. absurd (false≢true e), λ e. absurd (false≢true (cc)))
+counts-the-empty Inside = (λ e. absurd (false≢true e), λ e. absurd (false≢true (cc)))
+counts-the-empty Empty = (λ _. refl, λ _. refl)
 
 -- ---- a run taken apart
 -- The k-th word handed out is the k-th read's.
