@@ -2,7 +2,7 @@
 -- exactly if all its sixteen bits are the field's.
 use Prim.Native.Nat.{ℕ, _+_, _-_, _*_, _/_, _%_, _≤_, _<_, max}
 use native.Mathlib.Omega.{arith}
-use mathlib.Core.Path.{_≡_, ap}
+use mathlib.Core.Path.{_≡_, refl, ap}
 use mathlib.Core.Bool.{true}
 use mathlib.Core.Logic.{_↔_}
 use lib.Dec.{leb}
@@ -12,7 +12,8 @@ use Rattle.words.specs.Addresses.{address, word-at}
 use Rattle.words.specs.declared.BitAddress.{BitAddress}
 use Rattle.words.specs.declared.WordNumber.{WordNumber}
 use Rattle.field_bits.specs.Count.{last-word, touched, wholly-covered}
-use Rattle.field_bits.specs.InPlainWords.{Covers, Holds, Counted}
+use Rattle.field_bits.specs.Field.{ahead}
+use Rattle.field_bits.specs.InPlainWords.{Covers, Holds, Counted, Missing}
 
 -- ---- how many
 
@@ -79,3 +80,23 @@ module _ (a : BitAddress) (n : ℕ) (w : WordNumber) where
   -- A word is wholly covered exactly if every bit of it is one of the field's.
   pub wholly-when : wholly-covered a n w ≡ true ↔ ((b : BitAddress) → word-at b ≡ w → Covers a n b)
   wholly-when = (covers-all, all-covered)
+
+-- ---- a touched word that isn't in memory
+
+module _ (words : ℕ) (a : BitAddress) (n : ℕ) where
+  -- If any touched word isn't in a memory of so many words, the last isn't.
+  pub missing-last : Missing words a n → words ≤ last-word a n .0
+  missing-last m =
+      let b : ℕ = m .holds .bit .0 in
+      let q : b < a .0 + n = m .holds .covered .to in
+      let e : b / 16 ≡ m .word .0 = ap (λ (x : WordNumber). x .0) (m .holds .in-word) in
+      omega (arith, m .beyond)
+
+  -- If the last one isn't there, one is missing.
+  pub last-missing : 1 ≤ n → words ≤ last-word a n .0 → Missing words a n
+  last-missing s l =
+      record {
+        word = last-word a n;
+        holds = record { bit = ahead a (n - 1); covered = record { from = omega arith; to = omega arith }; in-word = refl };
+        beyond = l;
+      }

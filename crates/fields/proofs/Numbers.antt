@@ -1,6 +1,6 @@
 -- Demand 1 for fields: the number is one of 0, 1, 4, 5 and 6, each when, and only then; a refusal answers zeros and leaves memory.
 -- By cases on the tests of `refusal`, in its order.
-use Prim.Native.Nat.{ℕ, _+_, _-_, _/_, _^_, _≤_, _<_}
+use Prim.Native.Nat.{ℕ, _^_, _≤_, _<_}
 use native.Mathlib.Omega.{arith}
 use mathlib.Core.Path.{_≡_, refl, sym, ap, _∙_}
 use mathlib.Core.List.{List}
@@ -10,10 +10,9 @@ use lib.ListN.{length}
 use Rattle.words.proofs.Choices.{less-or-not, same-or-not}
 use Rattle.words.specs.Addresses.{word-at}
 use Rattle.words.specs.declared.BitAddress.{BitAddress}
-use Rattle.words.specs.declared.WordNumber.{WordNumber}
-use Rattle.field_bits.specs.Field.{ahead}
 use Rattle.field_bits.specs.Count.{last-word, touched}
 use Rattle.field_bits.specs.InPlainWords.{Missing}
+use Rattle.field_bits.proofs.Counted.{missing-last, last-missing}
 use Rattle.fields.specs.Answers.{no-size, refusal, taken, taken-signed, put-answer, put-memory}
 use Rattle.fields.specs.declared.Taken.{Taken}
 use Rattle.fields.specs.declared.SignedTaken.{SignedTaken}
@@ -21,25 +20,6 @@ use Rattle.fields.specs.declared.Put.{Put}
 use Rattle.fields.proofs.Answered.{taken-done, signed-done, put-done}
 use Rattle.fields.proofs.Answered.{taken-refused, signed-refused, put-refused, memory-refused}
 use Rattle.fields.proofs.Accepted.{tested}
-
--- ---- a touched word that isn't in memory
-
-module _ (words : ℕ) (a : BitAddress) (n : ℕ) where
-  -- If any is missing, the last is.
-  missing-last : Missing words a n → words ≤ last-word a n .0
-  missing-last m =
-      let b : ℕ = m .holds .bit .0 in
-      let q : b < a .0 + n = m .holds .covered .to in
-      let e : b / 16 ≡ m .word .0 = ap (λ (x : WordNumber). x .0) (m .holds .in-word) in
-      omega (arith, m .beyond)
-
-  last-missing : 1 ≤ n → words ≤ last-word a n .0 → Missing words a n
-  last-missing s l =
-      record {
-        word = last-word a n;
-        holds = record { bit = ahead a (n - 1); covered = record { from = omega arith; to = omega arith }; in-word = refl };
-        beyond = l;
-      }
 
 -- ---- when, and only then
 
