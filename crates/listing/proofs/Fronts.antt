@@ -10,11 +10,13 @@ use lib.ListN.{length}
 use borrow.Author.Tests.{lt-ltb, le-ltb}
 use Rattle.words.proofs.Choices.{either-way, less-or-not}
 use Rattle.port.specs.declared.Access.{Access}
+use Rattle.port.specs.declared.Access.the-variants.{Read, Write}
 use Rattle.listing.specs.InNumbers.{FrontNumbers, front-numbers, FrontAs}
 use Rattle.listing.specs.InNumbers as plain
 use Rattle.listing.specs.Line.{Line, good, bad, line-of, before-feed, has-feed, with-length, front-line}
 use Rattle.listing.specs.Spelled.{line-text, Sayable}
 use Rattle.listing.specs.declared.Front.{Front}
+use Rattle.listing.specs.declared.Front.the-variants.{Good}
 use Rattle.listing.proofs.Feeds.{none-before, split-feed}
 use Rattle.listing.proofs.FrontLine.{whole-line}
 use Rattle.listing.proofs.GoodLines.{says-it, only-it, no-feed-in}
@@ -31,11 +33,16 @@ not-good : (a : Access) → bad ≡ good a → ⊥
 not-good a e = let no : _≡_ {A = ℕ} 0 1 = cc in absurd (omega arith)
 
 module _ (t : List ℕ) where
-  says : (n : FrontNumbers) → FrontAs t n → front-numbers (front-line t) ≡ n
-  unfolding front-line
-  says _ (plain.FrontAs.good-line a v h is) =
+  good-line : (a : Access) (v : List ℕ) → Sayable a → t ≡ line-text a ++ 10 ∷ v →
+      front-numbers (front-line t) ≡ front-numbers (Good a (length (line-text a) + 1))
+  good-line a v h is =
       ap (λ (u : List ℕ). front-numbers (front-line u)) is
       ∙ ap front-numbers (whole-line (line-text a) v (no-feed-in a) ∙ ap (with-length (length (line-text a) + 1)) (says-it a h))
+
+  says : (n : FrontNumbers) → FrontAs t n → front-numbers (front-line t) ≡ n
+  unfolding front-line
+  says _ (plain.FrontAs.read-line r l v h is) = good-line (Read r l) v h is
+  says _ (plain.FrontAs.write-line r l w v h is) = good-line (Write r l w) v h is
   says _ (plain.FrontAs.bad-line u v h is none) =
       ap (λ (w : List ℕ). front-numbers (front-line w)) is
       ∙ ap front-numbers (whole-line u v h ∙ ap (with-length (length u + 1)) (other-shape u none))
@@ -45,11 +52,15 @@ module _ (t : List ℕ) where
   with-feed : has-feed t ≡ true → (n : FrontNumbers) × FrontAs t n
   with-feed e = go (line-of (before-feed t)) refl
     where
+      good-as : (a : Access) (v : List ℕ) → Sayable a → t ≡ line-text a ++ 10 ∷ v → (n : FrontNumbers) × FrontAs t n
+      good-as (Read r l) v h is = (_, plain.FrontAs.read-line r l v h is)
+      good-as (Write r l w) v h is = (_, plain.FrontAs.write-line r l w v h is)
+
       go : (x : Line) → line-of (before-feed t) ≡ x → (n : FrontNumbers) × FrontAs t n
       go (good a) f =
           let p = split-feed t e in
           let o = only-it (before-feed t) a f in
-          (_, plain.FrontAs.good-line a (p .rest) (o .1) (p .is ∙ ap (λ (u : List ℕ). u ++ 10 ∷ p .rest) (o .0)))
+          good-as a (p .rest) (o .1) (p .is ∙ ap (λ (u : List ℕ). u ++ 10 ∷ p .rest) (o .0))
       go bad f =
           let p = split-feed t e in
           let none : (a : Access) → Sayable a → before-feed t ≢ line-text a = λ a h is. not-good a (sym f ∙ ap line-of is ∙ says-it a h) in

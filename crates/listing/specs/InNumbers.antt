@@ -2,11 +2,9 @@
 -- number and values for each of the enum's cases. The promises use that definition".
 --   bad-line-number    the number of a bad line
 --   FrontNumbers       number, size of the line, and the access that it asks for: kind (0 read, 1 write), register, lanes, word
---   asked a n          those of a good line of n bytes that asks for a
---   no-access n        those of a line that asks for nothing, with number n
 --   front-numbers x    those of what `front_line` answers
 --   FrontAs t n        what these numbers say of a text
-use Prim.Native.Nat.{ℕ, _+_, _<_, _≤_}
+use Prim.Native.Nat.{ℕ, _<_, _≤_}
 use mathlib.Core.Path.{_≡_}
 use mathlib.Core.List.{List, _∷_, _++_}
 use mathlib.Core.Logic.{_≢_}
@@ -30,23 +28,20 @@ pub record FrontNumbers : Type 0 where
   pub lanes : ℕ
   pub word : ℕ
 
-abbrev pub asked : Access → ℕ → FrontNumbers
-asked (Read register lanes) n = record { number = 0; size = n; kind = 0; register = register; lanes = lanes; word = 0 }
-asked (Write register lanes w) n = record { number = 0; size = n; kind = 1; register = register; lanes = lanes; word = w }
-
--- "A refusal returns zeros"
-abbrev pub no-access : ℕ → FrontNumbers
-no-access n = record { number = n; size = 0; kind = 0; register = 0; lanes = 0; word = 0 }
-
--- a line that may go on is no refusal, and none of its bytes is used yet
+-- "A refusal returns zeros"; a line that may go on is no refusal, and none of its bytes is used yet
 abbrev pub front-numbers : Front → FrontNumbers
-front-numbers (Good a n) = asked a n
-front-numbers Bad = no-access bad-line-number
-front-numbers Open = no-access 0
+front-numbers (Good (Read register lanes) n) = record { number = 0; size = n; kind = 0; register = register; lanes = lanes; word = 0 }
+front-numbers (Good (Write register lanes w) n) = record { number = 0; size = n; kind = 1; register = register; lanes = lanes; word = w }
+front-numbers Bad = record { number = bad-line-number; size = 0; kind = 0; register = 0; lanes = 0; word = 0 }
+front-numbers Open = record { number = 0; size = 0; kind = 0; register = 0; lanes = 0; word = 0 }
 
 -- "lines `R reg lanes` and `W reg lanes hhhh` ..., at most 32 bytes each. A line of another shape .."
 pub data FrontAs (t : List ℕ) : FrontNumbers → Type 0 where
-  good-line : (a : Access) (v : List ℕ) → Sayable a → t ≡ line-text a ++ 10 ∷ v → FrontAs t (asked a (length (line-text a) + 1))
-  bad-line : (u v : List ℕ) → No-feed u → t ≡ u ++ 10 ∷ v → ((a : Access) → Sayable a → u ≢ line-text a) → FrontAs t (no-access 27)
-  long-line : No-feed t → 31 < length t → FrontAs t (no-access 27)
-  open-line : No-feed t → length t ≤ 31 → FrontAs t (no-access 0)
+  read-line : (r l : ℕ) (v : List ℕ) → Sayable (Read r l) → t ≡ line-text (Read r l) ++ 10 ∷ v →
+      FrontAs t (record { number = 0; size = 6; kind = 0; register = r; lanes = l; word = 0 })
+  write-line : (r l w : ℕ) (v : List ℕ) → Sayable (Write r l w) → t ≡ line-text (Write r l w) ++ 10 ∷ v →
+      FrontAs t (record { number = 0; size = 11; kind = 1; register = r; lanes = l; word = w })
+  bad-line : (u v : List ℕ) → No-feed u → t ≡ u ++ 10 ∷ v → ((a : Access) → Sayable a → u ≢ line-text a) →
+      FrontAs t (record { number = 27; size = 0; kind = 0; register = 0; lanes = 0; word = 0 })
+  long-line : No-feed t → 31 < length t → FrontAs t (record { number = 27; size = 0; kind = 0; register = 0; lanes = 0; word = 0 })
+  open-line : No-feed t → length t ≤ 31 → FrontAs t (record { number = 0; size = 0; kind = 0; register = 0; lanes = 0; word = 0 })

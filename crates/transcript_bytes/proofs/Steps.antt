@@ -15,16 +15,24 @@ use Rattle.transcript_bytes.specs.InNumbers.{StepNumbers, step-numbers, 
 use Rattle.transcript_bytes.specs.InNumbers as plain
 use Rattle.transcript_bytes.specs.InPlainWords.{Continued, Spelled, value-of, Unpadded, BadHead, BadWord}
 use Rattle.transcript_bytes.specs.Reading.{none, grown, entry-of, head-read, word-read, step}
+use Rattle.transcript_bytes.specs.declared.Entry.{Entry}
 use Rattle.transcript_bytes.specs.declared.Number.{Number}
 use Rattle.transcript_bytes.specs.declared.Part.{Part}
 use Rattle.transcript_bytes.specs.declared.Part.the-variants.{Head, Word}
 use Rattle.transcript_bytes.specs.declared.Step.{Step}
-use Rattle.transcript_bytes.specs.declared.Step.the-variants.{Goes, Whole}
+use Rattle.transcript_bytes.specs.declared.Step.the-variants.{Goes, Whole, Bad}
 use Rattle.transcript_bytes.proofs.Divided.{entry-good, says-head}
 use Rattle.transcript_bytes.proofs.Judged.{head-refused, word-refused, head-accepted, word-accepted}
 use Rattle.transcript_bytes.proofs.Judged.{head-range, head-kind, head-back}
 use Rattle.transcript_bytes.proofs.NumberRead.{grown-by}
 use Rattle.transcript_bytes.proofs.ThroughNumbers.{grown-snoc, head-rule, word-rule}
+
+-- Where no record is whole, the entry is zeros.
+pub zeros-else : (x : Step) → step-numbers x .count ≡ 0 →
+    let e = step-numbers x .entry in (e .kind ≡ 0) × (e .register ≡ 0) × (e .lanes ≡ 0) × (e .word ≡ 0)
+zeros-else (Goes p) z = (refl, refl, refl, refl)
+zeros-else (Whole e) z = absurd (omega (arith, z))
+zeros-else (Bad n) z = (refl, refl, refl, refl)
 
 -- ---- one byte more
 continued-more : (first : List ℕ) (b : ℕ) → Continued first → 128 ≤ b → Continued (first ++ (b ∷ []))
@@ -79,7 +87,7 @@ module _ (first : List ℕ) (b : ℕ) (c : Continued first) where
       let same : entry-of (head-of e) 0 ≡ e = ap (entry-of (head-of e)) (sym (g .read z)) ∙ head-back e g in
       ap step-numbers (number-ends Head head-read head-rule (last-ends (q .spelled)) ∙ head-accepted s (head-of e) q (r .0) (r .1))
       ∙ ap (head-numbers (head-of e)) (eq-eqb (head-of e % 2) 0 even)
-      ∙ ap plain.whole same
+      ∙ ap (λ (x : Entry). step-numbers (Whole x)) same
   head-says _ (plain.HeadAs.of-write w) =
       let odd = ne-eqb (w .head % 2) 0 (λ z. omega (arith, z, w .write)) in
       ap step-numbers
