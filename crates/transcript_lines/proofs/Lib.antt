@@ -5,7 +5,6 @@ pub mod TakenLines
 pub mod TakeAnswers
 pub mod BadLines
 pub mod PutAnswers
-pub mod Refused
 pub mod Promised
 pub mod ThereAndBack
 pub mod Examples
@@ -17,4 +16,4 @@ pub mod Turns
 pub mod Filling
 pub mod LineBytes
 pub mod EntryByEntry
-pub mod Outcomes
+pub mod Results

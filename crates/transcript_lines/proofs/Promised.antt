@@ -1,15 +1,17 @@
 -- What the contracts of the two calls promise, said of any outcome that they allow, in the numbers of `specs/InNumbers`: each answer when
--- and only then, what a call that is not done leaves, and what one that is done leaves.
+-- and only then, what a call that is not done leaves, and what one that is done leaves. The numbers are 0, 24 and 27, and 0, 22 and 24
+-- (`take-number`, `put-number`).
 use Prim.Native.Nat.{ℕ}
 use native.Mathlib.Omega.{arith}
 use mathlib.Core.Path.{_≡_, refl, sym, ap, _∙_, subst}
+use mathlib.Core.Bool.{cond}
 use mathlib.Core.List.{List, append-nil}
-use mathlib.Core.Logic.{_⊎_, inl, inr, _↔_, _≢_}
+use mathlib.Core.Logic.{_↔_, _≢_}
 use lib.ListN.{length, take, drop}
 use lib.Seq.{take-append-seam, drop-append-seam}
 use Rattle.words.proofs.Contracts.{Contract}
 use Rattle.transcript_bytes.specs.InPlainWords.{first-places, later-places}
-use Rattle.transcript_bytes.specs.Lists.{Lists, lists, size, entries-in, with-entries}
+use Rattle.transcript_bytes.specs.Lists.{Lists, lists, size, entries-in, over, with-entries}
 use Rattle.transcript_bytes.specs.declared.Entry.{Entry}
 use Rattle.transcript_bytes.specs.declared.Transcribed.{Transcribed}
 use Rattle.transcript_bytes.proofs.Columns.{first-are-columns, later-stay}
@@ -17,15 +19,13 @@ use Rattle.transcript_bytes.proofs.Filled.{SameLengths, over-length, lengths-st
 use Rattle.transcript_lines.specs.InNumbers.{taken-numbers, put-numbers}
 use Rattle.transcript_lines.specs.InPlainWords.{TookAs, TookAll, PutAs, PutAll}
 use Rattle.transcript_lines.specs.Lines.{entry-of, line, text-of}
-use Rattle.transcript_lines.specs.Putting.{PutLines}
-use Rattle.transcript_lines.specs.Taking.{Taking, taking, take-answer, TookLines}
+use Rattle.transcript_lines.specs.Putting.{is-written, text-after, PutLines}
+use Rattle.transcript_lines.specs.Taking.{Taking, taking, take-answer, is-taken, lists-after, TookLines}
 use Rattle.transcript_lines.specs.declared.LinesPut.{LinesPut}
 use Rattle.transcript_lines.specs.declared.LinesPut.the-variants.{Written, Unsayable, NoBytes}
 use Rattle.transcript_lines.specs.declared.LinesTaken.{LinesTaken}
 use Rattle.transcript_lines.specs.declared.LinesTaken.the-variants.{Taken, BadLine, NoPlaces}
-use Rattle.transcript_lines.proofs.Outcomes.{lists-filled, taken-room, text-filled}
 use Rattle.transcript_lines.proofs.PutAnswers.{put-answers, puts-exactly}
-use Rattle.transcript_lines.proofs.Refused.{lists-stay, text-stays}
 use Rattle.transcript_lines.proofs.TakeAnswers.{then-taken, take-answers, takes-exactly}
 use Rattle.transcript_lines.proofs.TakenLines.{nothing-there}
 use Rattle.transcript_lines.proofs.lines.entry_of.Kinds as entry-of-kinds
@@ -47,34 +47,34 @@ module _ {t : List ℕ} {l l′ : Lists} {o : LinesTaken} (p : TookLines t l o l
       let k = takes-exactly t (size l) a in
       (λ e. k .0 (ap taken-numbers (sym (p .answer)) ∙ e), λ w. ap taken-numbers (p .answer) ∙ k .1 w)
 
-  -- Its number is 0, 24 or 27.
-  pub take-number : let n = taken-numbers o .number in (n ≡ 0) ⊎ ((n ≡ 24) ⊎ (n ≡ 27))
-  take-number = go o
-    where
-      go : (x : LinesTaken) → let n = taken-numbers x .number in (n ≡ 0) ⊎ ((n ≡ 24) ⊎ (n ≡ 27))
-      go (Taken n) = inl refl
-      go (BadLine n) = inr (inr refl)
-      go NoPlaces = inr (inl refl)
+  lists-left : l′ ≡ cond (is-taken o) (with-entries (taking t .entries) l) l
+  unfolding lists-after
+  lists-left = p .lists ∙ ap (λ (x : LinesTaken). cond (is-taken x) (with-entries (taking t .entries) l) l) (sym (p .answer))
 
   -- With another number than 0 it counts nothing, and leaves every place of the four lists.
   pub take-refused : taken-numbers o .number ≢ 0 → (taken-numbers o .count ≡ 0) × (l′ ≡ l)
-  take-refused = go o p
+  take-refused = go o lists-left
     where
-      go : (x : LinesTaken) → TookLines t l x l′ → taken-numbers x .number ≢ 0 → (taken-numbers x .count ≡ 0) × (l′ ≡ l)
-      go (Taken n) q d = absurd (d refl)
-      go (BadLine n) q d = (refl, lists-stay q refl)
-      go NoPlaces q d = (refl, lists-stay q refl)
+      go : (x : LinesTaken) → l′ ≡ cond (is-taken x) (with-entries (taking t .entries) l) l → taken-numbers x .number ≢ 0 →
+          (taken-numbers x .count ≡ 0) × (l′ ≡ l)
+      go (Taken n) e d = absurd (d refl)
+      go (BadLine n) e d = (refl, e)
+      go NoPlaces e d = (refl, e)
+
+  -- Where all lines are taken, the entries stand in the lists.
+  pub lists-filled : {n : ℕ} → o ≡ Taken n → l′ ≡ with-entries (taking t .entries) l
+  lists-filled e = lists-left ∙ ap (λ (x : LinesTaken). cond (is-taken x) (with-entries (taking t .entries) l) l) e
 
   -- With 0 the text is lines of entries, which stand in the lists' first places; the later ones are as they were.
   pub take-done : taken-numbers o .number ≡ 0 → TookAll t l (taken-numbers o) l′
-  take-done = go o p
+  take-done = go o refl
     where
-      all : (n : ℕ) → TookLines t l (Taken n) l′ → TookAll t l (taken-numbers (Taken n)) l′
-      all n q =
-          let m = take-answers t (size l) (Taken n) .0 (sym (q .answer)) in
+      all : (n : ℕ) → o ≡ Taken n → TookAll t l (taken-numbers (Taken n)) l′
+      all n e =
+          let m = take-answers t (size l) (Taken n) .0 (sym (p .answer) ∙ e) in
           let es = m .0 .entries in
           let left : l′ ≡ with-entries es l =
-          lists-filled q ∙ ap (λ (x : Taking). with-entries (x .entries) l) (then-taken (m .0) nothing-there) in
+          lists-filled e ∙ ap (λ (x : Taking). with-entries (x .entries) l) (then-taken (m .0) nothing-there) in
           record {
             taken = es;
             is = m .0 .is ∙ append-nil (text-of es);
@@ -88,23 +88,25 @@ module _ {t : List ℕ} {l l′ : Lists} {o : LinesTaken} (p : TookLines t l o l
                 ∙ ap (λ (k : ℕ). later-places k l) (m .0 .count);
           }
 
-      go : (x : LinesTaken) → TookLines t l x l′ → taken-numbers x .number ≡ 0 → TookAll t l (taken-numbers x) l′
-      go (Taken n) q z = all n q
-      go (BadLine n) q z = absurd (omega (arith, z))
-      go NoPlaces q z = absurd (omega (arith, z))
+      go : (x : LinesTaken) → o ≡ x → taken-numbers x .number ≡ 0 → TookAll t l (taken-numbers x) l′
+      go (Taken n) e z = all n e
+      go (BadLine n) e z = absurd (omega (arith, z))
+      go NoPlaces e z = absurd (omega (arith, z))
 
   -- Whatever it answers, each list is as long as it was.
   pub take-lengths : SameLengths l l′
-  take-lengths = go o p
+  take-lengths = go o refl
     where
-      same : l′ ≡ l → SameLengths l l′
-      same e = subst (SameLengths l) (sym e) (record { kinds = refl; registers = refl; lanes = refl; words = refl })
+      same : taken-numbers o .number ≢ 0 → SameLengths l l′
+      same d = subst (SameLengths l) (sym (take-refused d .1)) (record { kinds = refl; registers = refl; lanes = refl; words = refl })
 
-      go : (x : LinesTaken) → TookLines t l x l′ → SameLengths l l′
-      go (Taken n) q =
-          subst (SameLengths l) (sym (lists-filled q)) (lengths-stay (taking t .entries) l (taken-room t l refl (q .answer) refl))
-      go (BadLine n) q = same (lists-stay q refl)
-      go NoPlaces q = same (lists-stay q refl)
+      go : (x : LinesTaken) → o ≡ x → SameLengths l l′
+      go (Taken n) e =
+          let m = take-answers t (size l) (Taken n) .0 (sym (p .answer) ∙ e) in
+          let few = ap (λ (x : Taking). length (x .entries)) (then-taken (m .0) nothing-there) in
+          subst (SameLengths l) (sym (lists-filled e)) (lengths-stay (taking t .entries) l (omega (arith, few, m .0 .count, m .1)))
+      go (BadLine n) e = same (λ z. omega (arith, z, ap (λ (y : LinesTaken). taken-numbers y .number) e))
+      go NoPlaces e = same (λ z. omega (arith, z, ap (λ (y : LinesTaken). taken-numbers y .number) e))
 
 -- ---- putting lines
 module _ {l : Lists} {out out′ : List ℕ} {o : LinesPut} (p : PutLines l out o out′) where
@@ -117,59 +119,59 @@ module _ {l : Lists} {out out′ : List ℕ} {o : LinesPut} (p : PutLines l out 
       let k = puts-exactly entries (length out) a in
       (λ e. k .0 (ap put-numbers (sym (p .answer)) ∙ e), λ w. ap put-numbers (p .answer) ∙ k .1 w)
 
-  -- Its number is 0, 22 or 24.
-  pub put-number : let n = put-numbers o .number in (n ≡ 0) ⊎ ((n ≡ 22) ⊎ (n ≡ 24))
-  put-number = go o
-    where
-      go : (x : LinesPut) → let n = put-numbers x .number in (n ≡ 0) ⊎ ((n ≡ 22) ⊎ (n ≡ 24))
-      go (Written n) = inl refl
-      go (Unsayable k) = inr (inl refl)
-      go NoBytes = inr (inr refl)
+  text-left : out′ ≡ cond (is-written o) (over (text-of entries) out) out
+  unfolding text-after
+  text-left = p .text ∙ ap (λ (x : LinesPut). cond (is-written x) (over (text-of entries) out) out) (sym (p .answer))
 
   -- With another number than 0 it counts nothing, and leaves every byte.
   pub put-refused : put-numbers o .number ≢ 0 → (put-numbers o .count ≡ 0) × (out′ ≡ out)
-  put-refused = go o p
+  put-refused = go o text-left
     where
-      go : (x : LinesPut) → PutLines l out x out′ → put-numbers x .number ≢ 0 → (put-numbers x .count ≡ 0) × (out′ ≡ out)
-      go (Written n) q d = absurd (d refl)
-      go (Unsayable k) q d = (refl, text-stays q refl)
-      go NoBytes q d = (refl, text-stays q refl)
+      go : (x : LinesPut) → out′ ≡ cond (is-written x) (over (text-of entries) out) out → put-numbers x .number ≢ 0 →
+          (put-numbers x .count ≡ 0) × (out′ ≡ out)
+      go (Written n) e d = absurd (d refl)
+      go (Unsayable k) e d = (refl, e)
+      go NoBytes e d = (refl, e)
+
+  -- Where a line says each entry, the lines stand in the text.
+  pub text-filled : {n : ℕ} → o ≡ Written n → out′ ≡ over (text-of entries) out
+  text-filled e = text-left ∙ ap (λ (x : LinesPut). cond (is-written x) (over (text-of entries) out) out) e
 
   -- With 0 the lines of the entries stand in the first bytes, and the later ones are as they were.
   pub put-done : put-numbers o .number ≡ 0 → PutAll l out (put-numbers o) out′
-  put-done = go o p
+  put-done = go o refl
     where
-      all : (n : ℕ) → PutLines l out (Written n) out′ → PutAll l out (put-numbers (Written n)) out′
-      all n q =
-          let m = put-answers entries (length out) (Written n) .0 (sym (q .answer)) in
+      all : (n : ℕ) → o ≡ Written n → PutAll l out (put-numbers (Written n)) out′
+      all n e =
+          let m = put-answers entries (length out) (Written n) .0 (sym (p .answer) ∙ e) in
           record {
             says = m .0;
             count = m .1;
             place = refl;
             fits = m .2;
             text =
-                ap (λ (k : ℕ). take k out′) (m .1) ∙ ap (take (length (text-of entries))) (text-filled q)
+                ap (λ (k : ℕ). take k out′) (m .1) ∙ ap (take (length (text-of entries))) (text-filled e)
                 ∙ take-append-seam (text-of entries) _;
             rest =
-                ap (λ (k : ℕ). drop k out′) (m .1) ∙ ap (drop (length (text-of entries))) (text-filled q)
+                ap (λ (k : ℕ). drop k out′) (m .1) ∙ ap (drop (length (text-of entries))) (text-filled e)
                 ∙ drop-append-seam (text-of entries) _ ∙ ap (λ (k : ℕ). drop k out) (sym (m .1));
           }
 
-      go : (x : LinesPut) → PutLines l out x out′ → put-numbers x .number ≡ 0 → PutAll l out (put-numbers x) out′
-      go (Written n) q z = all n q
-      go (Unsayable k) q z = absurd (omega (arith, z))
-      go NoBytes q z = absurd (omega (arith, z))
+      go : (x : LinesPut) → o ≡ x → put-numbers x .number ≡ 0 → PutAll l out (put-numbers x) out′
+      go (Written n) e z = all n e
+      go (Unsayable k) e z = absurd (omega (arith, z))
+      go NoBytes e z = absurd (omega (arith, z))
 
   -- Whatever it answers, there are as many bytes as there were.
   pub put-length : length out′ ≡ length out
-  put-length = go o p
+  put-length = go o refl
     where
-      go : (x : LinesPut) → PutLines l out x out′ → length out′ ≡ length out
-      go (Written n) q =
-          let m = put-answers entries (length out) (Written n) .0 (sym (q .answer)) in
-          ap length (text-filled q) ∙ over-length (text-of entries) out (omega (arith, m .1, m .2))
-      go (Unsayable k) q = ap length (text-stays q refl)
-      go NoBytes q = ap length (text-stays q refl)
+      go : (x : LinesPut) → o ≡ x → length out′ ≡ length out
+      go (Written n) e =
+          let m = put-answers entries (length out) (Written n) .0 (sym (p .answer) ∙ e) in
+          ap length (text-filled e) ∙ over-length (text-of entries) out (omega (arith, m .1, m .2))
+      go (Unsayable k) e = ap length (put-refused (λ z. omega (arith, z, ap (λ (y : LinesPut). put-numbers y .number) e)) .1)
+      go NoBytes e = ap length (put-refused (λ z. omega (arith, z, ap (λ (y : LinesPut). put-numbers y .number) e)) .1)
 
 -- ---- the contracts themselves: each is a statement on the call's own arguments
 -- `entry_of`: a.

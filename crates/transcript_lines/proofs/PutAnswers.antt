@@ -108,3 +108,9 @@ put-says es room _ (plain.PutAs.no-line {k} f) = ap put-numbers (put-answers es 
 pub puts-exactly : (es : List Entry) (room : ℕ) (a : Transcribed) → put-numbers (put-answer es room) ≡ a ↔ PutAs es room a
 puts-exactly es room a =
     (λ e. subst (PutAs es room) e (put-as es room (put-answer es room) (is-so es room)), put-says es room a)
+
+-- They are 0, 22 or 24.
+pub put-number : (o : LinesPut) → let n = put-numbers o .number in (n ≡ 0) ⊎ ((n ≡ 22) ⊎ (n ≡ 24))
+put-number (Written n) = inl refl
+put-number (Unsayable k) = inr (inl refl)
+put-number NoBytes = inr (inr refl)

@@ -30,11 +30,6 @@ not-taken (Taken n) (inr e) = absurd (omega (arith, e))
 not-taken (BadLine n) e = refl
 not-taken NoPlaces e = refl
 
--- A call that is done fills the lists.
-pub lists-filled : {t : List ℕ} {l l′ : Lists} {n : ℕ} → TookLines t l (Taken n) l′ → l′ ≡ with-entries (taking t .entries) l
-unfolding lists-after
-lists-filled p = p .lists ∙ rw (sym (p .answer)) refl
-
 module _ (t : List ℕ) (l : Lists) {room : ℕ} {o : LinesTaken} (r : room ≡ size l) (a : o ≡ take-answer t room) where
   take-is : o ≡ take-answer t (size l)
   take-is = a ∙ ap (take-answer t) r
@@ -63,11 +58,6 @@ not-written (Written n) (inl e) = absurd (omega (arith, e))
 not-written (Written n) (inr e) = absurd (omega (arith, e))
 not-written (Unsayable k) e = refl
 not-written NoBytes e = refl
-
--- A call that is done fills the text.
-pub text-filled : {l : Lists} {out out′ : List ℕ} {n : ℕ} → PutLines l out (Written n) out′ → out′ ≡ over (text-of (entries-in l)) out
-unfolding text-after
-text-filled p = p .text ∙ rw (sym (p .answer)) refl
 
 module _ (l : Lists) (out : List ℕ) {done o : LinesPut} (f : done ≡ fitting (length (text-of (entries-in l))) (length out))
     (a : o ≡ first-unsayable 0 (entries-in l) done) where

@@ -104,3 +104,9 @@ took-says t room _ (plain.TookAs.bad-line {n} b) = ap taken-numbers (take-answer
 pub takes-exactly : (t : List ℕ) (room : ℕ) (a : Transcribed) → taken-numbers (take-answer t room) ≡ a ↔ TookAs t room a
 takes-exactly t room a =
     (λ e. subst (TookAs t room) e (took-as t room (take-answer t room) (is-so t room)), took-says t room a)
+
+-- They are 0, 24 or 27.
+pub take-number : (o : LinesTaken) → let n = taken-numbers o .number in (n ≡ 0) ⊎ ((n ≡ 24) ⊎ (n ≡ 27))
+take-number (Taken n) = inl refl
+take-number (BadLine n) = inr (inr refl)
+take-number NoPlaces = inr (inl refl)

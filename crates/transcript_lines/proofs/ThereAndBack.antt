@@ -17,7 +17,7 @@ use Rattle.transcript_lines.specs.declared.LinesTaken.{LinesTaken}
 use Rattle.transcript_lines.specs.declared.LinesTaken.the-variants.{Taken}
 use Rattle.transcript_lines.specs.declared.LinesPut.{LinesPut}
 use Rattle.transcript_lines.specs.declared.LinesPut.the-variants.{Written}
-use Rattle.transcript_lines.proofs.Outcomes.{lists-filled, text-filled}
+use Rattle.transcript_lines.proofs.Promised.{lists-filled, text-filled}
 use Rattle.transcript_lines.proofs.TakenLines.{taken-back, nothing-there}
 use Rattle.transcript_lines.proofs.TakeAnswers.{then-taken, take-answers}
 use Rattle.transcript_lines.proofs.PutAnswers.{put-answers}
@@ -29,7 +29,7 @@ pub put-text : {l : Lists} {out out′ : List ℕ} {n : ℕ} → PutLines l out 
 put-text {l} {out} {out′} {n} p =
     let es = entries-in l in
     let m = put-answers es (length out) (Written n) .0 (sym (p .answer)) in
-    ap (take n) (text-filled p) ∙ take-at (text-of es) (drop (length (text-of es)) out) n (sym (m .1))
+    ap (take n) (text-filled p refl) ∙ take-at (text-of es) (drop (length (text-of es)) out) n (sym (m .1))
 
 -- Taken again, they are the list.
 pub take-after-put : {l k k′ : Lists} {out out′ : List ℕ} {n : ℕ} {o : LinesTaken} →
@@ -61,7 +61,7 @@ took-entries {t} {l} {l′} {n} p =
     let m = take-answers t (size l) (Taken n) .0 (sym (p .answer)) in
     let all = then-taken (m .0) nothing-there in
     let count : length (taking t .entries) ≡ n = ap (λ (x : Taking). length (x .entries)) all ∙ m .0 .count in
-    (m .1, ap (λ (k : Lists). entries-in (first-places n k)) (lists-filled p) ∙ first-entries (taking t .entries) l count)
+    (m .1, ap (λ (k : Lists). entries-in (first-places n k)) (lists-filled p refl) ∙ first-entries (taking t .entries) l count)
 
 -- Lines can say these entries, and are the text.
 pub took-text : {t : List ℕ} {l l′ : Lists} {n : ℕ} → TookLines t l (Taken n) l′ →

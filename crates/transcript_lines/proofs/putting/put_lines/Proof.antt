@@ -1,6 +1,5 @@
 -- `transcript_lines::putting::put_lines` meets its contract, by its answer.
-use Rattle.transcript_bytes.specs.Lists.{lists}
-use Rattle.transcript_lines.proofs.Outcomes.{refused-put, written-room, done-put}
+use Rattle.transcript_lines.proofs.Results.{refused-put, written-room, done-put}
 use borrow.Author.Needs.{needs}
 use Rattle.transcript_lines.proofs.putting.put_lines.Statement.{statement}
 use Rattle.transcript_lines.proofs.putting.put_lines.Tie as tie
@@ -18,8 +17,7 @@ returns : tie.Need-returns
 returns c =
     let start = c .before .before .before .before .before .before .before .before in
     let a = start .args in
-    let l = lists (a .kinds .now) (a .registers .now) (a .lanes .now) (a .words .now) in
-    refused-put l (a .text .now) (c .before .before .judge-room .ensures) (c .before .judge-entries .ensures) (c .match .keys2)
+    refused-put _ (a .text .now) (c .before .before .judge-room .ensures) (c .before .judge-entries .ensures) (c .match .keys2)
 
 fill-text-requires : tie.Need-fill-text-requires
 fill-text-requires c κs =
@@ -27,8 +25,7 @@ fill-text-requires c κs =
     let at-judge-room = at-judge-entries .before in
     let start = at-judge-room .before .before .before .before .before .before in
     let a = start .args in
-    let l = lists (a .kinds .now) (a .registers .now) (a .lanes .now) (a .words .now) in
-    written-room l (a .text .now) (at-judge-room .judge-room .ensures) (at-judge-entries .judge-entries .ensures)
+    written-room _ (a .text .now) (at-judge-room .judge-room .ensures) (at-judge-entries .judge-entries .ensures)
     (c .before .enum-told .given .1)
 
 same-length : tie.Need-same-length
@@ -41,8 +38,7 @@ returns-2 c =
     let at-judge-room = at-judge-entries .before in
     let start = at-judge-room .before .before .before .before .before .before in
     let a = start .args in
-    let l = lists (a .kinds .now) (a .registers .now) (a .lanes .now) (a .words .now) in
-    done-put l (a .text .now) (at-judge-room .judge-room .ensures) (at-judge-entries .judge-entries .ensures)
+    done-put _ (a .text .now) (at-judge-room .judge-room .ensures) (at-judge-entries .judge-entries .ensures)
     (at-enum-told .enum-told .given .1) (c .before .before .fill-text .ensures)
 
 pub put-lines-spec : {M : Type 1} → statement M
