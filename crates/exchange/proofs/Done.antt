@@ -1,4 +1,4 @@
--- What is known of an input that is turned: how it was turned, and that it fits.
+-- What is known of an input that is turned: how it was turned.
 use Prim.Native.Nat.{ℕ, _≤_}
 use native.Mathlib.Omega.{arith}
 use mathlib.Core.Path.{_≡_, refl, sym, ap, _∙_, subst}
@@ -12,7 +12,6 @@ use Rattle.words.proofs.Choices.{less-or-not, same-or-not}
 use Rattle.transcript_bytes.specs.Format.{transcript-of}
 use Rattle.transcript_bytes.specs.InPlainWords.{AllGood, Sound, Written, ReadAs}
 use Rattle.transcript_bytes.specs.InPlainWords as plain
-use Rattle.transcript_bytes.specs.Lists.{Lists}
 use Rattle.transcript_bytes.specs.Reading.{entries-read, read-answer}
 use Rattle.transcript_bytes.specs.Writing.{write-answer}
 use Rattle.transcript_bytes.specs.declared.Entry.{Entry}
@@ -29,7 +28,7 @@ use Rattle.transcript_lines.specs.declared.LinesTaken.{LinesTaken}
 use Rattle.transcript_lines.specs.declared.LinesTaken.the-variants as taken
 use Rattle.transcript_lines.proofs.GoodEntries.{all-sayable}
 use Rattle.transcript_lines.proofs.PutAnswers.{put-answers}
-use Rattle.exchange.specs.Turning.{by-answer, by-taken, written, fitting, bytes-turned, lines-turned, is-done, ToBytes, ToLines}
+use Rattle.exchange.specs.Turning.{by-answer, by-taken, written, fitting, bytes-turned, lines-turned, is-done}
 use Rattle.exchange.specs.declared.Turned.{Turned}
 use Rattle.exchange.specs.declared.Turned.the-variants.{Done, Refused, TooMany}
 
@@ -88,11 +87,6 @@ bytes-are-done {t} {room} {out} {k} e =
     let c : a .count ≡ k = cc in
     record { lines = x .0 .0; taken = x .0 .1; good = z .0; count = sym c ∙ z .1; fits = omega arith }
 
--- What is turned fits the output.
-pub bytes-fit : {t : List ℕ} {l l′ : Lists} {out out′ : List ℕ} {o : Turned} {k : ℕ} → ToBytes t l out o l′ out′ → o ≡ Done k →
-    k ≤ length out
-bytes-fit p e = bytes-are-done (sym (p .answer) ∙ e) .fits
-
 -- ---- bytes to lines
 pub record LinesDone (s : List ℕ) (room out k : ℕ) : Type 0 where
   pub read : read-answer s room .number ≡ 0
@@ -139,8 +133,3 @@ lines-are-done {s} {room} {out} {k} e =
           put-answers es out (put.Written k) .1
           (all-sayable es (good-entries (a .0)), sym (f .0), omega (arith, f .0, f .1));
     }
-
--- What is turned fits the output.
-pub lines-fit : {s : List ℕ} {l l′ : Lists} {out out′ : List ℕ} {o : Turned} {k : ℕ} → ToLines s l out o l′ out′ → o ≡ Done k →
-    k ≤ length out
-lines-fit p e = lines-are-done (sym (p .answer) ∙ e) .fits

@@ -1,9 +1,8 @@
--- What is left of lists and output, by the answer; the same for both calls.
+-- What lists and output are filled with where an input is turned; the same for both calls.
 use Prim.Native.Nat.{ℕ, _≤_}
 use native.Mathlib.Omega.{arith}
-use mathlib.Core.Path.{_≡_, refl, sym, ap, _∙_, subst}
+use mathlib.Core.Path.{_≡_, sym, ap, _∙_, subst}
 use mathlib.Core.List.{List}
-use mathlib.Core.Logic.{_≢_}
 use lib.ListN.{length, take, drop}
 use lib.Seq.{take-append-seam, drop-append-seam}
 use Rattle.transcript_bytes.specs.InPlainWords.{first-places, later-places}
@@ -17,20 +16,7 @@ use Rattle.exchange.specs.InNumbers.{turned-numbers, case-of}
 use Rattle.exchange.specs.InPlainWords.{Filled}
 use Rattle.exchange.specs.Turning.{lists-left, output-left}
 use Rattle.exchange.specs.declared.Turned.{Turned}
-use Rattle.exchange.specs.declared.Turned.the-variants.{Done, BadLine, Refused, TooMany}
-
-pub long-as-before : {l l′ : Lists} {out out′ : List ℕ} → l′ ≡ l → out′ ≡ out → SameLengths l l′ × (length out′ ≡ length out)
-long-as-before {l} x y =
-    (subst (SameLengths l) (sym x) (record { kinds = refl; registers = refl; lanes = refl; words = refl }), ap length y)
-
-module _ (es : List Entry) (text : List ℕ) {l l′ : Lists} {out out′ : List ℕ} where
-  -- Refused: all stays.
-  pub all-stays : (o : Turned) → l′ ≡ lists-left o es l → out′ ≡ output-left o text out → turned-numbers o .number ≢ 0 →
-      (turned-numbers o .count ≡ 0) × (l′ ≡ l) × (out′ ≡ out)
-  all-stays (Done n) x y d = absurd (d refl)
-  all-stays (BadLine k) x y d = (refl, x, y)
-  all-stays (Refused n k) x y d = (refl, x, y)
-  all-stays TooMany x y d = (refl, x, y)
+use Rattle.exchange.specs.declared.Turned.the-variants.{Done}
 
 -- Turned: the entries es and the bytes `text` are filled in.
 pub record TurnedOut (es : List Entry) (text : List ℕ) (l : Lists) (out : List ℕ) (a : Transcribed) (l′ : Lists) (out′ : List ℕ) :

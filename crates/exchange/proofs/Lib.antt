@@ -3,7 +3,7 @@ pub mod Entries
 pub mod AccessByAccess
 pub mod RecordByRecord
 pub mod Done
-pub mod Outcomes
+pub mod Results
 -- what is promised
 pub mod Exactly
 pub mod Left

@@ -6,8 +6,10 @@ use mathlib.Core.Path.{_≡_, refl, sym, ap, _∙_, subst}
 use mathlib.Core.List.{List}
 use mathlib.Core.Logic.{_⊎_, inl, inr, ⊎-elim, _↔_, _≢_}
 use lib.ListN.{length}
+use borrow.Fn.Kinds.{Dens, endedOf}
+use contract.Lifetimes.{Lfts}
+use denote.Triple.Clauses.{AtExit}
 use Rattle.words.proofs.Choices.{same-or-not}
-use Rattle.words.proofs.Contracts.{Contract}
 use Rattle.transcript_bytes.specs.Format.{transcript-of}
 use Rattle.transcript_bytes.specs.InPlainWords.{AllGood, Sound}
 use Rattle.transcript_bytes.specs.Lists.{Lists, lists, size}
@@ -25,13 +27,20 @@ use Rattle.exchange.specs.InPlainWords.{LinesOf, BytesAs, LinesAs, Fille
 use Rattle.exchange.specs.InPlainWords as plain
 use Rattle.exchange.specs.Turning.{ToBytes, ToLines}
 use Rattle.exchange.specs.declared.Turned.{Turned}
+use Rattle.exchange.specs.declared.Turned.the-variants.{Done, BadLine, Refused, TooMany}
+use Rattle.exchange.proofs.Done.{bytes-are-done, lines-are-done}
 use Rattle.exchange.proofs.Entries.{entry-range}
 use Rattle.exchange.proofs.Exactly.{bytes-exactly, bytes-case, lines-exactly, lines-case}
-use Rattle.exchange.proofs.Left.{long-as-before, all-stays, TurnedOut, turned-out, filled, still-long}
-use Rattle.exchange.proofs.turning.lines_to_bytes.Kinds as lines-to-bytes-kinds
-use Rattle.exchange.proofs.turning.lines_to_bytes.Reads as lines-to-bytes
-use Rattle.exchange.proofs.turning.bytes_to_lines.Kinds as bytes-to-lines-kinds
-use Rattle.exchange.proofs.turning.bytes_to_lines.Reads as bytes-to-lines
+use Rattle.exchange.proofs.Left.{TurnedOut, turned-out, filled, still-long}
+use Rattle.exchange.proofs.turning.bytes_to_lines.Kinds as lines-kinds
+use Rattle.exchange.proofs.turning.bytes_to_lines.Reads as lines
+use Rattle.exchange.proofs.turning.lines_to_bytes.Kinds as bytes-kinds
+use Rattle.exchange.proofs.turning.lines_to_bytes.Reads as bytes
+
+-- what stays is as long as it was
+long-as-before : {l l′ : Lists} {out out′ : List ℕ} → l′ ≡ l → out′ ≡ out → SameLengths l l′ × (length out′ ≡ length out)
+long-as-before {l} x y =
+    (subst (SameLengths l) (sym x) (record { kinds = refl; registers = refl; lanes = refl; words = refl }), ap length y)
 
 -- ---- lines to bytes
 module _ {t : List ℕ} {l l′ : Lists} {out out′ : List ℕ} {o : Turned} (p : ToBytes t l out o l′ out′) where
@@ -65,7 +74,14 @@ module _ {t : List ℕ} {l l′ : Lists} {out out′ : List ℕ} {o : Turned} (p
 
   -- With another number than 0 it counts nothing, and leaves every place of the four lists and every byte of the output.
   pub to-bytes-refused : turned-numbers o .number ≢ 0 → (turned-numbers o .count ≡ 0) × (l′ ≡ l) × (out′ ≡ out)
-  to-bytes-refused = all-stays (taking t .entries) (transcript-of (taking t .entries)) o (p .lists) (p .output)
+  to-bytes-refused = go o p
+    where
+      go : (x : Turned) → ToBytes t l out x l′ out′ → turned-numbers x .number ≢ 0 →
+          (turned-numbers x .count ≡ 0) × (l′ ≡ l) × (out′ ≡ out)
+      go (Done n) q d = absurd (d refl)
+      go (BadLine k) q d = (refl, q .lists, q .output)
+      go (Refused n k) q d = (refl, q .lists, q .output)
+      go TooMany q d = (refl, q .lists, q .output)
 
   turned-bytes : {a : Transcribed} → turned-numbers o ≡ a → BytesAs t (size l) (length out) a → a .number ≡ 0 →
       (es : List Entry) × LinesOf t es × AllGood es × TurnedOut es (transcript-of es) l out (turned-numbers o) l′ out′
@@ -83,6 +99,10 @@ module _ {t : List ℕ} {l l′ : Lists} {out out′ : List ℕ} {o : Turned} (p
   to-bytes-done z =
       let k = turned-bytes refl (to-bytes-exactly (turned-numbers o) .0 refl) z in
       (k .0, k .1, k .2, filled (k .3))
+
+  -- What is turned fits the output.
+  pub bytes-fit : {k : ℕ} → o ≡ Done k → k ≤ length out
+  bytes-fit e = bytes-are-done (sym (p .answer) ∙ e) .fits
 
   -- Whatever it answers, each list and the output are as long as they were.
   pub to-bytes-lengths : SameLengths l l′ × (length out′ ≡ length out)
@@ -116,7 +136,14 @@ module _ {s : List ℕ} {l l′ : Lists} {out out′ : List ℕ} {o : Turned} (p
 
   -- With another number than 0 it counts nothing, and leaves every place of the four lists and every byte of the output.
   pub to-lines-refused : turned-numbers o .number ≢ 0 → (turned-numbers o .count ≡ 0) × (l′ ≡ l) × (out′ ≡ out)
-  to-lines-refused = all-stays (entries-read s) (text-of (entries-read s)) o (p .lists) (p .output)
+  to-lines-refused = go o p
+    where
+      go : (x : Turned) → ToLines s l out x l′ out′ → turned-numbers x .number ≢ 0 →
+          (turned-numbers x .count ≡ 0) × (l′ ≡ l) × (out′ ≡ out)
+      go (Done n) q d = absurd (d refl)
+      go (BadLine k) q d = (refl, q .lists, q .output)
+      go (Refused n k) q d = (refl, q .lists, q .output)
+      go TooMany q d = (refl, q .lists, q .output)
 
   turned-lines : {a : Transcribed} → turned-numbers o ≡ a → LinesAs s (size l) (length out) a → a .number ≡ 0 →
       (es : List Entry) × Sound s es × TurnedOut es (text-of es) l out (turned-numbers o) l′ out′
@@ -134,6 +161,10 @@ module _ {s : List ℕ} {l l′ : Lists} {out out′ : List ℕ} {o : Turned} (p
       let k = turned-lines refl (to-lines-exactly (turned-numbers o) .0 refl) z in
       (k .0, k .1, filled (k .2))
 
+  -- What is turned fits the output.
+  pub lines-fit : {k : ℕ} → o ≡ Done k → k ≤ length out
+  lines-fit e = lines-are-done (sym (p .answer) ∙ e) .fits
+
   -- Whatever it answers, each list and the output are as long as they were.
   pub to-lines-lengths : SameLengths l l′ × (length out′ ≡ length out)
   to-lines-lengths =
@@ -142,39 +173,17 @@ module _ {s : List ℕ} {l l′ : Lists} {out out′ : List ℕ} {o : Turned} (p
       (λ d. let k = to-lines-refused d in long-as-before (k .1) (k .2))
       (same-or-not (turned-numbers o .number) 0)
 
--- ---- the contracts themselves: each is a statement on the call's own arguments
--- `lines_to_bytes`: text, kinds, registers, lanes, words, bytes.
-pub lines-to-bytes-contract : Contract lines-to-bytes-kinds.ps lines-to-bytes-kinds.r lines-to-bytes.Pre lines-to-bytes.Post
-    (λ κs args o left.
-    let text = args .0 in
-    let kinds = args .1 .0 in
-    let kinds′ = left .1 .0 in
-    let registers = args .1 .1 .0 in
-    let registers′ = left .1 .1 .0 in
-    let lanes = args .1 .1 .1 .0 in
-    let lanes′ = left .1 .1 .1 .0 in
-    let words = args .1 .1 .1 .1 .0 in
-    let words′ = left .1 .1 .1 .1 .0 in
-    let bytes = args .1 .1 .1 .1 .1 .0 in
-    let bytes′ = left .1 .1 .1 .1 .1 .0 in
-    ToBytes (text .now) (lists (kinds .now) (registers .now) (lanes .now) (words .now)) (bytes .now) o
-    (lists (kinds′ .now) (registers′ .now) (lanes′ .now) (words′ .now)) (bytes′ .now))
-lines-to-bytes-contract = record { takes-any = λ κs args. tt; says = λ κs args o left p. p }
+-- ---- the contracts themselves: `Post` is what the check makes of a function's `ensures`, and the arguments are named by their places
+-- Lines to bytes: the text, the kinds, the registers, the lanes, the words, the bytes.
+pub to-bytes-says : (κs : Lfts 6) (a : Dens κs bytes-kinds.ps) (o : Turned) (s : AtExit (endedOf 6 bytes-kinds.ps bytes-kinds.r) κs) →
+    bytes.Post κs a o s →
+    ToBytes (a .0 .now) (lists (a .1 .0 .now) (a .1 .1 .0 .now) (a .1 .1 .1 .0 .now) (a .1 .1 .1 .1 .0 .now)) (a .1 .1 .1 .1 .1 .0 .now) o
+    (lists (s .1 .0 .now) (s .1 .1 .0 .now) (s .1 .1 .1 .0 .now) (s .1 .1 .1 .1 .0 .now)) (s .1 .1 .1 .1 .1 .0 .now)
+to-bytes-says κs a o s p = p
 
--- `bytes_to_lines`: bytes, kinds, registers, lanes, words, text.
-pub bytes-to-lines-contract : Contract bytes-to-lines-kinds.ps bytes-to-lines-kinds.r bytes-to-lines.Pre bytes-to-lines.Post
-    (λ κs args o left.
-    let bytes = args .0 in
-    let kinds = args .1 .0 in
-    let kinds′ = left .1 .0 in
-    let registers = args .1 .1 .0 in
-    let registers′ = left .1 .1 .0 in
-    let lanes = args .1 .1 .1 .0 in
-    let lanes′ = left .1 .1 .1 .0 in
-    let words = args .1 .1 .1 .1 .0 in
-    let words′ = left .1 .1 .1 .1 .0 in
-    let text = args .1 .1 .1 .1 .1 .0 in
-    let text′ = left .1 .1 .1 .1 .1 .0 in
-    ToLines (bytes .now) (lists (kinds .now) (registers .now) (lanes .now) (words .now)) (text .now) o
-    (lists (kinds′ .now) (registers′ .now) (lanes′ .now) (words′ .now)) (text′ .now))
-bytes-to-lines-contract = record { takes-any = λ κs args. tt; says = λ κs args o left p. p }
+-- Bytes to lines: the bytes, the kinds, the registers, the lanes, the words, the text.
+pub to-lines-says : (κs : Lfts 6) (a : Dens κs lines-kinds.ps) (o : Turned) (s : AtExit (endedOf 6 lines-kinds.ps lines-kinds.r) κs) →
+    lines.Post κs a o s →
+    ToLines (a .0 .now) (lists (a .1 .0 .now) (a .1 .1 .0 .now) (a .1 .1 .1 .0 .now) (a .1 .1 .1 .1 .0 .now)) (a .1 .1 .1 .1 .1 .0 .now) o
+    (lists (s .1 .0 .now) (s .1 .1 .0 .now) (s .1 .1 .1 .0 .now) (s .1 .1 .1 .1 .0 .now)) (s .1 .1 .1 .1 .1 .0 .now)
+to-lines-says κs a o s p = p

@@ -1,6 +1,6 @@
 -- `transcribe::write_bytes` meets its contract: what is written lies in the output.
 use native.Mathlib.Omega.{arith}
-use Rattle.exchange.proofs.Done.{bytes-fit}
+use Rattle.exchange.proofs.Promised.{bytes-fit}
 use borrow.Author.Needs.{needs}
 use Rattle.transcribe.proofs.write_bytes.Statement.{statement}
 use Rattle.transcribe.proofs.write_bytes.Tie as tie

@@ -1,6 +1,6 @@
 -- `transcribe::write_lines` meets its contract: what is written lies in the output.
 use native.Mathlib.Omega.{arith}
-use Rattle.exchange.proofs.Done.{lines-fit}
+use Rattle.exchange.proofs.Promised.{lines-fit}
 use borrow.Author.Needs.{needs}
 use Rattle.transcribe.proofs.write_lines.Statement.{statement}
 use Rattle.transcribe.proofs.write_lines.Tie as tie

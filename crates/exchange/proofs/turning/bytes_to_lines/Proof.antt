@@ -1,6 +1,6 @@
 -- `exchange::turning::bytes_to_lines` meets its contract: by what was judged nothing is changed, or what is read is put as lines.
 use native.Mathlib.Omega.{arith}
-use Rattle.exchange.proofs.Outcomes.{lines-refused, has-read, lines-done}
+use Rattle.exchange.proofs.Results.{lines-refused, has-read, lines-done}
 use borrow.Author.Needs.{needs}
 use Rattle.exchange.proofs.turning.bytes_to_lines.Statement.{statement}
 use Rattle.exchange.proofs.turning.bytes_to_lines.Tie as tie

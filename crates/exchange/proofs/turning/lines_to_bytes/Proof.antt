@@ -1,6 +1,6 @@
 -- `exchange::turning::lines_to_bytes` meets its contract: by what was judged nothing is changed, or what is taken is written.
 use native.Mathlib.Omega.{arith}
-use Rattle.exchange.proofs.Outcomes.{bad-line, no-places, accesses-refused, has-entries, bytes-done}
+use Rattle.exchange.proofs.Results.{bad-line, no-places, accesses-refused, has-entries, bytes-done}
 use borrow.Author.Needs.{needs}
 use Rattle.exchange.proofs.turning.lines_to_bytes.Statement.{statement}
 use Rattle.exchange.proofs.turning.lines_to_bytes.Tie as tie
