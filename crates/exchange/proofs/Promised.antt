@@ -6,10 +6,8 @@ use mathlib.Core.Path.{_≡_, refl, sym, ap, _∙_, subst}
 use mathlib.Core.List.{List}
 use mathlib.Core.Logic.{_⊎_, inl, inr, ⊎-elim, _↔_, _≢_}
 use lib.ListN.{length}
-use borrow.Fn.Kinds.{Dens, endedOf}
-use contract.Lifetimes.{Lfts}
-use denote.Triple.Clauses.{AtExit}
 use Rattle.words.proofs.Choices.{same-or-not}
+use Rattle.words.proofs.Contracts.{Contract}
 use Rattle.transcript_bytes.specs.Format.{transcript-of}
 use Rattle.transcript_bytes.specs.InPlainWords.{AllGood, Sound}
 use Rattle.transcript_bytes.specs.Lists.{Lists, lists, size}
@@ -32,10 +30,10 @@ use Rattle.exchange.proofs.Done.{bytes-are-done, lines-are-done}
 use Rattle.exchange.proofs.Entries.{entry-range}
 use Rattle.exchange.proofs.Exactly.{bytes-exactly, bytes-case, lines-exactly, lines-case}
 use Rattle.exchange.proofs.Left.{TurnedOut, turned-out, filled, still-long}
-use Rattle.exchange.proofs.turning.bytes_to_lines.Kinds as lines-kinds
-use Rattle.exchange.proofs.turning.bytes_to_lines.Reads as lines
-use Rattle.exchange.proofs.turning.lines_to_bytes.Kinds as bytes-kinds
-use Rattle.exchange.proofs.turning.lines_to_bytes.Reads as bytes
+use Rattle.exchange.proofs.turning.lines_to_bytes.Kinds as lines-to-bytes-kinds
+use Rattle.exchange.proofs.turning.lines_to_bytes.Reads as lines-to-bytes
+use Rattle.exchange.proofs.turning.bytes_to_lines.Kinds as bytes-to-lines-kinds
+use Rattle.exchange.proofs.turning.bytes_to_lines.Reads as bytes-to-lines
 
 -- what stays is as long as it was
 long-as-before : {l l′ : Lists} {out out′ : List ℕ} → l′ ≡ l → out′ ≡ out → SameLengths l l′ × (length out′ ≡ length out)
@@ -173,17 +171,39 @@ module _ {s : List ℕ} {l l′ : Lists} {out out′ : List ℕ} {o : Turned} (p
       (λ d. let k = to-lines-refused d in long-as-before (k .1) (k .2))
       (same-or-not (turned-numbers o .number) 0)
 
--- ---- the contracts themselves: `Post` is what the check makes of a function's `ensures`, and the arguments are named by their places
--- Lines to bytes: the text, the kinds, the registers, the lanes, the words, the bytes.
-pub to-bytes-says : (κs : Lfts 6) (a : Dens κs bytes-kinds.ps) (o : Turned) (s : AtExit (endedOf 6 bytes-kinds.ps bytes-kinds.r) κs) →
-    bytes.Post κs a o s →
-    ToBytes (a .0 .now) (lists (a .1 .0 .now) (a .1 .1 .0 .now) (a .1 .1 .1 .0 .now) (a .1 .1 .1 .1 .0 .now)) (a .1 .1 .1 .1 .1 .0 .now) o
-    (lists (s .1 .0 .now) (s .1 .1 .0 .now) (s .1 .1 .1 .0 .now) (s .1 .1 .1 .1 .0 .now)) (s .1 .1 .1 .1 .1 .0 .now)
-to-bytes-says κs a o s p = p
+-- ---- the contracts themselves: each is a statement on the call's own arguments
+-- `lines_to_bytes`: text, kinds, registers, lanes, words, bytes.
+pub lines-to-bytes-contract : Contract lines-to-bytes-kinds.ps lines-to-bytes-kinds.r lines-to-bytes.Pre lines-to-bytes.Post
+    (λ κs args o left.
+    let text = args .0 in
+    let kinds = args .1 .0 in
+    let kinds′ = left .1 .0 in
+    let registers = args .1 .1 .0 in
+    let registers′ = left .1 .1 .0 in
+    let lanes = args .1 .1 .1 .0 in
+    let lanes′ = left .1 .1 .1 .0 in
+    let words = args .1 .1 .1 .1 .0 in
+    let words′ = left .1 .1 .1 .1 .0 in
+    let bytes = args .1 .1 .1 .1 .1 .0 in
+    let bytes′ = left .1 .1 .1 .1 .1 .0 in
+    ToBytes (text .now) (lists (kinds .now) (registers .now) (lanes .now) (words .now)) (bytes .now) o
+    (lists (kinds′ .now) (registers′ .now) (lanes′ .now) (words′ .now)) (bytes′ .now))
+lines-to-bytes-contract = record { takes-any = λ κs args. tt; says = λ κs args o left p. p }
 
--- Bytes to lines: the bytes, the kinds, the registers, the lanes, the words, the text.
-pub to-lines-says : (κs : Lfts 6) (a : Dens κs lines-kinds.ps) (o : Turned) (s : AtExit (endedOf 6 lines-kinds.ps lines-kinds.r) κs) →
-    lines.Post κs a o s →
-    ToLines (a .0 .now) (lists (a .1 .0 .now) (a .1 .1 .0 .now) (a .1 .1 .1 .0 .now) (a .1 .1 .1 .1 .0 .now)) (a .1 .1 .1 .1 .1 .0 .now) o
-    (lists (s .1 .0 .now) (s .1 .1 .0 .now) (s .1 .1 .1 .0 .now) (s .1 .1 .1 .1 .0 .now)) (s .1 .1 .1 .1 .1 .0 .now)
-to-lines-says κs a o s p = p
+-- `bytes_to_lines`: bytes, kinds, registers, lanes, words, text.
+pub bytes-to-lines-contract : Contract bytes-to-lines-kinds.ps bytes-to-lines-kinds.r bytes-to-lines.Pre bytes-to-lines.Post
+    (λ κs args o left.
+    let bytes = args .0 in
+    let kinds = args .1 .0 in
+    let kinds′ = left .1 .0 in
+    let registers = args .1 .1 .0 in
+    let registers′ = left .1 .1 .0 in
+    let lanes = args .1 .1 .1 .0 in
+    let lanes′ = left .1 .1 .1 .0 in
+    let words = args .1 .1 .1 .1 .0 in
+    let words′ = left .1 .1 .1 .1 .0 in
+    let text = args .1 .1 .1 .1 .1 .0 in
+    let text′ = left .1 .1 .1 .1 .1 .0 in
+    ToLines (bytes .now) (lists (kinds .now) (registers .now) (lanes .now) (words .now)) (text .now) o
+    (lists (kinds′ .now) (registers′ .now) (lanes′ .now) (words′ .now)) (text′ .now))
+bytes-to-lines-contract = record { takes-any = λ κs args. tt; says = λ κs args o left p. p }
