@@ -1,4 +1,5 @@
--- What becomes of entries that are written: where all are good, their records fit the output or do not; else the first bad one is refused.
+-- What becomes of entries that are written: where all are good, their records fit the output or do not; else the first bad one is
+-- refused, and with which numbers where lines say them.
 use Prim.Native.Nat.{ℕ, _+_, _≤_}
 use native.Mathlib.Omega.{arith}
 use mathlib.Core.Path.{_≡_, refl, ap, _∙_}
@@ -10,12 +11,16 @@ use lib.ListN.{length, length-append}
 use borrow.Author.Tests.{ne-eqb}
 use Rattle.transcript_bytes.specs.Format.{record-of, transcript-of}
 use Rattle.transcript_bytes.specs.InPlainWords.{Good, AllGood, BadEntry}
+use Rattle.transcript_bytes.specs.InPlainWords as plain
 use Rattle.transcript_bytes.specs.Writing.{refused, accepted, write-answer}
 use Rattle.transcript_bytes.specs.Writing as writer
 use Rattle.transcript_bytes.specs.declared.Entry.{Entry}
 use Rattle.transcript_bytes.specs.declared.Transcribed.{Transcribed}
 use Rattle.transcript_bytes.proofs.BadNumbers.{entry-number}
 use Rattle.transcript_bytes.proofs.WrittenExactly.{none-bad, finds-bad}
+use Rattle.transcript_lines.specs.InPlainWords.{Says}
+use Rattle.transcript_lines.specs.Lines.{unsayable, AllSayable}
+use Rattle.transcript_lines.proofs.Sayable.{sayable-when}
 use Rattle.exchange.specs.Turning.{by-answer, written, fitting}
 use Rattle.exchange.specs.declared.Turned.the-variants.{Done, Refused, TooMany}
 
@@ -66,3 +71,19 @@ bad-written xs ys e n room g b =
     let r = entry-range b in
     ap (λ (a : Transcribed). by-answer a (Done (a .count))) (finds-bad 0 xs ys e n _ g b)
     ∙ rw (ne-eqb n 0 (λ z. omega (arith, z, r .0)), ne-eqb n 24 (λ z. omega (arith, z, r .1))) (ap (Refused n) (omega arith))
+
+-- ---- entries that lines say
+one-of-them : (xs ys : List Entry) (e : Entry) → AllSayable (xs ++ (e ∷ ys)) → unsayable e ≡ false
+one-of-them [] ys e h = h .0
+one-of-them (x ∷ xs) ys e h = one-of-them xs ys e (h .1)
+
+of-says : {e : Entry} {n : ℕ} → Says e → BadEntry e n → (n ≡ 2) ⊎ (n ≡ 3)
+of-says s (plain.BadEntry.no-register h) = inl refl
+of-says s (plain.BadEntry.no-lanes r o) = inr refl
+of-says s (plain.BadEntry.long-word r a l h) = absurd (omega (arith, h, s .word))
+of-says s (plain.BadEntry.no-kind r a l h) = absurd (omega (arith, h, s .kind))
+of-says s (plain.BadEntry.read-with-word r a l z d) = absurd (d (s .of-read z))
+
+-- A bad one among them is refused with 2 or 3: a line has a kind, and no word that is too long.
+pub line-refusal : (xs ys : List Entry) {e : Entry} {n : ℕ} → AllSayable (xs ++ (e ∷ ys)) → BadEntry e n → (n ≡ 2) ⊎ (n ≡ 3)
+line-refusal xs ys {e} h b = of-says (sayable-when e .0 (one-of-them xs ys e h)) b

@@ -14,10 +14,10 @@ use Rattle.transcript_bytes.specs.Lists.{Lists, lists, size}
 use Rattle.transcript_bytes.specs.Reading.{entries-read}
 use Rattle.transcript_bytes.specs.declared.Entry.{Entry}
 use Rattle.transcript_bytes.specs.declared.Transcribed.{Transcribed}
-use Rattle.transcript_bytes.proofs.BadNumbers.{record-number, entry-number}
+use Rattle.transcript_bytes.proofs.BadNumbers.{record-number}
 use Rattle.transcript_bytes.proofs.Filled.{SameLengths}
 use Rattle.transcript_bytes.proofs.ReadExactly.{sound-exactly}
-use Rattle.transcript_lines.specs.Lines.{text-of}
+use Rattle.transcript_lines.specs.Lines.{text-of, AllSayable}
 use Rattle.transcript_lines.specs.Taking.{Taking, taking}
 use Rattle.transcript_lines.proofs.TakenLines.{taken-back}
 use Rattle.exchange.specs.InNumbers.{turned-numbers, case-of}
@@ -27,7 +27,7 @@ use Rattle.exchange.specs.Turning.{ToBytes, ToLines}
 use Rattle.exchange.specs.declared.Turned.{Turned}
 use Rattle.exchange.specs.declared.Turned.the-variants.{Done, BadLine, Refused, TooMany}
 use Rattle.exchange.proofs.Done.{bytes-are-done, lines-are-done}
-use Rattle.exchange.proofs.Entries.{entry-range}
+use Rattle.exchange.proofs.Entries.{entry-range, line-refusal}
 use Rattle.exchange.proofs.Exactly.{bytes-exactly, bytes-case, lines-exactly, lines-case}
 use Rattle.exchange.proofs.Left.{TurnedOut, turned-out, filled, still-long}
 use Rattle.exchange.proofs.turning.lines_to_bytes.Kinds as lines-to-bytes-kinds
@@ -52,22 +52,20 @@ module _ {t : List ℕ} {l l′ : Lists} {out out′ : List ℕ} {o : Turned} (p
   pub to-bytes-case : o ≡ case-of (turned-numbers o)
   to-bytes-case = subst (λ (x : Turned). x ≡ case-of (turned-numbers x)) (sym (p .answer)) (bytes-case t (size l) (length out))
 
-  -- Its number is 0, 2, 3, 22, 24 or 27.
-  pub to-bytes-number : let n = turned-numbers o .number in
-      (n ≡ 0) ⊎ ((n ≡ 2) ⊎ ((n ≡ 3) ⊎ ((n ≡ 22) ⊎ ((n ≡ 24) ⊎ (n ≡ 27)))))
+  -- Its number is 0, 2, 3, 24 or 27.
+  pub to-bytes-number : let n = turned-numbers o .number in (n ≡ 0) ⊎ ((n ≡ 2) ⊎ ((n ≡ 3) ⊎ ((n ≡ 24) ⊎ (n ≡ 27))))
   to-bytes-number = go (to-bytes-exactly (turned-numbers o) .0 refl)
     where
-      of-entry : {n : ℕ} → (n ≡ 2) ⊎ ((n ≡ 3) ⊎ (n ≡ 22)) → (n ≡ 0) ⊎ ((n ≡ 2) ⊎ ((n ≡ 3) ⊎ ((n ≡ 22) ⊎ ((n ≡ 24) ⊎ (n ≡ 27)))))
+      of-entry : {n : ℕ} → (n ≡ 2) ⊎ (n ≡ 3) → (n ≡ 0) ⊎ ((n ≡ 2) ⊎ ((n ≡ 3) ⊎ ((n ≡ 24) ⊎ (n ≡ 27))))
       of-entry (inl e) = inr (inl e)
-      of-entry (inr (inl e)) = inr (inr (inl e))
-      of-entry (inr (inr e)) = inr (inr (inr (inl e)))
+      of-entry (inr e) = inr (inr (inl e))
 
       go : {a : Transcribed} → BytesAs t (size l) (length out) a → let n = a .number in
-          (n ≡ 0) ⊎ ((n ≡ 2) ⊎ ((n ≡ 3) ⊎ ((n ≡ 22) ⊎ ((n ≡ 24) ⊎ (n ≡ 27)))))
-      go (plain.BytesAs.bad-line b) = inr (inr (inr (inr (inr refl))))
-      go (plain.BytesAs.no-places x h) = inr (inr (inr (inr (inl refl))))
-      go (plain.BytesAs.no-record xs ys x h is g b) = of-entry (entry-number b)
-      go (plain.BytesAs.no-room x h g k) = inr (inr (inr (inr (inl refl))))
+          (n ≡ 0) ⊎ ((n ≡ 2) ⊎ ((n ≡ 3) ⊎ ((n ≡ 24) ⊎ (n ≡ 27))))
+      go (plain.BytesAs.bad-line b) = inr (inr (inr (inr refl)))
+      go (plain.BytesAs.no-places x h) = inr (inr (inr (inl refl)))
+      go (plain.BytesAs.no-record xs ys x h is g b) = of-entry (line-refusal xs ys (subst AllSayable is (x .says)) b)
+      go (plain.BytesAs.no-room x h g k) = inr (inr (inr (inl refl)))
       go (plain.BytesAs.done x h g k) = inl refl
 
   -- With another number than 0 it counts nothing, and leaves every place of the four lists and every byte of the output.

@@ -77,8 +77,8 @@ returns-2 c =
     let good = judged .before .before in
     let lines = good .before .before in
     let first = lines .before in
-    accesses-refused _ _ _ (first .shortest .ensures) (lines .judge-lines .ensures) (good .taken .given .1) (judged .judge-accesses .ensures)
-    (c .match2 .keys2)
+    accesses-refused _ _ _ (first .shortest .ensures) (lines .judge-lines .ensures) (good .taken .given .1)
+    (judged .judge-accesses .ensures) (c .match2 .keys2)
 
 returns-3 : tie.Need-returns-3
 returns-3 c =
