@@ -26,7 +26,6 @@ use Rattle.exchange.specs.InPlainWords as plain
 use Rattle.exchange.specs.Turning.{ToBytes, ToLines}
 use Rattle.exchange.specs.declared.Turned.{Turned}
 use Rattle.exchange.specs.declared.Turned.the-variants.{Done, BadLine, Refused, TooMany}
-use Rattle.exchange.proofs.Done.{bytes-are-done, lines-are-done}
 use Rattle.exchange.proofs.Entries.{entry-range, line-refusal}
 use Rattle.exchange.proofs.Exactly.{bytes-exactly, bytes-case, lines-exactly, lines-case}
 use Rattle.exchange.proofs.Left.{TurnedOut, turned-out, filled, still-long}
@@ -98,7 +97,9 @@ module _ {t : List ℕ} {l l′ : Lists} {out out′ : List ℕ} {o : Turned} (p
 
   -- What is turned fits the output.
   pub bytes-fit : {k : ℕ} → o ≡ Done k → k ≤ length out
-  bytes-fit e = bytes-are-done (sym (p .answer) ∙ e) .fits
+  bytes-fit e =
+      let d = to-bytes-done (ap (λ (x : Turned). turned-numbers x .number) e) in
+      omega (arith, d .3 .fits, ap (λ (x : Turned). turned-numbers x .count) e)
 
   -- Whatever it answers, each list and the output are as long as they were.
   pub to-bytes-lengths : SameLengths l l′ × (length out′ ≡ length out)
@@ -159,7 +160,9 @@ module _ {s : List ℕ} {l l′ : Lists} {out out′ : List ℕ} {o : Turned} (p
 
   -- What is turned fits the output.
   pub lines-fit : {k : ℕ} → o ≡ Done k → k ≤ length out
-  lines-fit e = lines-are-done (sym (p .answer) ∙ e) .fits
+  lines-fit e =
+      let d = to-lines-done (ap (λ (x : Turned). turned-numbers x .number) e) in
+      omega (arith, d .2 .fits, ap (λ (x : Turned). turned-numbers x .count) e)
 
   -- Whatever it answers, each list and the output are as long as they were.
   pub to-lines-lengths : SameLengths l l′ × (length out′ ≡ length out)
