@@ -5,7 +5,7 @@
 --   same-..              what two equal lines say is equal
 use Prim.Native.Nat.{ℕ}
 use mathlib.Core.Path.{_≡_, ap, sym, _∙_}
-use mathlib.Core.List.{List, [], _∷_, map}
+use mathlib.Core.List.{List, [], map}
 use lib.ListN.{getD, List·getD-map}
 use Rattle.port.specs.Deeds.{woken}
 use Rattle.port.specs.declared.Answer.{Answer}

@@ -1,5 +1,4 @@
 // Lines to bytes and bytes to lines, by way of the four lists: the input is judged first, and then lists and output are filled.
-ghost use mathlib.Core.Path.{_≡_};
 ghost use Prim.Native.Nat.{_≤_};
 ghost use Rattle.transcript_bytes.specs.InPlainWords.{first-places};
 ghost use Rattle.transcript_bytes.specs.Lists.{lists, size};

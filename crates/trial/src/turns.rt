@@ -1,5 +1,4 @@
 // Reading the script and printing the answers, a buffer at a time.
-ghost use mathlib.Core.Path.{_≡_};
 ghost use Prim.Native.Nat.{_*_, _/_, _≤_};
 ghost use lib.ListN.{length};
 ghost use Rattle.trial.specs.Runs.{world, RanLines, TookTurn};

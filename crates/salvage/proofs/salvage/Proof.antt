@@ -1,6 +1,6 @@
 -- `salvage::salvage` meets its contract: at each turn what stands between two turns holds (`Going`), and the turns that are left fall.
 use native.Mathlib.Omega.{arith}
-use mathlib.Core.Path.{_≡_, sym, _∙_}
+use mathlib.Core.Path.{sym, _∙_}
 use lib.Seq.{length-take-le}
 use Rattle.salvage.proofs.Going.{Going, nothing-yet, ready, goes-on, can-say, tells}
 use Rattle.salvage.proofs.salvage.Statement.{statement}
