@@ -1,5 +1,5 @@
 -- How many bytes of an input surely have room for their answers.
-use Prim.Native.Nat.{ℕ, _*_, _-_, _≤_, _<_}
+use Prim.Native.Nat.{ℕ, _+_, _*_, _-_, _≤_, _<_}
 use native.Mathlib.Omega.{arith}
 use mathlib.Core.Path.{_≡_, refl, sym, ap, _∙_}
 use mathlib.Core.List.{List}
@@ -42,3 +42,7 @@ taken-is n l = go (less-or-not n (length l))
 -- The room that they surely have.
 pub fits : (room : ℕ) → 10 * fitting room ≤ 3 * (room - 9)
 fits room = omega arith
+
+-- Three bytes more would not surely have it.
+pub three-more : (room : ℕ) → 3 * (room - 9) < 10 * (fitting room + 3)
+three-more room = omega arith
