@@ -1,7 +1,8 @@
 -- What the contracts of the calls say, taken from the contracts themselves (`Contract`): each is a statement on the call's own arguments.
 use Prim.Native.Nat.{_≤_}
 use mathlib.Core.Path.{_≡_}
-use Rattle.script.specs.Script.{bus-letter, field-letter, host-letter, in-place-letter, line-in, plain-letter, processor-letter, whole-letter}
+use Rattle.script.specs.Script.{bus-letter, field-letter, host-letter, in-place-letter, line-in}
+use Rattle.script.specs.Script.{plain-letter, processor-letter, whole-letter}
 use Rattle.script.specs.Answers.{counted, with-line}
 use Rattle.words.proofs.Contracts.{Contract}
 use Rattle.script.proofs.letters.is_in_place_letter.Kinds as is-in-place-letter-kinds

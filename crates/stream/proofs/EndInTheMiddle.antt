@@ -6,7 +6,8 @@ use mathlib.Core.Bool.{true, cond}
 use mathlib.Core.List.{List, [], _∷_, _++_}
 use Rattle.transcript_bytes.specs.Reading.{entries-read}
 use Rattle.transcript_bytes.specs.declared.Entry.{Entry}
-use Rattle.stream.specs.AnyCalls.{Deed, delivery, end, Did, nothing, then-delivery, then-end, handed-by, answers-by, before-the-end, HasEnd}
+use Rattle.stream.specs.AnyCalls.{Deed, delivery, end, Did, nothing, then-delivery, then-end}
+use Rattle.stream.specs.AnyCalls.{handed-by, answers-by, before-the-end, HasEnd}
 use Rattle.stream.specs.InPlainWords.{answer, handed, Took, none, and-then, joined, handed-out, answers-of}
 use Rattle.stream.specs.InPlainWords.{Verdict, of-a-record, verdict-of, read-verdict}
 use Rattle.stream.specs.Stream.{fresh-stream, end-answer}
