@@ -6,6 +6,7 @@ pub mod Digits
 pub mod Lanes
 pub mod ByBytes
 pub mod MemoryWords
+pub mod OfWidth
 pub mod Lent
 pub mod One
 pub mod Contracts
