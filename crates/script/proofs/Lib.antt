@@ -1,3 +1,4 @@
 pub mod Laying
 pub mod Shapes
+pub mod Examples
 pub mod Promised
