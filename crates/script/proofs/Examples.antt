@@ -42,7 +42,8 @@ pub record Letters : Type 0 where
   -- F, H, I, K, O, R, S, T, W
   pub lent : which lent-letter 256 ≡ 70 ∷ 72 ∷ 73 ∷ 75 ∷ 79 ∷ 82 ∷ 83 ∷ 84 ∷ 87 ∷ []
   -- A, B, C, D, F, G, H, I, J, K, L, M, N, O, P, Q, R, S, T, W, Z
-  pub all-known : which known 256 ≡ 65 ∷ 66 ∷ 67 ∷ 68 ∷ 70 ∷ 71 ∷ 72 ∷ 73 ∷ 74 ∷ 75 ∷ 76 ∷ 77 ∷ 78 ∷ 79 ∷ 80 ∷ 81 ∷ 82 ∷ 83 ∷ 84 ∷ 87 ∷ 90 ∷ []
+  pub all-known : which known 256 ≡
+      65 ∷ 66 ∷ 67 ∷ 68 ∷ 70 ∷ 71 ∷ 72 ∷ 73 ∷ 74 ∷ 75 ∷ 76 ∷ 77 ∷ 78 ∷ 79 ∷ 80 ∷ 81 ∷ 82 ∷ 83 ∷ 84 ∷ 87 ∷ 90 ∷ []
 
 -- They are these bytes, and no others.
 pub letters : Letters
