@@ -66,15 +66,15 @@ letters =
     }
 
 -- ---- a line of a script
---   W 00000002 00000003 89ABCDEF 01234567
+--   W 7A6B5C4D 3E2F1098 89ABCDEF 01234567
 abbrev line : List ℕ
 line =
-    87 ∷ 32 ∷ 48 ∷ 48 ∷ 48 ∷ 48 ∷ 48 ∷ 48 ∷ 48 ∷ 50 ∷ 32 ∷ 48 ∷ 48 ∷ 48 ∷ 48 ∷ 48 ∷ 48 ∷ 48 ∷ 51 ∷
+    87 ∷ 32 ∷ 55 ∷ 65 ∷ 54 ∷ 66 ∷ 53 ∷ 67 ∷ 52 ∷ 68 ∷ 32 ∷ 51 ∷ 69 ∷ 50 ∷ 70 ∷ 49 ∷ 48 ∷ 57 ∷ 56 ∷
     32 ∷ 56 ∷ 57 ∷ 65 ∷ 66 ∷ 67 ∷ 68 ∷ 69 ∷ 70 ∷ 32 ∷ 48 ∷ 49 ∷ 50 ∷ 51 ∷ 52 ∷ 53 ∷ 54 ∷ 55 ∷ 10 ∷
     []
 
 -- "a letter, then four numbers a, b, c and d"
-pub says-its-call : line-in line ≡ Good (record { letter = 87; a = 2; b = 3; c = 0x89ABCDEF; d = 0x01234567 })
+pub says-its-call : line-in line ≡ Good (record { letter = 87; a = 0x7A6B5C4D; b = 0x3E2F1098; c = 0x89ABCDEF; d = 0x01234567 })
 unfolding
     line-in is-call shaped has-number digits-from number-from call-in known plain-letter whole-letter lent-letter
     host-letter in-place-letter processor-letter field-letter bus-letter block-letter setting-letter is-decimal value-of
@@ -122,14 +122,14 @@ done =
           };
       number = 10;
       x = 0x89ABCDEF;
-      y = 18;
+      y = 0x3E2F1098;
     }
 
---   W 0A 89ABCDEF 00000012 0007FFF0 1234 9C00 1 09
+--   W 0A 89ABCDEF 3E2F1098 0007FFF0 1234 9C00 1 09
 abbrev answer : List ℕ
 answer =
-    87 ∷ 32 ∷ 48 ∷ 65 ∷ 32 ∷ 56 ∷ 57 ∷ 65 ∷ 66 ∷ 67 ∷ 68 ∷ 69 ∷ 70 ∷ 32 ∷ 48 ∷ 48 ∷ 48 ∷ 48 ∷ 48 ∷
-    48 ∷ 49 ∷ 50 ∷ 32 ∷ 48 ∷ 48 ∷ 48 ∷ 55 ∷ 70 ∷ 70 ∷ 70 ∷ 48 ∷ 32 ∷ 49 ∷ 50 ∷ 51 ∷ 52 ∷ 32 ∷ 57 ∷
+    87 ∷ 32 ∷ 48 ∷ 65 ∷ 32 ∷ 56 ∷ 57 ∷ 65 ∷ 66 ∷ 67 ∷ 68 ∷ 69 ∷ 70 ∷ 32 ∷ 51 ∷ 69 ∷ 50 ∷ 70 ∷ 49 ∷
+    48 ∷ 57 ∷ 56 ∷ 32 ∷ 48 ∷ 48 ∷ 48 ∷ 55 ∷ 70 ∷ 70 ∷ 70 ∷ 48 ∷ 32 ∷ 49 ∷ 50 ∷ 51 ∷ 52 ∷ 32 ∷ 57 ∷
     67 ∷ 48 ∷ 48 ∷ 32 ∷ 49 ∷ 32 ∷ 48 ∷ 57 ∷ 10 ∷
     []
 
