@@ -1,10 +1,11 @@
 -- Lines of a script and of answers, by computation: which of the 256 bytes are letters, and of what; a line in which each number has its
--- own digits, and what it is no more when a byte of it changes; an answer whose parts are all different.
+-- own digits, and six bad ones that differ from it in one byte or in their length; an answer whose parts are all different.
 use Prim.Native.Nat.{ℕ, zero, suc}
-use mathlib.Core.Path.{_≡_, refl}
+use mathlib.Core.Path.{_≡_, refl, ap}
 use mathlib.Core.Bool.{Bool, true, false, cond}
 use mathlib.Core.List.{List, [], _∷_, _++_}
-use lib.ListN.{set, replicate, take}
+use lib.Dec.{eqb}
+use lib.ListN.{length, set, replicate, take}
 use Rattle.digits.specs.Digits.{is-decimal, value-of, digit-for}
 use Rattle.bus.specs.declared.Bus.{Bus}
 use Rattle.script.specs.Answers.{digits, bus-number, state-text, line-of, with-line}
@@ -135,8 +136,8 @@ answer =
 
 -- "a line of exactly 47 bytes for each call": it fills a place of 47 bytes, whatever stood there, and leaves one of 46 or 48.
 pub prints-its-answer :
-    (with-line (replicate 47 0) 87 done ≡ answer)
+    ((l : List ℕ) → length l ≡ 47 → with-line l 87 done ≡ answer)
     × (with-line (replicate 46 0) 87 done ≡ replicate 46 0)
     × (with-line (replicate 48 0) 87 done ≡ replicate 48 0)
 unfolding with-line line-of state-text digits digit-for bus-number
-prints-its-answer = (refl, refl, refl)
+prints-its-answer = (λ l e. ap (λ (n : ℕ). cond (eqb n 47) answer l) e, refl, refl)

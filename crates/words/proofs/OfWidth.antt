@@ -15,7 +15,7 @@ one-more-below n x l = (λ h. (h 0, λ k. h (suc k)), both)
     both p zero = p .0
     both p (suc k) = p .1 k
 
--- No numbers at all are bytes.
+-- The empty list is bytes.
 pub no-bytes : AreBytes []
 no-bytes k = omega arith
 
@@ -23,7 +23,7 @@ no-bytes k = omega arith
 pub bytes-exactly : (x : ℕ) (l : List ℕ) → AreBytes (x ∷ l) ↔ ((x < 256) × AreBytes l)
 bytes-exactly = one-more-below 256
 
--- No numbers at all are words.
+-- The empty list is words.
 pub no-words : AreWords []
 no-words k = omega arith
 
