@@ -1,8 +1,8 @@
 // A call, and the line that it prints.
 ghost use mathlib.Core.Path.{_≡_};
-ghost use Rattle.bank_bits.specs.Access.{read-answer, write-answer};
-use bank_bits::BankPort;
-use bank_bits::Banks;
+ghost use Rattle.bank_spec.specs.Access.{read-answer, write-answer};
+use bank_spec::BankPort;
+use bank_spec::Banks;
 use words::BitAddress;
 
 fn print_access(name: &[u8], index: u32, lanes: u32) {
@@ -30,7 +30,7 @@ fn print_word(word: u16) {
 pub(crate) fn read(p: BankPort, lanes: u32) -> BankPort
     ensures { λ r. ⌜ r ≡ read-answer p lanes .port ⌝ }
 {
-    let o = banks::read_bank_port(p, lanes);
+    let o = bank::read_bank_port(p, lanes);
     let q = o.port;
     print_access(b"read", p.index, lanes);
     print_word(o.word);
@@ -50,7 +50,7 @@ pub(crate) fn read_row(p: BankPort, times: u32) {
 pub(crate) fn write(p: BankPort, lanes: u32, word: u16) -> BankPort
     ensures { λ r. ⌜ r ≡ write-answer p lanes word .port ⌝ }
 {
-    let o = banks::write_bank_port(p, lanes, word);
+    let o = bank::write_bank_port(p, lanes, word);
     let q = o.port;
     print_access(b"write", p.index, lanes);
     print_word(word);
@@ -66,7 +66,7 @@ fn print_bank(selected: bool, name: &[u8]) {
 
 // A decode: the banks that it shows.
 pub(crate) fn decode(b: Banks, control: u16, address: u32, kind: u32) {
-    let o = banks::decode(b, control, BitAddress(address), kind);
+    let o = bank::decode(b, control, BitAddress(address), kind);
     io::write_all(1, b"decode ");
     io::print_hex(1, address as u64, 8);
     io::write_all(1, b" kind ");

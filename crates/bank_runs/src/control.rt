@@ -1,7 +1,7 @@
 // The control word: special cycles, refresh by each setting of RM, what plays no part, and kinds that are unknown.
 use crate::calling::decode;
-use bank_bits::Bank;
-use bank_bits::Banks;
+use bank_spec::Bank;
+use bank_spec::Banks;
 
 // BVEN admits special cycles: bit 12 for bank 0.
 fn run_special(b: Banks) {

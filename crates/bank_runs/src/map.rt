@@ -3,9 +3,9 @@
 use crate::calling::decode;
 use crate::calling::read_row;
 use crate::calling::write;
-use bank_bits::Bank;
-use bank_bits::BankPort;
-use bank_bits::Banks;
+use bank_spec::Bank;
+use bank_spec::BankPort;
+use bank_spec::Banks;
 
 // BKAD0L, BKAD0H to BKAD3L, BKAD3H, then BKMSK0L, BKMSK0H to BKMSK3L, BKMSK3H.
 const HALVES: [u16; 16] = [

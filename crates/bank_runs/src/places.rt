@@ -2,9 +2,9 @@
 use crate::calling::read;
 use crate::calling::read_row;
 use crate::calling::write;
-use bank_bits::Bank;
-use bank_bits::BankPort;
-use bank_bits::Banks;
+use bank_spec::Bank;
+use bank_spec::BankPort;
+use bank_spec::Banks;
 
 // Seven reads, from place 13 over the end.
 fn run_over_the_end(banks: Banks) {

@@ -4,8 +4,8 @@ use native.Mathlib.Omega.{arith}
 use mathlib.Core.Path.{_≡_, refl}
 use mathlib.Core.Bool.{Bool, true, false, cond}
 use Rattle.words.specs.Bytes.{bit}
-use Rattle.bank_bits.specs.Decode.{decoded-as}
-use Rattle.bank_bits.specs.declared.Decoded.{Decoded}
+use Rattle.bank_spec.specs.Decode.{decoded-as}
+use Rattle.bank_spec.specs.declared.Decoded.{Decoded}
 use Rattle.bank_trial.specs.Selected.{digit}
 
 -- the answer that has this number and shows the banks of this digit

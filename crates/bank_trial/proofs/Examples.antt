@@ -6,10 +6,10 @@ use mathlib.Core.Bool.{Bool, true, false}
 use mathlib.Core.List.{List, [], _∷_, _++_}
 use Rattle.words.specs.Addresses.{address}
 use Rattle.words.specs.Bytes.{bit, are-lanes}
-use Rattle.bank_bits.specs.Registers.{bank, bank-at, with-bank, half, with-half, value-of, with-value, half-at, with-half-at}
-use Rattle.bank_bits.specs.Access.{port, refusal, read-answer, write-answer}
-use Rattle.bank_bits.specs.Decode.{agrees-at, agrees-below, agrees, in-turn, admits, selects, decoded-as, decoded}
-use Rattle.bank_bits.specs.declared.BankPort.{BankPort}
+use Rattle.bank_spec.specs.Registers.{bank, bank-at, with-bank, half, with-half, value-of, with-value, half-at, with-half-at}
+use Rattle.bank_spec.specs.Access.{port, refusal, read-answer, write-answer}
+use Rattle.bank_spec.specs.Decode.{agrees-at, agrees-below, agrees, in-turn, admits, selects, decoded-as, decoded}
+use Rattle.bank_spec.specs.declared.BankPort.{BankPort}
 use Rattle.bank_trial.specs.Record.{starts, reads, writes, number-in, banks, port-in, word-in, address-in, control-in, zeroed}
 use Rattle.bank_trial.specs.Selected.{digit}
 use Rattle.bank_trial.specs.Carried.{left, decoded-by, carried}

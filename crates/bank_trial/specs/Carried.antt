@@ -8,11 +8,11 @@
 use Prim.Native.Nat.{ℕ}
 use mathlib.Core.Bool.{cond}
 use mathlib.Core.List.{List}
-use Rattle.bank_bits.specs.Access.{read-answer, write-answer}
-use Rattle.bank_bits.specs.Decode.{decoded}
-use Rattle.bank_bits.specs.declared.BankPort.{BankPort}
-use Rattle.bank_bits.specs.declared.BankAnswer.{BankAnswer}
-use Rattle.bank_bits.specs.declared.Decoded.{Decoded}
+use Rattle.bank_spec.specs.Access.{read-answer, write-answer}
+use Rattle.bank_spec.specs.Decode.{decoded}
+use Rattle.bank_spec.specs.declared.BankPort.{BankPort}
+use Rattle.bank_spec.specs.declared.BankAnswer.{BankAnswer}
+use Rattle.bank_spec.specs.declared.Decoded.{Decoded}
 use Rattle.bank_trial.specs.Record.{starts, reads, writes, number-in, port-in, word-in, address-in, control-in}
 use Rattle.bank_trial.specs.Selected.{digit}
 use Rattle.bank_trial.specs.declared.carrying.Left.{Left}

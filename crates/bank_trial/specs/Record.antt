@@ -20,11 +20,11 @@ use lib.Dec.{eqb}
 use lib.ListN.{getD}
 use Rattle.words.specs.Addresses.{address}
 use Rattle.words.specs.declared.BitAddress.{BitAddress}
-use Rattle.bank_bits.specs.Registers.{bank}
-use Rattle.bank_bits.specs.Access.{port}
-use Rattle.bank_bits.specs.declared.Bank.{Bank}
-use Rattle.bank_bits.specs.declared.Banks.{Banks}
-use Rattle.bank_bits.specs.declared.BankPort.{BankPort}
+use Rattle.bank_spec.specs.Registers.{bank}
+use Rattle.bank_spec.specs.Access.{port}
+use Rattle.bank_spec.specs.declared.Bank.{Bank}
+use Rattle.bank_spec.specs.declared.Banks.{Banks}
+use Rattle.bank_spec.specs.declared.BankPort.{BankPort}
 
 -- ---- numbers
 

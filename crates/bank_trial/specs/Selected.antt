@@ -2,7 +2,7 @@
 --   digit o    the digit for the banks that the answer o shows as selected
 use Prim.Native.Nat.{ℕ, _+_}
 use mathlib.Core.Bool.{cond}
-use Rattle.bank_bits.specs.declared.Decoded.{Decoded}
+use Rattle.bank_spec.specs.declared.Decoded.{Decoded}
 
 -- "one digit whose bit n is bank n"
 abbrev pub digit : Decoded → ℕ

@@ -7,11 +7,11 @@ use crate::reading::number_in;
 use crate::reading::port_in;
 use crate::reading::word_in;
 use crate::selecting::digit_of;
-use bank_bits::BankAnswer;
-use bank_bits::BankPort;
-use banks::decode;
-use banks::read_bank_port;
-use banks::write_bank_port;
+use bank::decode;
+use bank::read_bank_port;
+use bank::write_bank_port;
+use bank_spec::BankAnswer;
+use bank_spec::BankPort;
 
 // What a record leaves: what the call answered, and the port.
 pub(crate) struct Left {

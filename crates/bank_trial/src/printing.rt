@@ -1,7 +1,7 @@
 // What a record prints.
 use crate::carrying::Left;
-use bank_bits::Bank;
-use bank_bits::BankPort;
+use bank_spec::Bank;
+use bank_spec::BankPort;
 
 // Eight digits.
 fn print_number(n: u32) {

@@ -2,9 +2,9 @@
 ghost use mathlib.Core.Path.{_≡_};
 ghost use Prim.Native.Nat.{_<_};
 ghost use Rattle.bank_trial.specs.Record.{number-at, word-at, number-in, word-in, address-in, control-in, bank-in, port-in};
-use bank_bits::Bank;
-use bank_bits::BankPort;
-use bank_bits::Banks;
+use bank_spec::Bank;
+use bank_spec::BankPort;
+use bank_spec::Banks;
 use words::BitAddress;
 use words::join_bytes;
 use words::join_four;

@@ -3,7 +3,7 @@ ghost use mathlib.Core.Path.{_≡_};
 ghost use mathlib.Core.Bool.{cond};
 ghost use Prim.Native.Nat.{_≤_};
 ghost use Rattle.bank_trial.specs.Selected.{digit};
-use bank_bits::Decoded;
+use bank_spec::Decoded;
 
 // A bit as a number: its weight where it is set. (That this is no more than the weight is what bounds the sum below.)
 fn weigh(test: bool, weight: u8) -> u8

@@ -4,9 +4,9 @@ ghost use Rattle.bank_trial.specs.Record.{zeroed};
 ghost use Rattle.bank_trial.specs.Carried.{carried};
 use crate::carrying::carry_record;
 use crate::printing::print_record;
-use bank_bits::Bank;
-use bank_bits::BankPort;
-use bank_bits::Banks;
+use bank_spec::Bank;
+use bank_spec::BankPort;
+use bank_spec::Banks;
 
 // Each bank before the first record.
 const ZEROED: Bank = Bank {

@@ -1,5 +1,5 @@
 -- What the contracts of the calls say, taken from the contracts themselves (`Contract`): each is a statement on the call's own arguments.
-use Rattle.block_words.specs.Block.{ReadBlock, WrittenBlock}
+use Rattle.block_spec.specs.Block.{ReadBlock, WrittenBlock}
 use Rattle.words.proofs.Contracts.{Contract}
 use Rattle.block.proofs.reading.block_read.Kinds as block-read-kinds
 use Rattle.block.proofs.reading.block_read.Reads as block-read

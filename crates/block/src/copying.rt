@@ -2,7 +2,7 @@
 ghost use mathlib.Core.Path.{_≡_};
 ghost use Prim.Native.Nat.{_-_, _≤_, min};
 ghost use lib.ListN.{length};
-ghost use Rattle.block_words.specs.Parts.{stepped-by};
+ghost use Rattle.block_spec.specs.Parts.{stepped-by};
 use std::num::wrapping_add_u32;
 use words::BitAddress;
 

@@ -1,6 +1,6 @@
 // The number of a block.
 ghost use mathlib.Core.Path.{_≡_};
-ghost use Rattle.block_words.specs.Block.{block-refusal};
+ghost use Rattle.block_spec.specs.Block.{block-refusal};
 use words::is_over_limit;
 
 // Number 1 or 10, or 0 where neither applies. Place plus count is never formed before it is known to fit.

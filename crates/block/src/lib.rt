@@ -1,5 +1,5 @@
 // Blocks: a count of two-lane reads of HSTDATA into a stretch of the caller's list, or of writes from one.
-// What a block means, and the laws of that, are crate `block_words`; here is the code.
+// What a block means, and the laws of that, are crate `block_spec`; here is the code.
 //
 // A block is its single accesses, one after another. Those that step from word to word inside memory are done by
 // copying; the others, where the pointer stays or leaves memory, go one by one.
@@ -10,7 +10,7 @@ mod writing;
 
 ghost use mathlib.Core.Path.{_≡_};
 ghost use Prim.Native.Nat.{_≤_};
-ghost use Rattle.block_words.specs.Block.{counted};
+ghost use Rattle.block_spec.specs.Block.{counted};
 pub use reading::block_read;
 pub use writing::block_write;
 

@@ -6,16 +6,16 @@
 ghost use mathlib.Core.Path.{_≡_};
 ghost use Rattle.words.specs.Addresses.{address};
 ghost use Rattle.bus.specs.Order.{granted};
-ghost use Rattle.port.specs.Host.{Accessed};
+ghost use Rattle.port_spec.specs.Host.{Accessed};
 ghost use Rattle.registers.specs.Processor.{fresh};
-ghost use Rattle.port.specs.declared.Access.the-variants.{Read, Write};
-ghost use Rattle.fields.specs.Answers.{put-memory};
+ghost use Rattle.port_spec.specs.declared.Access.the-variants.{Read, Write};
+ghost use Rattle.field.specs.Answers.{put-memory};
 use bus::Bus;
 use bus::Granted;
-use port::Access;
-use port::Answer;
-use port::Cycle;
-use port::Outcome;
+use port_spec::Access;
+use port_spec::Answer;
+use port_spec::Cycle;
+use port_spec::Outcome;
 use registers::Registers;
 use words::BitAddress;
 
@@ -86,7 +86,7 @@ fn controlled(control: u16) -> Registers
 fn read(r: Registers, memory: &mut [u16]) -> Outcome
     ensures { λ o. ⌜ Accessed r (now (memory .entry)) (Read 2 3) o (now (memory .exit)) ⌝ }
 {
-    let o = host::host_access(
+    let o = port::host_access(
         r,
         memory,
         Access::Read {
@@ -103,7 +103,7 @@ fn read(r: Registers, memory: &mut [u16]) -> Outcome
 fn write(r: Registers, memory: &mut [u16], register: u32, lanes: u32, word: u16) -> Outcome
     ensures { λ o. ⌜ Accessed r (now (memory .entry)) (Write register lanes word) o (now (memory .exit)) ⌝ }
 {
-    let o = host::host_access(
+    let o = port::host_access(
         r,
         memory,
         Access::Write {
@@ -181,7 +181,7 @@ fn print_memory(memory: &[u16]) {
 fn put(memory: &mut [u16], size: u32, at: u32, value: u32)
     ensures { λ _. ⌜ now (memory .exit) ≡ put-memory (now (memory .entry)) (address at) size value ⌝ }
 {
-    let answer = fields::put_in(memory, BitAddress(at), size, value);
+    let answer = field::put_in(memory, BitAddress(at), size, value);
     print_number(b"put size ", size as u64);
     print_number(b" at bit ", at as u64);
     print_number(b": ", answer.number as u64);
@@ -191,11 +191,11 @@ fn put(memory: &mut [u16], size: u32, at: u32, value: u32)
 
 // Takes the field of K7 out, both ways.
 fn take(memory: &[u16]) {
-    let unsigned = fields::take_out(memory, BitAddress(14), 4);
+    let unsigned = field::take_out(memory, BitAddress(14), 4);
     print_number(b"taken out: ", unsigned.number as u64);
     print_number(b", cycles ", unsigned.cycles as u64);
     print_number(b", value ", unsigned.value as u64);
-    let signed = fields::take_out_signed(memory, BitAddress(14), 4);
+    let signed = field::take_out_signed(memory, BitAddress(14), 4);
     print_number(b"\nsigned: ", signed.number as u64);
     print_number(b", cycles ", signed.cycles as u64);
     if signed.value == -6 {

@@ -6,15 +6,15 @@ use mathlib.Core.Logic.{_≢_}
 use lib.ListN.{length}
 use borrow.Author.Tests.{eq-eqb, ne-eqb}
 use Rattle.words.specs.Bytes.{AreBytes}
-use Rattle.port.specs.Host.{begin-access}
-use Rattle.port.specs.declared.Access.{Access}
-use Rattle.port.proofs.Taken.{taken, taken-memory}
-use Rattle.door_bytes.specs.Bytes.{words-of}
-use Rattle.door_bytes.specs.Image.{registers-of}
-use Rattle.door_bytes.specs.Answer.{packed, refusing}
-use Rattle.door_bytes.specs.Door.{call-number, call-tells, call-image, call-memory, Called}
-use Rattle.door_bytes.specs.InPlainWords.{Fitting}
-use Rattle.door_bytes.proofs.Numbers.{numbered, fit-number}
+use Rattle.port_spec.specs.Host.{begin-access}
+use Rattle.port_spec.specs.declared.Access.{Access}
+use Rattle.port_spec.proofs.Taken.{taken, taken-memory}
+use Rattle.door_spec.specs.Bytes.{words-of}
+use Rattle.door_spec.specs.Image.{registers-of}
+use Rattle.door_spec.specs.Answer.{packed, refusing}
+use Rattle.door_spec.specs.Door.{call-number, call-tells, call-image, call-memory, Called}
+use Rattle.door_spec.specs.InPlainWords.{Fitting}
+use Rattle.door_spec.proofs.Numbers.{numbered, fit-number}
 use Rattle.door.specs.Parts.{Closed}
 use Rattle.door.proofs.CycleOverBytes.{cycled-bytes}
 

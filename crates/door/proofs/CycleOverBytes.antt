@@ -9,11 +9,11 @@ use Rattle.words.specs.Bytes.{AreBytes}
 use Rattle.words.specs.Memory.{in-memory, store-at}
 use Rattle.words.specs.declared.WordNumber.{WordNumber}
 use Rattle.registers.specs.declared.Registers.{Registers}
-use Rattle.port.specs.Cycle.{memory-after}
-use Rattle.port.specs.declared.Due.{Due}
-use Rattle.port.specs.declared.Due.the-variants.{Nothing, Fetch, Store}
-use Rattle.door_bytes.specs.Bytes.{words-of, bytes-of}
-use Rattle.door_bytes.proofs.WordsAndBytes.{twice, twice-one, bytes-of-words}
+use Rattle.port_spec.specs.Cycle.{memory-after}
+use Rattle.port_spec.specs.declared.Due.{Due}
+use Rattle.port_spec.specs.declared.Due.the-variants.{Nothing, Fetch, Store}
+use Rattle.door_spec.specs.Bytes.{words-of, bytes-of}
+use Rattle.door_spec.proofs.WordsAndBytes.{twice, twice-one, bytes-of-words}
 use Rattle.door.specs.Parts.{put-word, store-bytes, bytes-after}
 
 -- A word stored is its two bytes stored.

@@ -7,9 +7,9 @@ use mathlib.Core.List.{List}
 use Rattle.words.specs.declared.WordNumber.{WordNumber}
 use Rattle.words.proofs.One.{one-value}
 use Rattle.registers.specs.declared.Registers.{Registers}
-use Rattle.port.specs.declared.Due.{Due}
-use Rattle.port.specs.declared.Begun.{Begun}
-use Rattle.port.specs.declared.Carried.{Carried}
+use Rattle.port_spec.specs.declared.Due.{Due}
+use Rattle.port_spec.specs.declared.Begun.{Begun}
+use Rattle.port_spec.specs.declared.Carried.{Carried}
 use Rattle.door.specs.Parts.{StoredBytes, CycledBytes, Closed}
 
 -- A store over bytes has one outcome.

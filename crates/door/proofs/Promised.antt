@@ -1,6 +1,6 @@
 -- What the contracts of the calls say, taken from the contracts themselves (`Contract`): each is a statement on the call's own arguments.
-use Rattle.port.specs.declared.Access.the-variants.{Read, Write}
-use Rattle.door_bytes.specs.Door.{Called}
+use Rattle.port_spec.specs.declared.Access.the-variants.{Read, Write}
+use Rattle.door_spec.specs.Door.{Called}
 use Rattle.words.proofs.Contracts.{Contract}
 use Rattle.door.proofs.host_port_read.Kinds as host-port-read-kinds
 use Rattle.door.proofs.host_port_read.Reads as host-port-read

@@ -14,15 +14,15 @@ use Rattle.words.specs.Bytes.{lo, hi}
 use Rattle.words.specs.Memory.{in-memory}
 use Rattle.words.specs.declared.WordNumber.{WordNumber}
 use Rattle.registers.specs.declared.Registers.{Registers}
-use Rattle.port.specs.Cycle.{carried}
-use Rattle.port.specs.Host.{done}
-use Rattle.port.specs.declared.Due.{Due}
-use Rattle.port.specs.declared.Due.the-variants.{Nothing, Fetch, Store}
-use Rattle.port.specs.declared.Begun.{Begun}
-use Rattle.port.specs.declared.Carried.{Carried}
-use Rattle.door_bytes.specs.Bytes.{words-of}
-use Rattle.door_bytes.specs.Image.{image-of}
-use Rattle.door_bytes.specs.Answer.{packed}
+use Rattle.port_spec.specs.Cycle.{carried}
+use Rattle.port_spec.specs.Host.{done}
+use Rattle.port_spec.specs.declared.Due.{Due}
+use Rattle.port_spec.specs.declared.Due.the-variants.{Nothing, Fetch, Store}
+use Rattle.port_spec.specs.declared.Begun.{Begun}
+use Rattle.port_spec.specs.declared.Carried.{Carried}
+use Rattle.door_spec.specs.Bytes.{words-of}
+use Rattle.door_spec.specs.Image.{image-of}
+use Rattle.door_spec.specs.Answer.{packed}
 
 -- "memory two bytes a word, low first"
 abbrev pub put-word : List ℕ → ℕ → ℕ → List ℕ

@@ -2,9 +2,9 @@
 ghost use mathlib.Core.Path.{_≡_};
 ghost use Prim.Native.Nat.{_≤_};
 ghost use mathlib.Core.Bool.{cond};
-ghost use Rattle.door_bytes.specs.Answer.{cycle-number, packed, refusing};
-use port::Answer;
-use port::Cycle;
+ghost use Rattle.door_spec.specs.Answer.{cycle-number, packed, refusing};
+use port_spec::Answer;
+use port_spec::Cycle;
 
 // The number of a cycle.
 fn number_of_cycle(c: Cycle) -> u64

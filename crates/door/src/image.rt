@@ -2,7 +2,7 @@
 ghost use mathlib.Core.Path.{_≡_};
 ghost use lib.ListN.{length};
 ghost use mathlib.Core.Bool.{cond};
-ghost use Rattle.door_bytes.specs.Image.{registers-of, image-of};
+ghost use Rattle.door_spec.specs.Image.{registers-of, image-of};
 use registers::Registers;
 use words::BitAddress;
 use words::high_byte;

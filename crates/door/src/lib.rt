@@ -1,5 +1,5 @@
 // The C door: single accesses by the host, on a register image and a memory that are lent as bytes.
-// Document 01, "Blocks and the two doors". What the bytes stand for, and the laws of a call, are crate `door_bytes`; here is the code.
+// Document 01, "Blocks and the two doors". What the bytes stand for, and the laws of a call, are crate `door_spec`; here is the code.
 //
 // A call answers one number of 64 bits: bits 0-15 are the word, 16-23 the number, bit 24 the hollow mark, bits 25-26
 // the cycle (0 none, 1 inside, 2 empty); the others are 0. Bits 32-59 are kept free for a word number.
@@ -12,18 +12,18 @@ mod memory;
 
 ghost use mathlib.Core.Path.{_≡_};
 ghost use lib.ListN.{length};
-ghost use Rattle.port.specs.declared.Access.the-variants.{Read, Write};
-ghost use Rattle.door_bytes.specs.Door.{misfit, call-number, Called};
+ghost use Rattle.port_spec.specs.declared.Access.the-variants.{Read, Write};
+ghost use Rattle.door_spec.specs.Door.{misfit, call-number, Called};
 ghost use Rattle.door.specs.Parts.{Closed};
 use answer::pack;
 use answer::refuse;
-use host::begin_read;
-use host::begin_write;
 use image::load;
 use image::save;
 use memory::carry_bytes;
-use port::Access;
-use port::Begun;
+use port::begin_read;
+use port::begin_write;
+use port_spec::Access;
+use port_spec::Begun;
 use words::bit_of;
 use words::join_bytes;
 
@@ -50,7 +50,7 @@ fn number_of_call(image: &[u8], memory: &[u8], a: Access) -> u8
     if is_misfit(image, memory) {
         return 11;
     }
-    host::number_of(memory.len() / 2, a)
+    port::number_of(memory.len() / 2, a)
 }
 
 // What is left of an accepted call once its access is begun: the cycle that is due, the image, the answer.
@@ -60,7 +60,7 @@ fn close_call(image: &mut [u8], memory: &mut [u8], b: Begun) -> u64
 {
     let q = b.registers;
     let due = b.due;
-    let done = host::finish(b, carry_bytes(q, due, memory));
+    let done = port::finish(b, carry_bytes(q, due, memory));
     let left = done.registers;
     let answer = done.answer;
     save(image, left);

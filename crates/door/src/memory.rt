@@ -1,14 +1,14 @@
 // The memory cycle over lent bytes: the two bytes of its word are read or written, and no others.
 ghost use mathlib.Core.Path.{_≡_};
 ghost use Rattle.words.specs.Memory.{fetch-at};
-ghost use Rattle.door_bytes.specs.Bytes.{words-of};
+ghost use Rattle.door_spec.specs.Bytes.{words-of};
 ghost use Rattle.door.specs.Parts.{StoredBytes, CycledBytes};
-use host::settle_fetch;
-use host::settle_store;
-use host::step_if;
-use port::Carried;
-use port::Cycle;
-use port::Due;
+use port::settle_fetch;
+use port::settle_store;
+use port::step_if;
+use port_spec::Carried;
+use port_spec::Cycle;
+use port_spec::Due;
 use registers::Registers;
 use words::Fetched;
 use words::WordNumber;

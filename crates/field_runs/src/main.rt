@@ -46,13 +46,13 @@ fn print_signed(value: i32) {
 }
 
 fn put(memory: &mut [u16], size: u32, at: u32, value: u32) {
-    let answer = fields::put_in(memory, BitAddress(at), size, value);
+    let answer = field::put_in(memory, BitAddress(at), size, value);
     print_call(b"put", size, at, answer.number, answer.cycles);
     print_words(memory);
 }
 
 fn take(memory: &[u16], size: u32, at: u32) {
-    let answer = fields::take_out(memory, BitAddress(at), size);
+    let answer = field::take_out(memory, BitAddress(at), size);
     print_call(b"take", size, at, answer.number, answer.cycles);
     io::write_all(1, b", value ");
     io::print_decimal(1, answer.value as u64);
@@ -60,7 +60,7 @@ fn take(memory: &[u16], size: u32, at: u32) {
 }
 
 fn take_signed(memory: &[u16], size: u32, at: u32) {
-    let answer = fields::take_out_signed(memory, BitAddress(at), size);
+    let answer = field::take_out_signed(memory, BitAddress(at), size);
     print_call(b"take signed", size, at, answer.number, answer.cycles);
     io::write_all(1, b", value ");
     print_signed(answer.value);

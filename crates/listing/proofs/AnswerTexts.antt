@@ -4,10 +4,10 @@ use native.Mathlib.Omega.{arith}
 use mathlib.Core.Path.{_≡_, refl}
 use mathlib.Core.Bool.{Bool, true, false}
 use lib.ListN.{length, length-append}
-use Rattle.port.specs.declared.Access.{Access}
-use Rattle.port.specs.declared.Answer.{Answer}
-use Rattle.port.specs.declared.Cycle.{Cycle}
-use Rattle.port.specs.declared.Cycle.the-variants.{None, Inside, Empty}
+use Rattle.port_spec.specs.declared.Access.{Access}
+use Rattle.port_spec.specs.declared.Answer.{Answer}
+use Rattle.port_spec.specs.declared.Cycle.{Cycle}
+use Rattle.port_spec.specs.declared.Cycle.the-variants.{None, Inside, Empty}
 use Rattle.listing.specs.Answer.{head-text, shows-mark, mark-text, cycle-text, answer-text}
 
 -- The number and the word take 6 bytes,

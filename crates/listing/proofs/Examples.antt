@@ -3,14 +3,14 @@
 use Prim.Native.Nat.{ℕ}
 use mathlib.Core.Path.{_≡_, refl}
 use mathlib.Core.List.{List, [], _∷_}
-use Rattle.port.specs.Runs.{Machine, answer-of, after}
-use Rattle.port.specs.Deeds.{woken}
+use Rattle.port_spec.specs.Runs.{Machine, answer-of, after}
+use Rattle.port_spec.specs.Deeds.{woken}
 use Rattle.words.specs.Bytes.{bit, takes-low, takes-high, are-lanes, lay}
 use Rattle.words.specs.Memory.{fetch-at, store-at}
 use Rattle.control.specs.Control.{closes, fetches, bare, low-parts, host-low}
 use Rattle.registers.specs.Registers.{register-word, written, half-written}
-use Rattle.port.specs.Cycle.{carried, memory-after, after-fetch, after-store, mark, stepped}
-use Rattle.port.specs.Host.{access, access-memory, done, refusal, begin-access, read-due, write-due}
+use Rattle.port_spec.specs.Cycle.{carried, memory-after, after-fetch, after-store, mark, stepped}
+use Rattle.port_spec.specs.Host.{access, access-memory, done, refusal, begin-access, read-due, write-due}
 use Rattle.digits.specs.Digits.{is-decimal, value-of, digit-for}
 use Rattle.listing.specs.Line.{headed, tailed, line-of}
 use Rattle.listing.specs.Answer.{head-text, shows-mark, mark-text, cycle-text, answer-text}

@@ -10,7 +10,7 @@ use lib.ListN.{length, getD, take, drop, length-append, List·getD-append}
 use lib.Seq.{getD-at, split-at, take-suc, take-length, length-take-le}
 use borrow.Author.Tests.{eqb-true, eq-eqb, le-ltb}
 use Rattle.words.proofs.Choices.{either-way, both-true}
-use Rattle.port.specs.declared.Access.{Access}
+use Rattle.port_spec.specs.declared.Access.{Access}
 use Rattle.digits.specs.Digits.{is-decimal}
 use Rattle.listing.specs.Line.{bad, byte, headed, tailed, read-in, write-in, line-of, before-feed, has-feed, with-length, front-line}
 use Rattle.listing.specs.Parts.{reads, writes, other-front}

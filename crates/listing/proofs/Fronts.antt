@@ -9,8 +9,8 @@ use mathlib.Core.Logic.{⊎-elim, _↔_, _≢_}
 use lib.ListN.{length}
 use borrow.Author.Tests.{lt-ltb, le-ltb}
 use Rattle.words.proofs.Choices.{either-way, less-or-not}
-use Rattle.port.specs.declared.Access.{Access}
-use Rattle.port.specs.declared.Access.the-variants.{Read, Write}
+use Rattle.port_spec.specs.declared.Access.{Access}
+use Rattle.port_spec.specs.declared.Access.the-variants.{Read, Write}
 use Rattle.listing.specs.InNumbers.{FrontNumbers, front-numbers, FrontAs}
 use Rattle.listing.specs.InNumbers as plain
 use Rattle.listing.specs.Line.{Line, good, bad, line-of, before-feed, has-feed, with-length, front-line}

@@ -10,8 +10,8 @@ use lib.ListN.{length, take}
 use lib.Seq.{take-suc, take-all}
 use borrow.Author.Tests.{eqb-true, ltb-true, ne-eqb}
 use Rattle.words.proofs.Choices.{either-way, both-true}
-use Rattle.port.specs.declared.Access.{Access}
-use Rattle.port.specs.declared.Access.the-variants.{Read, Write}
+use Rattle.port_spec.specs.declared.Access.{Access}
+use Rattle.port_spec.specs.declared.Access.the-variants.{Read, Write}
 use Rattle.digits.specs.Digits.{is-decimal, digit-for}
 use Rattle.listing.specs.Line.{Line, good, bad, byte, hex, word-from, headed, tailed, read-in, write-in, line-of, has-feed}
 use Rattle.listing.specs.Spelled.{line-text, Sayable}

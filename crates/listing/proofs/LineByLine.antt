@@ -10,8 +10,8 @@ use lib.ListN.{length, getD, take, drop, length-append}
 use lib.Seq.{split-at, length-take-le}
 use borrow.Author.Tests.{eqb-true, eqb-false, ne-eqb, eq-eqb, ltb-true, ltb-false}
 use Rattle.words.proofs.Choices.{either-way, both-true, both-false, less-or-not}
-use Rattle.port.specs.Runs.{Machine, after, answer-of}
-use Rattle.port.specs.declared.Access.{Access}
+use Rattle.port_spec.specs.Runs.{Machine, after, answer-of}
+use Rattle.port_spec.specs.declared.Access.{Access}
 use Rattle.listing.specs.Line.{Line, good, bad, headed, tailed, read-in, write-in, line-of, before-feed, has-feed, with-length, front-line}
 use Rattle.listing.specs.Answer.{answer-text}
 use Rattle.listing.specs.Listing.{Listing, stopped, line-ends, next, listing}

@@ -10,7 +10,7 @@ use lib.ListN.{length, take, drop, length-append, length-take, length-drop, take
 use lib.Seq.{take-append-seam, drop-append-seam, take-take}
 use Rattle.words.proofs.Contracts.{Contract}
 use Rattle.registers.specs.declared.Registers.{Registers}
-use Rattle.port.specs.Runs.{Machine, machine}
+use Rattle.port_spec.specs.Runs.{Machine, machine}
 use Rattle.listing.specs.Answer.{bad-line}
 use Rattle.listing.specs.Listing.{Listing, start, listing, fitting, stretch-listing, ListedStretch}
 use Rattle.listing.specs.Pieces.{at-end, printed, left-over, behind}

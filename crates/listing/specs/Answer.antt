@@ -9,11 +9,11 @@ use Prim.Native.Nat.{ℕ, _+_, _/_}
 use mathlib.Core.Bool.{Bool, false, cond, _&&_}
 use mathlib.Core.List.{List, [], _∷_, _++_}
 use lib.Dec.{eqb}
-use Rattle.port.specs.declared.Access.{Access}
-use Rattle.port.specs.declared.Access.the-variants.{Read, Write}
-use Rattle.port.specs.declared.Answer.{Answer}
-use Rattle.port.specs.declared.Cycle.{Cycle}
-use Rattle.port.specs.declared.Cycle.the-variants.{None, Inside, Empty}
+use Rattle.port_spec.specs.declared.Access.{Access}
+use Rattle.port_spec.specs.declared.Access.the-variants.{Read, Write}
+use Rattle.port_spec.specs.declared.Answer.{Answer}
+use Rattle.port_spec.specs.declared.Cycle.{Cycle}
+use Rattle.port_spec.specs.declared.Cycle.the-variants.{None, Inside, Empty}
 use Rattle.digits.specs.Digits.{digit-for}
 
 -- the number's digit (a host's answer has no number above 3), a space, the word's four digits

@@ -9,8 +9,8 @@ use mathlib.Core.Path.{_≡_}
 use mathlib.Core.List.{List, _∷_, _++_}
 use mathlib.Core.Logic.{_≢_}
 use lib.ListN.{length}
-use Rattle.port.specs.declared.Access.{Access}
-use Rattle.port.specs.declared.Access.the-variants.{Read, Write}
+use Rattle.port_spec.specs.declared.Access.{Access}
+use Rattle.port_spec.specs.declared.Access.the-variants.{Read, Write}
 use Rattle.listing.specs.Pieces.{No-feed}
 use Rattle.listing.specs.Spelled.{line-text, Sayable}
 use Rattle.listing.specs.declared.Front.{Front}

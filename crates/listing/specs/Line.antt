@@ -10,8 +10,8 @@ use mathlib.Core.List.{List, [], _∷_}
 use lib.Dec.{eqb, ltb}
 use lib.ListN.{length, getD}
 use Rattle.digits.specs.Digits.{is-decimal, decimal-of, value-of, is-hex}
-use Rattle.port.specs.declared.Access.{Access}
-use Rattle.port.specs.declared.Access.the-variants.{Read, Write}
+use Rattle.port_spec.specs.declared.Access.{Access}
+use Rattle.port_spec.specs.declared.Access.the-variants.{Read, Write}
 use Rattle.listing.specs.declared.Front.{Front}
 use Rattle.listing.specs.declared.Front.the-variants.{Good, Bad, Open}
 

@@ -14,8 +14,8 @@ use mathlib.Core.Path.{_≡_}
 use lib.Dec.{eqb}
 use lib.ListN.{length, take, drop}
 use Rattle.registers.specs.declared.Registers.{Registers}
-use Rattle.port.specs.Runs.{Machine, after, answer-of}
-use Rattle.port.specs.declared.Access.{Access}
+use Rattle.port_spec.specs.Runs.{Machine, after, answer-of}
+use Rattle.port_spec.specs.declared.Access.{Access}
 use Rattle.listing.specs.Line.{Line, good, bad, line-of}
 use Rattle.listing.specs.Answer.{answer-text, bad-line}
 use Rattle.listing.specs.declared.Listed.{Listed}

@@ -11,8 +11,8 @@ use mathlib.Core.Path.{_≡_}
 use lib.Dec.{eqb, ltb}
 use lib.ListN.{length, take, drop}
 use Rattle.registers.specs.declared.Registers.{Registers}
-use Rattle.port.specs.Host.{access, access-memory}
-use Rattle.port.specs.declared.Access.{Access}
+use Rattle.port_spec.specs.Host.{access, access-memory}
+use Rattle.port_spec.specs.declared.Access.{Access}
 use Rattle.listing.specs.Line.{byte, headed, tailed, has-feed}
 use Rattle.listing.specs.Answer.{answer-text}
 use Rattle.listing.specs.Listing.{start, listing, listed, with-text}

@@ -5,9 +5,9 @@ ghost use lib.ListN.{length};
 ghost use Rattle.listing.specs.Answer.{shows-mark, head-text, mark-text, cycle-text, answer-text};
 ghost use Rattle.listing.specs.Parts.{Put};
 use digits::digit_for;
-use port::Access;
-use port::Answer;
-use port::Cycle;
+use port_spec::Access;
+use port_spec::Answer;
+use port_spec::Cycle;
 
 // Puts a text into the output from a place on, and answers the place after it.
 pub(crate) fn put(output: &mut [u8], at: usize, text: &[u8]) -> usize

@@ -5,7 +5,7 @@ mod lines;
 mod stretches;
 
 pub use lines::front_line;
-use port::Access;
+use port_spec::Access;
 use registers::Registers;
 pub use stretches::list_stretch;
 

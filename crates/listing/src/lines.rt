@@ -13,7 +13,7 @@ ghost use Rattle.listing.specs.Parts.{reads, writes, other-front};
 use crate::Front;
 use digits::hex_value;
 use digits::is_decimal;
-use port::Access;
+use port_spec::Access;
 use words::both;
 
 // A letter, a space, a decimal digit, a space, a decimal digit.

@@ -10,8 +10,8 @@ use crate::Listed;
 use crate::answers::put;
 use crate::answers::put_answer;
 use crate::lines::front_line;
-use host::host_access;
-use port::Access;
+use port::host_access;
+use port_spec::Access;
 use registers::Registers;
 
 // A good line: its access done, and its answer put after what was written so far.

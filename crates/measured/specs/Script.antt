@@ -10,8 +10,8 @@ use lib.Dec.{eqb}
 use lib.ListN.{getD}
 use Rattle.words.specs.Addresses.{address}
 use Rattle.registers.specs.declared.Registers.{Registers}
-use Rattle.port.specs.declared.Access.{Access}
-use Rattle.port.specs.declared.Access.the-variants.{Read, Write}
+use Rattle.port_spec.specs.declared.Access.{Access}
+use Rattle.port_spec.specs.declared.Access.the-variants.{Read, Write}
 use Rattle.measured.specs.declared.Record.{Record}
 
 unfoldable pub number-in : List ℕ → ℕ → ℕ

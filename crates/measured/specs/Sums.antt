@@ -7,9 +7,9 @@ use Prim.Native.Nat.{ℕ, _+_, _*_, _%_, _^_}
 use mathlib.Core.Bool.{cond}
 use lib.Dec.{eqb}
 use Rattle.registers.specs.declared.Registers.{Registers}
-use Rattle.port.specs.declared.Cycle.{Cycle}
-use Rattle.port.specs.declared.Cycle.the-variants.{None, Inside, Empty}
-use Rattle.port.specs.declared.Answer.{Answer}
+use Rattle.port_spec.specs.declared.Cycle.{Cycle}
+use Rattle.port_spec.specs.declared.Cycle.the-variants.{None, Inside, Empty}
+use Rattle.port_spec.specs.declared.Answer.{Answer}
 
 unfoldable pub stirred : ℕ → ℕ → ℕ
 stirred s n = (((s + s) % 2 ^ 32 + s) % 2 ^ 32 + n) % 2 ^ 32

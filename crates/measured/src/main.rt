@@ -1,5 +1,5 @@
-// Work for bench/run to count: a script of accesses, of blocks or of fields, carried out one after the other.
-// bench/measured.c does the same in plain C, and must print the same.
+// Work for speed/run to count: a script of accesses, of blocks or of fields, carried out one after the other.
+// speed/measured.c does the same in plain C, and must print the same.
 //
 // Standard input is the script, records of four numbers, each of four bytes, low byte first. The first record's first number says
 // what the other records are: 0 accesses by the host, 1 blocks, else fields. What they answer goes into one sum. This is printed at
@@ -9,14 +9,14 @@ mod sums;
 
 use block::block_read;
 use block::block_write;
-use fields::put_in;
-use fields::take_out;
-use fields::take_out_signed;
-use host::host_access;
+use field::put_in;
+use field::take_out;
+use field::take_out_signed;
 use numbers::access_of;
 use numbers::begin_at;
 use numbers::magnitude_of;
 use numbers::record_at;
+use port::host_access;
 use sums::number_of_answer;
 use sums::stir;
 use sums::stir_block;

@@ -5,7 +5,7 @@ ghost use lib.ListN.{length};
 ghost use lib.Signed.{mag};
 ghost use Rattle.measured.specs.Script.{number-in, record-in, access-in, begun-at};
 use crate::Record;
-use port::Access;
+use port_spec::Access;
 use registers::Registers;
 use words::BitAddress;
 use words::join_four;

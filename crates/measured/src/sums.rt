@@ -3,8 +3,8 @@ ghost use mathlib.Core.Path.{_≡_};
 ghost use mathlib.Core.Bool.{cond};
 ghost use Prim.Native.Nat.{_≤_};
 ghost use Rattle.measured.specs.Sums.{stirred, cycle-number, answer-number, block-stirred, field-stirred};
-use port::Answer;
-use port::Cycle;
+use port_spec::Answer;
+use port_spec::Cycle;
 use registers::Registers;
 use std::num::wrapping_add_u32;
 

@@ -1,58 +1,21 @@
-// The host port of the TMS34010: an access by the host, what it is made of and what it answers. Document 01, "The four host registers".
-// Here stand its types, what it means (specs/) and the laws of that (proofs/); the code is crate `host`.
-use registers::Registers;
+// One access by the host, with its memory cycle. What it means, and the laws of that, are crate `port_spec`; here is the code.
+//
+// An access goes in two steps. `begin` works on the registers alone: it answers, lands the written
+// bytes and says which memory cycle is due. `carry` does that cycle on the lent memory.
+mod access;
+mod cycles;
 
-// An access by the host, of register 0 to 3 on lanes 1 to 3; any other number is refused.
-pub enum Access {
-    Read {
-        register: u32,
-        lanes: u32,
-    },
-    Write {
-        register: u32,
-        lanes: u32,
-        word: u16,
-    },
-}
+// The call of a bench: it refuses by number what it does not do.
+pub use access::host_access;
 
-// The memory cycle that an access calls for. The flag: with a step of the pointer, before a fetch or after a store.
-pub enum Due {
-    Nothing,
-    Fetch(bool),
-    Store(bool),
-}
-
-// The memory cycle that an access had: none, one at a word of the lent memory, or one at a word that isn't there.
-pub enum Cycle {
-    None,
-    Inside,
-    Empty,
-}
-
-// What the host is told.
-pub struct Answer {
-    pub number: u8,
-    pub word: u16,
-    pub hollow: bool,
-    pub cycle: Cycle,
-}
-
-// What an access by the host leaves, besides the memory.
-pub struct Outcome {
-    pub answer: Answer,
-    pub registers: Registers,
-}
-
-// An access before its cycle: what it will answer, the registers with the written bytes, the cycle that is due.
-pub struct Begun {
-    pub word: u16,
-    pub hollow: bool,
-    pub registers: Registers,
-    pub due: Due,
-}
-
-// What a cycle leaves, besides the memory.
-pub struct Carried {
-    pub registers: Registers,
-    pub cycle: Cycle,
-}
+// The parts that another way to the port is made of: they judge nothing.
+pub use access::begin;
+pub use access::begin_read;
+pub use access::begin_write;
+pub use access::finish;
+pub use access::number_of;
+pub use access::refuse;
+pub use cycles::carry;
+pub use cycles::settle_fetch;
+pub use cycles::settle_store;
+pub use cycles::step_if;

@@ -2,9 +2,9 @@
 use mathlib.Core.Path.{refl}
 use mathlib.Core.List.{List, [], _∷_}
 use Prim.Native.Nat.{ℕ}
-use Rattle.transcript_bytes.specs.Reading.{with-group, head-read, word-read, step, feed, feeds}
-use Rattle.salvaging.specs.InPlainWords.{answer}
-use Rattle.salvaging.specs.Salvage.{salvage-answer, bytes-after}
+use Rattle.transcript_spec.specs.Reading.{with-group, head-read, word-read, step, feed, feeds}
+use Rattle.salvage_spec.specs.InPlainWords.{answer}
+use Rattle.salvage_spec.specs.Salvage.{salvage-answer, bytes-after}
 use Rattle.salvage_trial.specs.Carried.{answer-from, bytes-from, Carried}
 
 -- a read, a write of 1234h, a bad head

@@ -7,8 +7,8 @@ use lib.ListN.{length, take}
 use borrow.Rule.Slice.PartMut.{putMid}
 use Rattle.words.specs.Lent.{given-back}
 use Rattle.words.proofs.Lent.{lent-is, back-is}
-use Rattle.salvaging.specs.Salvage.{salvage-answer, bytes-after, SalvagedTranscript}
-use Rattle.salvaging.specs.declared.Salvaged.{Salvaged}
+use Rattle.salvage_spec.specs.Salvage.{salvage-answer, bytes-after, SalvagedTranscript}
+use Rattle.salvage_spec.specs.declared.Salvaged.{Salvaged}
 use Rattle.salvage_trial.specs.Carried.{answer-from, bytes-from, Carried}
 
 -- No more are lent than there are.

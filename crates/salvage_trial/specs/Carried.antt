@@ -7,8 +7,8 @@ use mathlib.Core.Path.{_≡_}
 use mathlib.Core.List.{List}
 use lib.ListN.{length}
 use Rattle.words.specs.Lent.{lent, given-back}
-use Rattle.salvaging.specs.Salvage.{salvage-answer, bytes-after}
-use Rattle.salvaging.specs.declared.Salvaged.{Salvaged}
+use Rattle.salvage_spec.specs.Salvage.{salvage-answer, bytes-after}
+use Rattle.salvage_spec.specs.declared.Salvaged.{Salvaged}
 
 module _ (k m : ℕ) (s out : List ℕ) where
   unfoldable pub answer-from : Salvaged

@@ -17,7 +17,7 @@
 mod carrying;
 
 use carrying::carry_out;
-use salvaging::Salvaged;
+use salvage_spec::Salvaged;
 
 fn print_record(o: Salvaged, sound: &[u8]) {
     io::print_hex(1, o.number as u64, 2);

@@ -1,5 +1,2 @@
--- ---- what the contract of the call cites
-pub mod Reading
-pub mod Sheet
--- ---- the words of the laws
-pub mod InPlainWords
+-- ---- what only private functions state
+pub mod Parts

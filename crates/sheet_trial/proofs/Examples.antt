@@ -6,7 +6,7 @@ use mathlib.Core.List.{List, [], _∷_, _++_}
 use lib.ListN.{replicate}
 use Rattle.words.specs.Addresses.{address}
 use Rattle.words.specs.Memory.{store-at}
-use Rattle.sheet.specs.InPlainWords.{time}
+use Rattle.sheet_spec.specs.InPlainWords.{time}
 use Rattle.sheet_trial.specs.Record.{number, registers-in, table-in, rule-in, time-in}
 use Rattle.sheet_trial.specs.Carried.{laid}
 

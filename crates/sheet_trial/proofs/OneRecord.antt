@@ -9,11 +9,11 @@ use Rattle.words.specs.Lent.{lent, given-back}
 use Rattle.words.specs.declared.BitAddress.{BitAddress}
 use Rattle.words.proofs.Lent.{lent-is, back-is, unchanged}
 use Rattle.registers.specs.declared.Registers.{Registers}
-use Rattle.port.specs.Runs.{machine}
-use Rattle.sheet.specs.Reading.{whole}
-use Rattle.sheet.specs.Sheet.{sheet-of, list-after, Struck}
-use Rattle.sheet.specs.declared.Sheet.{Sheet}
-use Rattle.sheet.specs.declared.TimeStruck.{TimeStruck}
+use Rattle.port_spec.specs.Runs.{machine}
+use Rattle.sheet_spec.specs.Reading.{whole}
+use Rattle.sheet_spec.specs.Sheet.{sheet-of, list-after, Struck}
+use Rattle.sheet_spec.specs.declared.Sheet.{Sheet}
+use Rattle.sheet_spec.specs.declared.TimeStruck.{TimeStruck}
 use Rattle.sheet_trial.specs.Record.{number, registers-in, table-in, rule-in, time-in}
 use Rattle.sheet_trial.specs.Carried.{laid, list-lent, sheet-from, list-from, Carried}
 

@@ -11,10 +11,10 @@ use lib.Ieee.{Float}
 use lib.ListN.{length}
 use Rattle.words.specs.Lent.{lent, given-back}
 use Rattle.words.specs.Memory.{store-at}
-use Rattle.port.specs.Runs.{Machine, machine}
-use Rattle.sheet.specs.Reading.{whole}
-use Rattle.sheet.specs.Sheet.{sheet-of, list-after}
-use Rattle.sheet.specs.declared.Sheet.{Sheet}
+use Rattle.port_spec.specs.Runs.{Machine, machine}
+use Rattle.sheet_spec.specs.Reading.{whole}
+use Rattle.sheet_spec.specs.Sheet.{sheet-of, list-after}
+use Rattle.sheet_spec.specs.declared.Sheet.{Sheet}
 use Rattle.sheet_trial.specs.Record.{number, registers-in, table-in, rule-in, time-in}
 
 -- "the word number from which on n18 to n53 are laid into the room before the call; those beyond the room's end are dropped"

@@ -9,7 +9,7 @@ use lib.ListN.{getD}
 use Rattle.words.specs.Addresses.{address}
 use Rattle.words.specs.declared.BitAddress.{BitAddress}
 use Rattle.registers.specs.declared.Registers.{Registers}
-use Rattle.sheet.specs.declared.TimeStruck.{TimeStruck}
+use Rattle.sheet_spec.specs.declared.TimeStruck.{TimeStruck}
 
 -- "54 numbers of 16 bits, low byte first, n0 to n53"
 abbrev pub number : List ℕ → ℕ → ℕ

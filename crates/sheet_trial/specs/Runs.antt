@@ -5,7 +5,7 @@ use Prim.Native.Nat.{ℕ}
 use mathlib.Core.Bool.{Bool, true, false}
 use mathlib.Core.List.{List}
 use lib.Ieee.{Float}
-use Rattle.sheet.specs.declared.Sheet.{Sheet}
+use Rattle.sheet_spec.specs.declared.Sheet.{Sheet}
 use Rattle.sheet_trial.specs.Carried.{Carried}
 
 pub data TookTurn (room : List ℕ) (list : List Float) : Bool → List ℕ → List Float → Type 0 where

@@ -1,7 +1,7 @@
 // The line of a sheet.
 ghost use mathlib.Core.Path.{_≡_};
 ghost use lib.Ieee.{toBits, binary64};
-use sheet::Sheet;
+use sheet_spec::Sheet;
 
 // The bit pattern of a time. A NaN has one here, whichever it is.
 fn bits_of(time: f64) -> u64

@@ -3,7 +3,7 @@ ghost use mathlib.Core.Path.{_≡_};
 ghost use Prim.Native.Nat.{_<_};
 ghost use Rattle.sheet_trial.specs.Record.{number, wide, registers-in, table-in, rule-in, time-in};
 use registers::Registers;
-use sheet::TimeStruck;
+use sheet_spec::TimeStruck;
 use words::BitAddress;
 use words::join_bytes;
 

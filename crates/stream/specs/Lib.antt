@@ -1,7 +1,2 @@
--- ---- what the contracts cite
-pub mod Stream
--- ---- the words of the laws
-pub mod InPlainWords
-pub mod AnyCalls
-pub mod OpenStreams
-pub mod Table
+-- what only private functions state
+pub mod Parts

@@ -4,11 +4,11 @@ use Prim.Native.Nat.{ℕ, zero, suc}
 use mathlib.Core.Path.{_≡_, refl}
 use mathlib.Core.Bool.{true, false}
 use mathlib.Core.List.{List, [], _∷_}
-use Rattle.transcript_bytes.specs.Lists.{Lists, lists}
-use Rattle.transcript_bytes.specs.Reading.{with-group, head-read, word-read, step, feed, feeds}
-use Rattle.transcript_bytes.specs.declared.Part.the-variants.{Word}
-use Rattle.stream.specs.Stream.{fresh-stream, closed, barred, streamed, delivery-answer, lists-after, end-answer}
-use Rattle.stream.specs.declared.Stream.{Stream}
+use Rattle.transcript_spec.specs.Lists.{Lists, lists}
+use Rattle.transcript_spec.specs.Reading.{with-group, head-read, word-read, step, feed, feeds}
+use Rattle.transcript_spec.specs.declared.Part.the-variants.{Word}
+use Rattle.stream_spec.specs.Stream.{fresh-stream, closed, barred, streamed, delivery-answer, lists-after, end-answer}
+use Rattle.stream_spec.specs.declared.Stream.{Stream}
 use Rattle.stream_trial.specs.Record.{starts, delivers, number, started-at, string-lent, blank, lists-lent, lists-returned}
 use Rattle.stream_trial.specs.Carried.{delivered-answer, delivered-lists, answer-from, lists-from, Carried}
 

@@ -6,11 +6,11 @@ use mathlib.Core.Path.{_≡_, ap, _∙_}
 use mathlib.Core.Bool.{true, false}
 use mathlib.Core.List.{List, _++_}
 use lib.ListN.{length, take, drop, length-take}
-use Rattle.transcript_bytes.specs.Lists.{Lists, lists, size}
-use Rattle.transcript_bytes.proofs.LentLists.{Lends}
-use Rattle.stream.specs.Stream.{streamed, delivery-answer, lists-after, end-answer, TookDelivery}
-use Rattle.stream.specs.declared.Stream.{Stream}
-use Rattle.stream.specs.declared.Streamed.{Streamed}
+use Rattle.transcript_spec.specs.Lists.{Lists, lists, size}
+use Rattle.transcript_spec.proofs.LentLists.{Lends}
+use Rattle.stream_spec.specs.Stream.{streamed, delivery-answer, lists-after, end-answer, TookDelivery}
+use Rattle.stream_spec.specs.declared.Stream.{Stream}
+use Rattle.stream_spec.specs.declared.Streamed.{Streamed}
 use Rattle.stream_trial.specs.Record.{byte, starts, delivers, number, started-at, string-lent, lists-lent, lists-returned}
 use Rattle.stream_trial.specs.Carried.{delivered-answer, delivered-lists, Delivered, answer-from, lists-from, Carried}
 

@@ -6,10 +6,10 @@ use Prim.Native.Nat.{ℕ}
 use mathlib.Core.Path.{_≡_}
 use mathlib.Core.Bool.{cond}
 use mathlib.Core.List.{List}
-use Rattle.transcript_bytes.specs.Lists.{Lists, size}
-use Rattle.stream.specs.Stream.{streamed, delivery-answer, lists-after, end-answer}
-use Rattle.stream.specs.declared.Stream.{Stream}
-use Rattle.stream.specs.declared.Streamed.{Streamed}
+use Rattle.transcript_spec.specs.Lists.{Lists, size}
+use Rattle.stream_spec.specs.Stream.{streamed, delivery-answer, lists-after, end-answer}
+use Rattle.stream_spec.specs.declared.Stream.{Stream}
+use Rattle.stream_spec.specs.declared.Streamed.{Streamed}
 use Rattle.stream_trial.specs.Record.{starts, delivers, number, started-at, string-lent, lists-lent, lists-returned}
 
 -- the record b, to the stream st, with the lists l

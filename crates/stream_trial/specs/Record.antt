@@ -13,9 +13,9 @@ use mathlib.Core.Bool.{Bool, false}
 use mathlib.Core.List.{List, [], _∷_}
 use lib.Dec.{eqb}
 use lib.ListN.{take, drop, getD}
-use Rattle.transcript_bytes.specs.Lists.{Lists, lists, lent-lists, lists-back}
-use Rattle.transcript_bytes.specs.Reading.{fresh}
-use Rattle.stream.specs.declared.Stream.{Stream}
+use Rattle.transcript_spec.specs.Lists.{Lists, lists, lent-lists, lists-back}
+use Rattle.transcript_spec.specs.Reading.{fresh}
+use Rattle.stream_spec.specs.declared.Stream.{Stream}
 
 abbrev pub byte : List ℕ → ℕ → ℕ
 byte b k = getD b k 0

@@ -1,17 +1,17 @@
 // A record of a script, carried out.
 ghost use mathlib.Core.Path.{_≡_};
-ghost use Rattle.transcript_bytes.specs.Lists.{lists};
-ghost use Rattle.stream.specs.Stream.{streamed};
+ghost use Rattle.transcript_spec.specs.Lists.{lists};
+ghost use Rattle.stream_spec.specs.Stream.{streamed};
 ghost use Rattle.stream_trial.specs.Record.{started-at, blank};
 ghost use Rattle.stream_trial.specs.Carried.{Delivered, Carried};
 use crate::reading::number_in;
 use crate::reading::places_lent;
 use crate::reading::string_lent;
-use stream::Stream;
-use stream::Streamed;
-use stream_reader::end_stream;
-use stream_reader::start_stream;
-use stream_reader::take_delivery;
+use stream::end_stream;
+use stream::start_stream;
+use stream::take_delivery;
+use stream_spec::Stream;
+use stream_spec::Streamed;
 
 // Each list before each record.
 const BLANK: [u32; 6] = [0xEEEEEEEE; 6];

@@ -1,6 +1,6 @@
 // What a record prints.
 use crate::carrying::Left;
-use stream::Streamed;
+use stream_spec::Streamed;
 
 // Eight digits.
 fn print_number(n: u32) {

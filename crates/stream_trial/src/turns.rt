@@ -4,8 +4,8 @@ ghost use Rattle.stream_trial.specs.Record.{blank};
 ghost use Rattle.stream_trial.specs.Carried.{answer-from};
 use crate::carrying::carry_record;
 use crate::printing::print_record;
-use stream::Stream;
-use stream_reader::start_stream;
+use stream::start_stream;
+use stream_spec::Stream;
 
 // One record carried out, and what it leaves printed. The stream goes on to the next.
 fn take_record(st: Stream, bytes: &[u8; 36]) -> Stream

@@ -7,12 +7,12 @@ use mathlib.Core.Logic.{⊎-elim, _≢_}
 use lib.ListN.{length, length-append}
 use borrow.Author.Tests.{eq-eqb, ne-eqb}
 use Rattle.words.proofs.Choices.{same-or-not}
-use Rattle.transcript_bytes.specs.Format.{record-of, transcript-of}
-use Rattle.transcript_bytes.specs.InPlainWords.{AllGood}
-use Rattle.transcript_bytes.specs.Writing.{entry-refusal, refused, first-bad}
-use Rattle.transcript_bytes.specs.declared.Entry.{Entry}
-use Rattle.transcript_bytes.specs.declared.Transcribed.{Transcribed}
-use Rattle.transcript_bytes.proofs.WrittenExactly.{passes-good}
+use Rattle.transcript_spec.specs.Format.{record-of, transcript-of}
+use Rattle.transcript_spec.specs.InPlainWords.{AllGood}
+use Rattle.transcript_spec.specs.Writing.{entry-refusal, refused, first-bad}
+use Rattle.transcript_spec.specs.declared.Entry.{Entry}
+use Rattle.transcript_spec.specs.declared.Transcribed.{Transcribed}
+use Rattle.transcript_spec.proofs.WrittenExactly.{passes-good}
 use Rattle.transcript.specs.Entries.{judged-entry}
 use Rattle.transcript.specs.WriterParts.{judged}
 use Rattle.transcript.specs.declared.JudgedEntry.{JudgedEntry}

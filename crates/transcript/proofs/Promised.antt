@@ -1,13 +1,13 @@
 -- What is said of one entry, exactly if; and what the contracts of the calls say, taken from the contracts themselves (`Contract`). What
--- `WroteTranscript`, `ReadTranscript` and `read-answer` promise is `Promised` of crate `transcript_bytes`.
+-- `WroteTranscript`, `ReadTranscript` and `read-answer` promise is `Promised` of crate `transcript_spec`.
 use mathlib.Core.Path.{_≡_, refl, sym, _∙_, subst}
 use mathlib.Core.Logic.{⊎-elim, _↔_}
 use Rattle.words.proofs.Contracts.{Contract}
-use Rattle.transcript_bytes.specs.Lists.{lists}
-use Rattle.transcript_bytes.specs.Reading.{read-answer, ReadTranscript}
-use Rattle.transcript_bytes.specs.Writing.{WroteTranscript}
-use Rattle.transcript_bytes.specs.declared.Entry.{Entry}
-use Rattle.transcript_bytes.proofs.WrittenExactly.{good-passes, bad-refused, bad-number, good-or-bad}
+use Rattle.transcript_spec.specs.Lists.{lists}
+use Rattle.transcript_spec.specs.Reading.{read-answer, ReadTranscript}
+use Rattle.transcript_spec.specs.Writing.{WroteTranscript}
+use Rattle.transcript_spec.specs.declared.Entry.{Entry}
+use Rattle.transcript_spec.proofs.WrittenExactly.{good-passes, bad-refused, bad-number, good-or-bad}
 use Rattle.transcript.specs.Entries.{judged-entry, EntryAs}
 use Rattle.transcript.specs.Entries as plain
 use Rattle.transcript.specs.declared.JudgedEntry.{JudgedEntry}

@@ -7,7 +7,7 @@ use mathlib.Core.List.{List, [], _∷_, _++_}
 use lib.ListN.{length, drop, set, length-append}
 use lib.Seq.{sets, length-sets, sets-eq}
 use Rattle.words.proofs.One.{one-value}
-use Rattle.transcript_bytes.specs.Lists.{over}
+use Rattle.transcript_spec.specs.Lists.{over}
 use Rattle.transcript.specs.WriterParts.{Put}
 
 -- Two texts, one put behind the other, are put together.

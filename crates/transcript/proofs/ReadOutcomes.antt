@@ -7,10 +7,10 @@ use mathlib.Core.Logic.{_≢_, ⊎-elim}
 use lib.ListN.{length}
 use borrow.Author.Tests.{lt-ltb, eq-eqb, ne-eqb}
 use Rattle.words.proofs.Choices.{less-or-not, same-or-not}
-use Rattle.transcript_bytes.specs.Lists.{Lists, size, with-each}
-use Rattle.transcript_bytes.specs.Reading.{entries-read, refusal-read, read-answer, lists-after, ReadTranscript}
-use Rattle.transcript_bytes.specs.declared.Transcribed.{Transcribed}
-use Rattle.transcript_bytes.proofs.Filled.{each-fits}
+use Rattle.transcript_spec.specs.Lists.{Lists, size, with-each}
+use Rattle.transcript_spec.specs.Reading.{entries-read, refusal-read, read-answer, lists-after, ReadTranscript}
+use Rattle.transcript_spec.specs.declared.Transcribed.{Transcribed}
+use Rattle.transcript_spec.proofs.Filled.{each-fits}
 use Rattle.transcript_scan.specs.Scan.{scanned}
 use Rattle.transcript_scan.specs.declared.scanning.Scanned.{Scanned}
 use Rattle.transcript.specs.ReaderParts.{answer-for}

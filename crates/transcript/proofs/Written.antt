@@ -7,10 +7,10 @@ use mathlib.Core.List.{List}
 use mathlib.Core.Logic.{_≢_}
 use lib.ListN.{length}
 use borrow.Author.Tests.{ne-eqb, lt-ltb, le-ltb}
-use Rattle.transcript_bytes.specs.Format.{transcript-of}
-use Rattle.transcript_bytes.specs.Lists.{Lists, size, entries-in, over}
-use Rattle.transcript_bytes.specs.Writing.{refused, accepted, fitting, write-answer, bytes-after, WroteTranscript}
-use Rattle.transcript_bytes.specs.declared.Transcribed.{Transcribed}
+use Rattle.transcript_spec.specs.Format.{transcript-of}
+use Rattle.transcript_spec.specs.Lists.{Lists, size, entries-in, over}
+use Rattle.transcript_spec.specs.Writing.{refused, accepted, fitting, write-answer, bytes-after, WroteTranscript}
+use Rattle.transcript_spec.specs.declared.Transcribed.{Transcribed}
 use Rattle.transcript.specs.WriterParts.{judged, Writable}
 use Rattle.transcript.specs.declared.writing.Judged.{Judged}
 use Rattle.transcript.proofs.Judging.{Passed, passed, barred}

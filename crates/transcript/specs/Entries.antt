@@ -5,10 +5,10 @@ use Prim.Native.Nat.{ℕ}
 use mathlib.Core.Bool.{cond}
 use lib.Dec.{eqb}
 use lib.ListN.{length}
-use Rattle.transcript_bytes.specs.Format.{record-of}
-use Rattle.transcript_bytes.specs.InPlainWords.{Good, BadEntry}
-use Rattle.transcript_bytes.specs.Writing.{entry-refusal}
-use Rattle.transcript_bytes.specs.declared.Entry.{Entry}
+use Rattle.transcript_spec.specs.Format.{record-of}
+use Rattle.transcript_spec.specs.InPlainWords.{Good, BadEntry}
+use Rattle.transcript_spec.specs.Writing.{entry-refusal}
+use Rattle.transcript_spec.specs.declared.Entry.{Entry}
 use Rattle.transcript.specs.declared.JudgedEntry.{JudgedEntry}
 
 -- "The writer tests 2, 3, then 22"; a record is what `record-of` writes

@@ -3,8 +3,8 @@
 use Prim.Native.Nat.{ℕ}
 use mathlib.Core.Bool.{cond}
 use lib.Dec.{eqb}
-use Rattle.transcript_bytes.specs.Writing.{refused, fitting}
-use Rattle.transcript_bytes.specs.declared.Transcribed.{Transcribed}
+use Rattle.transcript_spec.specs.Writing.{refused, fitting}
+use Rattle.transcript_spec.specs.declared.Transcribed.{Transcribed}
 use Rattle.transcript_scan.specs.declared.scanning.Scanned.{Scanned}
 
 unfoldable pub answer-for : Scanned → ℕ → Transcribed

@@ -9,11 +9,11 @@ use mathlib.Core.Path.{_≡_}
 use lib.Dec.{eqb}
 use lib.ListN.{length}
 use lib.Seq.{sets}
-use Rattle.transcript_bytes.specs.Format.{record-of, transcript-of}
-use Rattle.transcript_bytes.specs.InPlainWords.{AllGood}
-use Rattle.transcript_bytes.specs.Lists.{Lists, entries-from}
-use Rattle.transcript_bytes.specs.Writing.{entry-refusal}
-use Rattle.transcript_bytes.specs.declared.Entry.{Entry}
+use Rattle.transcript_spec.specs.Format.{record-of, transcript-of}
+use Rattle.transcript_spec.specs.InPlainWords.{AllGood}
+use Rattle.transcript_spec.specs.Lists.{Lists, entries-from}
+use Rattle.transcript_spec.specs.Writing.{entry-refusal}
+use Rattle.transcript_spec.specs.declared.Entry.{Entry}
 use Rattle.transcript.specs.declared.writing.Judged.{Judged}
 
 pub record Put (out : List ℕ) (at : ℕ) (text : List ℕ) (e : ℕ) (out′ : List ℕ) : Type 0 where

@@ -1,7 +1,7 @@
 // The answer of a refused call, the writer's and the reader's.
 ghost use mathlib.Core.Path.{_≡_};
-ghost use Rattle.transcript_bytes.specs.Writing.{refused};
-use transcript_bytes::Transcribed;
+ghost use Rattle.transcript_spec.specs.Writing.{refused};
+use transcript_spec::Transcribed;
 
 // Its number and its place, and nothing counted.
 pub(crate) fn refuse(number: u8, place: usize) -> Transcribed

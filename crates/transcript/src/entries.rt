@@ -1,8 +1,8 @@
 // What the writer says of one entry: document 02, request (ii), "The writer tests 2, 3, then 22".
 ghost use mathlib.Core.Path.{_≡_};
-ghost use Rattle.transcript_bytes.specs.Writing.{entry-refusal};
-use transcript_bytes::Entry;
+ghost use Rattle.transcript_spec.specs.Writing.{entry-refusal};
 use transcript_lists::has_no_record;
+use transcript_spec::Entry;
 use words::names_lanes;
 
 // Number 2, 3 or 22, in this order, or 0 where the entry is good.

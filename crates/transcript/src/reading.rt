@@ -1,15 +1,15 @@
 // The reader: a string of bytes to the four lists of a transcript's entries, or to a refusal with the lists as they were.
 ghost use mathlib.Core.Path.{_≡_};
-ghost use Rattle.transcript_bytes.specs.Lists.{lists};
-ghost use Rattle.transcript_bytes.specs.Reading.{read-answer, ReadTranscript};
+ghost use Rattle.transcript_spec.specs.Lists.{lists};
+ghost use Rattle.transcript_spec.specs.Reading.{read-answer, ReadTranscript};
 ghost use Rattle.transcript.specs.ReaderParts.{answer-for};
 use crate::answers::refuse;
-use transcript_bytes::Transcribed;
 use transcript_lists::shortest;
 use transcript_scan::Scanned;
 use transcript_scan::fill_on;
 use transcript_scan::fresh_part;
 use transcript_scan::scan;
+use transcript_spec::Transcribed;
 
 // What is answered of a string, by what the scan found and by how many entries have room: a bad record comes before lists that are too
 // small.

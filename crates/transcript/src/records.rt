@@ -2,13 +2,13 @@
 ghost use mathlib.Core.Path.{_≡_};
 ghost use Prim.Native.Nat.{_+_, _≤_, _<_};
 ghost use lib.ListN.{length};
-ghost use Rattle.transcript_bytes.specs.Format.{head-of, groups, record-of};
-ghost use Rattle.transcript_bytes.specs.InPlainWords.{Good};
+ghost use Rattle.transcript_spec.specs.Format.{head-of, groups, record-of};
+ghost use Rattle.transcript_spec.specs.InPlainWords.{Good};
 ghost use Rattle.transcript.specs.Entries.{judged-entry};
 ghost use Rattle.transcript.specs.WriterParts.{Put};
 use crate::JudgedEntry;
 use crate::entries::refusal_of;
-use transcript_bytes::Entry;
+use transcript_spec::Entry;
 
 // The head of an entry's record.
 fn head_of(e: Entry) -> u32

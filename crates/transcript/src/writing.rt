@@ -1,16 +1,16 @@
 // The writer: a list of accesses to the bytes of its transcript. Document 02, request (ii).
 ghost use mathlib.Core.Path.{_≡_};
 ghost use Prim.Native.Nat.{_≤_};
-ghost use Rattle.transcript_bytes.specs.Format.{transcript-of};
-ghost use Rattle.transcript_bytes.specs.Lists.{lists, size, entries-from, over};
-ghost use Rattle.transcript_bytes.specs.Writing.{WroteTranscript};
+ghost use Rattle.transcript_spec.specs.Format.{transcript-of};
+ghost use Rattle.transcript_spec.specs.Lists.{lists, size, entries-from, over};
+ghost use Rattle.transcript_spec.specs.Writing.{WroteTranscript};
 ghost use Rattle.transcript.specs.WriterParts.{judged, Writable};
 use crate::answers::refuse;
 use crate::records::judge_entry;
 use crate::records::put_record;
-use transcript_bytes::Transcribed;
 use transcript_lists::entry_at;
 use transcript_lists::shortest;
+use transcript_spec::Transcribed;
 
 // What judging a list finds: the refusal of its first bad entry and that one's index, or 0 and 0; and how many bytes the records of the
 // entries before it have, or of all where none is bad.

@@ -12,7 +12,7 @@ use Rattle.listing.specs.Pieces.{No-feed}
 use Rattle.listing.specs.declared.Front.the-variants.{Bad}
 use Rattle.listing.proofs.Feeds.{has-laid}
 use Rattle.listing.proofs.FrontLine.{whole-line}
-use Rattle.transcript_bytes.specs.declared.Entry.{Entry}
+use Rattle.transcript_spec.specs.declared.Entry.{Entry}
 use Rattle.transcript_lines.specs.InPlainWords.{NoGoodLine}
 use Rattle.transcript_lines.specs.Lines.{access-of, text-of, AllSayable}
 use Rattle.transcript_lines.specs.Taking.{take-answer}

@@ -10,10 +10,10 @@ use borrow.Author.Tests.{lt-ltb, le-ltb}
 use Rattle.listing.specs.Spelled.{lines-of}
 use Rattle.listing.specs.Parts.{laid, Put}
 use Rattle.listing.proofs.Laying.{with-more}
-use Rattle.transcript_bytes.specs.Lists.{Lists, size, entry-at, entries-in, over}
-use Rattle.transcript_bytes.specs.declared.Entry.{Entry}
-use Rattle.transcript_bytes.proofs.EntriesLeft.{left, all-left, next-left, none-left}
-use Rattle.transcript_bytes.proofs.Filled.{over-length}
+use Rattle.transcript_spec.specs.Lists.{Lists, size, entry-at, entries-in, over}
+use Rattle.transcript_spec.specs.declared.Entry.{Entry}
+use Rattle.transcript_spec.proofs.EntriesLeft.{left, all-left, next-left, none-left}
+use Rattle.transcript_spec.proofs.Filled.{over-length}
 use Rattle.transcript_lines.specs.Lines.{unsayable, line, text-of, AllSayable}
 use Rattle.transcript_lines.specs.Putting.{first-unsayable, fitting}
 use Rattle.transcript_lines.specs.declared.LinesPut.{LinesPut}

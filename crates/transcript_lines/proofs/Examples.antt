@@ -5,8 +5,8 @@ use mathlib.Core.List.{List, [], _∷_}
 use Rattle.digits.specs.Digits.{is-decimal, value-of, digit-for}
 use Rattle.listing.specs.Line.{headed, tailed, line-of, before-feed, has-feed, front-line}
 use Rattle.listing.specs.Spelled.{lines-of}
-use Rattle.transcript_bytes.specs.Writing.{no-record}
-use Rattle.transcript_bytes.specs.declared.Entry.{Entry}
+use Rattle.transcript_spec.specs.Writing.{no-record}
+use Rattle.transcript_spec.specs.declared.Entry.{Entry}
 use Rattle.transcript_lines.specs.Lines.{access-of, unsayable, text-of}
 use Rattle.transcript_lines.specs.Taking.{takes, taking, take-answer}
 use Rattle.transcript_lines.specs.Putting.{first-unsayable, put-answer}

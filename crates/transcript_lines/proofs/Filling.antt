@@ -4,13 +4,13 @@ use native.Mathlib.Omega.{arith}
 use mathlib.Core.Path.{_≡_, refl, sym, ap, _∙_, subst}
 use mathlib.Core.List.{List}
 use lib.ListN.{length, take, drop}
-use Rattle.port.specs.declared.Access.{Access}
+use Rattle.port_spec.specs.declared.Access.{Access}
 use Rattle.listing.specs.Line.{front-line}
 use Rattle.listing.specs.declared.Front.{Front}
 use Rattle.listing.specs.declared.Front.the-variants.{Good}
-use Rattle.transcript_bytes.specs.Lists.{Lists, size, with-entries, with-entry}
-use Rattle.transcript_bytes.specs.declared.Entry.{Entry}
-use Rattle.transcript_bytes.proofs.Filled.{SameLengths, lengths-stay, entry-more}
+use Rattle.transcript_spec.specs.Lists.{Lists, size, with-entries, with-entry}
+use Rattle.transcript_spec.specs.declared.Entry.{Entry}
+use Rattle.transcript_spec.proofs.Filled.{SameLengths, lengths-stay, entry-more}
 use Rattle.transcript_lines.specs.Lines.{entry-of}
 use Rattle.transcript_lines.specs.Taking.{Taking, taking}
 use Rattle.transcript_lines.proofs.Turns.{NotGood, Come, at-start, among, one-more, no-more}

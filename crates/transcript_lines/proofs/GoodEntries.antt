@@ -3,8 +3,8 @@ use native.Mathlib.Omega.{arith}
 use mathlib.Core.Path.{_≡_}
 use mathlib.Core.Bool.{false}
 use mathlib.Core.List.{List, [], _∷_}
-use Rattle.transcript_bytes.specs.InPlainWords.{Good, AllGood}
-use Rattle.transcript_bytes.specs.declared.Entry.{Entry}
+use Rattle.transcript_spec.specs.InPlainWords.{Good, AllGood}
+use Rattle.transcript_spec.specs.declared.Entry.{Entry}
 use Rattle.transcript_lines.specs.Lines.{unsayable, AllSayable}
 use Rattle.transcript_lines.proofs.Sayable.{sayable-when}
 

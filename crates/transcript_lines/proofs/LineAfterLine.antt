@@ -6,7 +6,7 @@ use mathlib.Core.Path.{_≡_, refl, ap, _∙_}
 use mathlib.Core.Bool.{Bool, true, false, true≢false}
 use mathlib.Core.List.{List, [], _∷_}
 use lib.ListN.{length, drop, length-drop}
-use Rattle.port.specs.declared.Access.{Access}
+use Rattle.port_spec.specs.declared.Access.{Access}
 use Rattle.listing.specs.Line.{has-feed, front-line}
 use Rattle.listing.specs.declared.Front.{Front}
 use Rattle.listing.specs.declared.Front.the-variants.{Good, Bad, Open}

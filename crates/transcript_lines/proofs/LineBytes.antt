@@ -8,7 +8,7 @@ use lib.ListN.{length, take, drop, set}
 use lib.Seq.{sets-eq}
 use borrow.Author.Tests.{eq-eqb, ne-eqb}
 use Rattle.listing.specs.Parts.{laid}
-use Rattle.transcript_bytes.specs.declared.Entry.{Entry}
+use Rattle.transcript_spec.specs.declared.Entry.{Entry}
 use Rattle.transcript_lines.specs.Lines.{access-of, line}
 use Rattle.transcript_lines.specs.Parts.{head-text, word-text}
 

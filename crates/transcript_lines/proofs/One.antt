@@ -3,7 +3,7 @@ use Prim.Native.Nat.{ℕ}
 use mathlib.Core.Path.{_≡_}
 use mathlib.Core.List.{List}
 use Rattle.words.proofs.One.{one-value}
-use Rattle.transcript_bytes.specs.Lists.{Lists}
+use Rattle.transcript_spec.specs.Lists.{Lists}
 use Rattle.transcript_lines.specs.Putting.{PutLines}
 use Rattle.transcript_lines.specs.Taking.{TookLines}
 use Rattle.transcript_lines.specs.declared.LinesPut.{LinesPut}

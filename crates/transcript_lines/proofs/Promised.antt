@@ -10,12 +10,12 @@ use mathlib.Core.Logic.{_↔_, _≢_}
 use lib.ListN.{length, take, drop}
 use lib.Seq.{take-append-seam, drop-append-seam}
 use Rattle.words.proofs.Contracts.{Contract}
-use Rattle.transcript_bytes.specs.InPlainWords.{first-places, later-places}
-use Rattle.transcript_bytes.specs.Lists.{Lists, lists, size, entries-in, over, with-entries}
-use Rattle.transcript_bytes.specs.declared.Entry.{Entry}
-use Rattle.transcript_bytes.specs.declared.Transcribed.{Transcribed}
-use Rattle.transcript_bytes.proofs.Columns.{first-are-columns, later-stay}
-use Rattle.transcript_bytes.proofs.Filled.{SameLengths, over-length, lengths-stay}
+use Rattle.transcript_spec.specs.InPlainWords.{first-places, later-places}
+use Rattle.transcript_spec.specs.Lists.{Lists, lists, size, entries-in, over, with-entries}
+use Rattle.transcript_spec.specs.declared.Entry.{Entry}
+use Rattle.transcript_spec.specs.declared.Transcribed.{Transcribed}
+use Rattle.transcript_spec.proofs.Columns.{first-are-columns, later-stay}
+use Rattle.transcript_spec.proofs.Filled.{SameLengths, over-length, lengths-stay}
 use Rattle.transcript_lines.specs.InNumbers.{taken-numbers, put-numbers}
 use Rattle.transcript_lines.specs.InPlainWords.{TookAs, TookAll, PutAs, PutAll}
 use Rattle.transcript_lines.specs.Lines.{entry-of, line, text-of}

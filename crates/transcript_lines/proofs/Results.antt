@@ -7,7 +7,7 @@ use mathlib.Core.List.{List}
 use mathlib.Core.Logic.{_⊎_, inl, inr}
 use denote.Enum.Declared.{tagOf}
 use lib.ListN.{length}
-use Rattle.transcript_bytes.specs.Lists.{Lists, size, entries-in, over, with-entries}
+use Rattle.transcript_spec.specs.Lists.{Lists, size, entries-in, over, with-entries}
 use Rattle.transcript_lines.specs.Lines.{text-of, AllSayable}
 use Rattle.transcript_lines.specs.Taking.{Taking, taking, take-answer, is-taken, lists-after, TookLines}
 use Rattle.transcript_lines.specs.Putting.{first-unsayable, fitting, put-answer, is-written, text-after, PutLines}

@@ -7,11 +7,11 @@ use mathlib.Core.Logic.{_⊎_, inl, inr, _↔_}
 use lib.Dec.{eqb, ltb}
 use borrow.Author.Tests.{eqb-true, eqb-false, eq-eqb, ltb-false, le-ltb}
 use Rattle.words.proofs.Choices.{either-way, both-false}
-use Rattle.port.specs.declared.Access.{Access}
-use Rattle.port.specs.declared.Access.the-variants.{Read, Write}
+use Rattle.port_spec.specs.declared.Access.{Access}
+use Rattle.port_spec.specs.declared.Access.the-variants.{Read, Write}
 use Rattle.listing.specs.Spelled.{Sayable}
-use Rattle.transcript_bytes.specs.Writing.{no-record}
-use Rattle.transcript_bytes.specs.declared.Entry.{Entry}
+use Rattle.transcript_spec.specs.Writing.{no-record}
+use Rattle.transcript_spec.specs.declared.Entry.{Entry}
 use Rattle.transcript_lines.specs.InPlainWords.{Says}
 use Rattle.transcript_lines.specs.Lines.{entry-of, access-of, unsayable}
 

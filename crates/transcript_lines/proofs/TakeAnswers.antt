@@ -10,7 +10,7 @@ use lib.Dec.{eqb}
 use lib.ListN.{length}
 use borrow.Author.Tests.{eqb-true, eqb-false, ne-eqb, lt-ltb, le-ltb}
 use Rattle.words.proofs.Choices.{either-way, less-or-not}
-use Rattle.transcript_bytes.specs.declared.Transcribed.{Transcribed}
+use Rattle.transcript_spec.specs.declared.Transcribed.{Transcribed}
 use Rattle.transcript_lines.specs.InNumbers.{taken-numbers}
 use Rattle.transcript_lines.specs.InPlainWords.{NoGoodLine, LinesThen, BadLineAt, TookAs}
 use Rattle.transcript_lines.specs.InPlainWords as plain

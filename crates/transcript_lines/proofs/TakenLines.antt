@@ -8,12 +8,12 @@ use mathlib.Core.List.{List, [], _∷_, _++_, append-assoc, append-nil}
 use mathlib.Core.Logic.{_≢_}
 use lib.ListN.{length, drop, length-drop}
 use lib.Seq.{drop-at}
-use Rattle.port.specs.declared.Access.{Access}
+use Rattle.port_spec.specs.declared.Access.{Access}
 use Rattle.listing.specs.Line.{has-feed, front-line}
 use Rattle.listing.specs.Spelled.{lines-of}
 use Rattle.listing.specs.declared.Front.{Front}
 use Rattle.listing.specs.declared.Front.the-variants.{Good, Bad, Open}
-use Rattle.transcript_bytes.specs.declared.Entry.{Entry}
+use Rattle.transcript_spec.specs.declared.Entry.{Entry}
 use Rattle.transcript_lines.specs.InPlainWords.{NoGoodLine, TextOf}
 use Rattle.transcript_lines.specs.Lines.{entry-of, access-of, unsayable, line, text-of, AllSayable}
 use Rattle.transcript_lines.specs.Taking.{Taking, nothing, more, by-front, takes, taking}

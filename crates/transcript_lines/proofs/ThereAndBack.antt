@@ -6,10 +6,10 @@ use mathlib.Core.List.{List, [], append-nil}
 use lib.ListN.{length, take, drop}
 use lib.Seq.{take-at}
 use borrow.Author.Tests.{le-ltb}
-use Rattle.transcript_bytes.specs.Lists.{Lists, lists, size, entries-in, over, with-entries}
-use Rattle.transcript_bytes.specs.InPlainWords.{first-places}
-use Rattle.transcript_bytes.specs.declared.Entry.{Entry}
-use Rattle.transcript_bytes.proofs.Columns.{length-entries, entries-columns, first-are-columns}
+use Rattle.transcript_spec.specs.Lists.{Lists, lists, size, entries-in, over, with-entries}
+use Rattle.transcript_spec.specs.InPlainWords.{first-places}
+use Rattle.transcript_spec.specs.declared.Entry.{Entry}
+use Rattle.transcript_spec.proofs.Columns.{length-entries, entries-columns, first-are-columns}
 use Rattle.transcript_lines.specs.Lines.{text-of, AllSayable}
 use Rattle.transcript_lines.specs.Taking.{Taking, taking, judged, take-answer, lists-after, TookLines}
 use Rattle.transcript_lines.specs.Putting.{text-after, PutLines}

@@ -9,13 +9,13 @@ use denote.Enum.Declared.{tagOf}
 use lib.ListN.{length, take, drop, length-append, length-drop, drop-of-length-le}
 use lib.Seq.{drop-drop}
 use borrow.Author.Tests.{ne-eqb}
-use Rattle.port.specs.declared.Access.{Access}
+use Rattle.port_spec.specs.declared.Access.{Access}
 use Rattle.listing.specs.Line.{front-line}
 use Rattle.listing.specs.declared.Front.{Front}
 use Rattle.listing.specs.declared.Front.the-variants.{Good, Bad, Open}
 use Rattle.listing.proofs.Front.{the-type}
 use Rattle.listing.proofs.Turns.{part-front}
-use Rattle.transcript_bytes.specs.declared.Entry.{Entry}
+use Rattle.transcript_spec.specs.declared.Entry.{Entry}
 use Rattle.transcript_lines.specs.Lines.{entry-of}
 use Rattle.transcript_lines.specs.Taking.{Taking, takes, taking, fitting, judged, take-answer}
 use Rattle.transcript_lines.specs.declared.LinesTaken.the-variants.{BadLine}

@@ -3,8 +3,8 @@
 --   taken-numbers o   of `take_lines`: the count is of entries, the place that of the bad line, by the good ones before it
 --   put-numbers o     of `put_lines`: the count is of bytes, the place that of the entry which no line can say, its index
 use Rattle.listing.specs.InNumbers.{bad-line-number}
-use Rattle.transcript_bytes.specs.Writing.{refused, accepted}
-use Rattle.transcript_bytes.specs.declared.Transcribed.{Transcribed}
+use Rattle.transcript_spec.specs.Writing.{refused, accepted}
+use Rattle.transcript_spec.specs.declared.Transcribed.{Transcribed}
 use Rattle.transcript_lines.specs.declared.LinesPut.{LinesPut}
 use Rattle.transcript_lines.specs.declared.LinesPut.the-variants.{Written, Unsayable, NoBytes}
 use Rattle.transcript_lines.specs.declared.LinesTaken.{LinesTaken}

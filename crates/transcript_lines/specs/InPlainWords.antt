@@ -15,10 +15,10 @@ use mathlib.Core.Bool.{true, false}
 use mathlib.Core.List.{List, [], _∷_, _++_}
 use mathlib.Core.Logic.{_≢_}
 use lib.ListN.{length, take, drop}
-use Rattle.transcript_bytes.specs.InPlainWords.{answer, first-places, later-places}
-use Rattle.transcript_bytes.specs.Lists.{Lists, size, entries-in, columns}
-use Rattle.transcript_bytes.specs.declared.Entry.{Entry}
-use Rattle.transcript_bytes.specs.declared.Transcribed.{Transcribed}
+use Rattle.transcript_spec.specs.InPlainWords.{answer, first-places, later-places}
+use Rattle.transcript_spec.specs.Lists.{Lists, size, entries-in, columns}
+use Rattle.transcript_spec.specs.declared.Entry.{Entry}
+use Rattle.transcript_spec.specs.declared.Transcribed.{Transcribed}
 use Rattle.transcript_lines.specs.Lines.{unsayable, line, text-of, AllSayable}
 use Rattle.transcript_lines.specs.Taking.{Taking}
 

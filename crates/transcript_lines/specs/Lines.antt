@@ -10,11 +10,11 @@ use mathlib.Core.Path.{_≡_}
 use mathlib.Core.Bool.{Bool, false, cond, _||_}
 use mathlib.Core.List.{List, [], _∷_, _++_, map}
 use lib.Dec.{eqb, ltb}
-use Rattle.port.specs.declared.Access.{Access}
-use Rattle.port.specs.declared.Access.the-variants.{Read, Write}
+use Rattle.port_spec.specs.declared.Access.{Access}
+use Rattle.port_spec.specs.declared.Access.the-variants.{Read, Write}
 use Rattle.listing.specs.Spelled.{line-text, lines-of}
-use Rattle.transcript_bytes.specs.Writing.{no-record}
-use Rattle.transcript_bytes.specs.declared.Entry.{Entry}
+use Rattle.transcript_spec.specs.Writing.{no-record}
+use Rattle.transcript_spec.specs.declared.Entry.{Entry}
 
 -- a read has no word: 0 stands in its place
 abbrev pub entry-of : Access → Entry

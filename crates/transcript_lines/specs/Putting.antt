@@ -12,8 +12,8 @@ use mathlib.Core.Bool.{Bool, true, false, cond}
 use mathlib.Core.List.{List, [], _∷_}
 use lib.Dec.{ltb}
 use lib.ListN.{length}
-use Rattle.transcript_bytes.specs.Lists.{Lists, entries-in, over}
-use Rattle.transcript_bytes.specs.declared.Entry.{Entry}
+use Rattle.transcript_spec.specs.Lists.{Lists, entries-in, over}
+use Rattle.transcript_spec.specs.declared.Entry.{Entry}
 use Rattle.transcript_lines.specs.Lines.{unsayable, text-of}
 use Rattle.transcript_lines.specs.declared.LinesPut.{LinesPut}
 use Rattle.transcript_lines.specs.declared.LinesPut.the-variants.{Written, Unsayable, NoBytes}

@@ -19,8 +19,8 @@ use lib.ListN.{length, drop}
 use Rattle.listing.specs.Line.{front-line}
 use Rattle.listing.specs.declared.Front.{Front}
 use Rattle.listing.specs.declared.Front.the-variants.{Good, Bad, Open}
-use Rattle.transcript_bytes.specs.Lists.{Lists, size, with-entries}
-use Rattle.transcript_bytes.specs.declared.Entry.{Entry}
+use Rattle.transcript_spec.specs.Lists.{Lists, size, with-entries}
+use Rattle.transcript_spec.specs.declared.Entry.{Entry}
 use Rattle.transcript_lines.specs.Lines.{entry-of}
 use Rattle.transcript_lines.specs.declared.LinesTaken.{LinesTaken}
 use Rattle.transcript_lines.specs.declared.LinesTaken.the-variants.{Taken, BadLine, NoPlaces}

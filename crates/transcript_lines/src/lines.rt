@@ -7,9 +7,9 @@ ghost use Rattle.listing.specs.Parts.{Put};
 ghost use Rattle.transcript_lines.specs.Lines.{entry-of, unsayable, line};
 ghost use Rattle.transcript_lines.specs.Parts.{head-text, word-text};
 use digits::digit_for;
-use port::Access;
-use transcript_bytes::Entry;
+use port_spec::Access;
 use transcript_lists::has_no_record;
+use transcript_spec::Entry;
 use words::either;
 
 // The entry that a line's access makes: a read has no word.

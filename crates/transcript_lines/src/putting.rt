@@ -2,7 +2,7 @@
 ghost use mathlib.Core.Path.{_≡_};
 ghost use Prim.Native.Nat.{_≤_};
 ghost use lib.ListN.{length};
-ghost use Rattle.transcript_bytes.specs.Lists.{lists, entries-in, over};
+ghost use Rattle.transcript_spec.specs.Lists.{lists, entries-in, over};
 ghost use Rattle.transcript_lines.specs.Lines.{text-of, AllSayable};
 ghost use Rattle.transcript_lines.specs.Putting.{fitting, first-unsayable, PutLines};
 use crate::LinesPut;

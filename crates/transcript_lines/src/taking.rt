@@ -2,7 +2,7 @@
 ghost use mathlib.Core.Path.{_≡_};
 ghost use Prim.Native.Nat.{_≤_};
 ghost use lib.ListN.{length};
-ghost use Rattle.transcript_bytes.specs.Lists.{lists, size, with-entries};
+ghost use Rattle.transcript_spec.specs.Lists.{lists, size, with-entries};
 ghost use Rattle.transcript_lines.specs.Taking.{taking, take-answer, TookLines};
 use crate::LinesTaken;
 use crate::lines::entry_of;

@@ -1,8 +1,8 @@
 -- What the contracts of the calls say, taken from the contracts themselves (`Contract`): each is a statement on the call's own arguments.
 use Prim.Native.Nat.{min}
 use mathlib.Core.Path.{_≡_}
-use Rattle.transcript_bytes.specs.Lists.{entry-at, lists, with-entry}
-use Rattle.transcript_bytes.specs.Writing.{no-record}
+use Rattle.transcript_spec.specs.Lists.{entry-at, lists, with-entry}
+use Rattle.transcript_spec.specs.Writing.{no-record}
 use Rattle.words.proofs.Contracts.{Contract}
 use Rattle.transcript_lists.proofs.shortest.Kinds as shortest-kinds
 use Rattle.transcript_lists.proofs.shortest.Reads as shortest

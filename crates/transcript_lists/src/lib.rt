@@ -4,9 +4,9 @@
 ghost use mathlib.Core.Path.{_≡_};
 ghost use Prim.Native.Nat.{min};
 ghost use lib.ListN.{getD, set};
-ghost use Rattle.transcript_bytes.specs.Lists.{lists, entry-at, with-entry};
-ghost use Rattle.transcript_bytes.specs.Writing.{no-record};
-use transcript_bytes::Entry;
+ghost use Rattle.transcript_spec.specs.Lists.{lists, entry-at, with-entry};
+ghost use Rattle.transcript_spec.specs.Writing.{no-record};
+use transcript_spec::Entry;
 use words::both;
 use words::either;
 use words::least;

@@ -5,13 +5,13 @@ use native.Mathlib.Omega.{arith}
 use mathlib.Core.Path.{_≡_, refl, sym, ap, _∙_}
 use mathlib.Core.List.{List, [], _∷_, _++_}
 use lib.ListN.{length, getD, length-append}
-use Rattle.transcript_bytes.specs.Reading.{at, fresh, step}
-use Rattle.transcript_bytes.specs.declared.Entry.{Entry}
-use Rattle.transcript_bytes.specs.declared.Part.{Part}
-use Rattle.transcript_bytes.specs.declared.Step.the-variants.{Goes, Whole, Bad}
+use Rattle.transcript_spec.specs.Reading.{at, fresh, step}
+use Rattle.transcript_spec.specs.declared.Entry.{Entry}
+use Rattle.transcript_spec.specs.declared.Part.{Part}
+use Rattle.transcript_spec.specs.declared.Step.the-variants.{Goes, Whole, Bad}
 use Rattle.transcript_scan.specs.Scan.{read-on}
-use Rattle.transcript_bytes.proofs.BadNumbers.{bad-has-number}
-use Rattle.transcript_bytes.proofs.ReadingOn.{Reached, none-yet, one-more, at-refusal}
+use Rattle.transcript_spec.proofs.BadNumbers.{bad-has-number}
+use Rattle.transcript_spec.proofs.ReadingOn.{Reached, none-yet, one-more, at-refusal}
 
 -- i bytes are read on from the part p₀, and so many entries; the record that is being read begins at place, and p is its part
 pub record Counting (p₀ : Part) (s : List ℕ) (p : Part) (entries place i : ℕ) : Type 0 where

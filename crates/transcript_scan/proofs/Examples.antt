@@ -3,8 +3,8 @@
 use mathlib.Core.Path.{_≡_, refl}
 use mathlib.Core.Bool.{true, false}
 use mathlib.Core.List.{[], _∷_}
-use Rattle.transcript_bytes.specs.Reading.{none, fresh, with-group, head-read, word-read, step, feed, feeds}
-use Rattle.transcript_bytes.specs.declared.Part.the-variants.{Head, Word}
+use Rattle.transcript_spec.specs.Reading.{none, fresh, with-group, head-read, word-read, step, feed, feeds}
+use Rattle.transcript_spec.specs.declared.Part.the-variants.{Head, Word}
 use Rattle.transcript_scan.specs.Scan.{scanned, scanned-on}
 
 pub record Finds : Type 0 where

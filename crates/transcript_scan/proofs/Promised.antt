@@ -1,7 +1,7 @@
 -- What the contracts of the calls say, taken from the contracts themselves (`Contract`): each is a statement on the call's own arguments.
 use mathlib.Core.Path.{_≡_}
-use Rattle.transcript_bytes.specs.Lists.{lists, with-each}
-use Rattle.transcript_bytes.specs.Reading.{cut-off, fresh, step}
+use Rattle.transcript_spec.specs.Lists.{lists, with-each}
+use Rattle.transcript_spec.specs.Reading.{cut-off, fresh, step}
 use Rattle.transcript_scan.specs.Scan.{read-on, scanned, scanned-on}
 use Rattle.words.proofs.Contracts.{Contract}
 use Rattle.transcript_scan.proofs.filling.fill_on.Kinds as fill-on-kinds

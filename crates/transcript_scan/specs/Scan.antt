@@ -6,8 +6,8 @@
 use Prim.Native.Nat.{ℕ}
 use mathlib.Core.List.{List, []}
 use lib.ListN.{length}
-use Rattle.transcript_bytes.specs.Reading.{Reading, at, feeds, entries-read, place-read, refusal-read}
-use Rattle.transcript_bytes.specs.declared.Part.{Part}
+use Rattle.transcript_spec.specs.Reading.{Reading, at, feeds, entries-read, place-read, refusal-read}
+use Rattle.transcript_spec.specs.declared.Part.{Part}
 use Rattle.transcript_scan.specs.declared.scanning.Scanned.{Scanned}
 use Rattle.transcript_scan.specs.declared.scanning.ScannedOn.{ScannedOn}
 

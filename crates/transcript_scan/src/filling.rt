@@ -1,12 +1,12 @@
 // The entries of a string's good records, put into lists.
 ghost use mathlib.Core.Path.{_≡_};
-ghost use Rattle.transcript_bytes.specs.Lists.{lists, with-each};
+ghost use Rattle.transcript_spec.specs.Lists.{lists, with-each};
 ghost use Rattle.transcript_scan.specs.Scan.{read-on};
 use crate::steps::fresh_part;
 use crate::steps::take_byte;
-use transcript_bytes::Part;
-use transcript_bytes::Step;
 use transcript_lists::put_entry;
+use transcript_spec::Part;
+use transcript_spec::Step;
 
 // The entries of the good records that a string finishes, up to its first bad one, from the first places of the four lists on. The first
 // record may have begun before the string. What lies beyond a list's end is dropped: whoever wants all of them has counted them before.

@@ -2,13 +2,13 @@
 ghost use mathlib.Core.Path.{_≡_};
 ghost use mathlib.Core.Bool.{cond};
 ghost use lib.Dec.{eqb};
-ghost use Rattle.transcript_bytes.specs.Reading.{cut-off};
+ghost use Rattle.transcript_spec.specs.Reading.{cut-off};
 ghost use Rattle.transcript_scan.specs.Scan.{scanned, scanned-on};
 use crate::steps::cut_off;
 use crate::steps::fresh_part;
 use crate::steps::take_byte;
-use transcript_bytes::Part;
-use transcript_bytes::Step;
+use transcript_spec::Part;
+use transcript_spec::Step;
 
 // How far a string is read: how many good records it finishes, up to its first bad one; where the record begins that is read last, 0 if that
 // one was begun before the string; how many bytes are read; how far that record is read; and its refusal, or 0. Behind a bad record

@@ -1,10 +1,10 @@
 // What one byte more makes of a record: its numbers grow group by group, and each is judged when its last group is there.
 ghost use mathlib.Core.Path.{_≡_};
-ghost use Rattle.transcript_bytes.specs.Reading.{none, fresh, with-group, grown, entry-of, head-read, word-read, step, cut-off};
-use transcript_bytes::Entry;
-use transcript_bytes::Number;
-use transcript_bytes::Part;
-use transcript_bytes::Step;
+ghost use Rattle.transcript_spec.specs.Reading.{none, fresh, with-group, grown, entry-of, head-read, word-read, step, cut-off};
+use transcript_spec::Entry;
+use transcript_spec::Number;
+use transcript_spec::Part;
+use transcript_spec::Step;
 
 // A number before its first group.
 fn no_number() -> Number

@@ -4,10 +4,10 @@ use Prim.Native.Nat.{ℕ, zero, suc}
 use mathlib.Core.Path.{_≡_, refl}
 use mathlib.Core.List.{List, [], _∷_}
 use Rattle.words.specs.Bytes.{are-lanes}
-use Rattle.transcript_bytes.specs.Format.{groups, record-of, transcript-of}
-use Rattle.transcript_bytes.specs.Lists.{Lists, lists, entries-from}
-use Rattle.transcript_bytes.specs.Reading.{with-group, head-read, word-read, step, feed, feeds, read-answer, lists-after}
-use Rattle.transcript_bytes.specs.Writing.{refused, accepted, no-record, entry-refusal, first-bad, write-answer, bytes-after}
+use Rattle.transcript_spec.specs.Format.{groups, record-of, transcript-of}
+use Rattle.transcript_spec.specs.Lists.{Lists, lists, entries-from}
+use Rattle.transcript_spec.specs.Reading.{with-group, head-read, word-read, step, feed, feeds, read-answer, lists-after}
+use Rattle.transcript_spec.specs.Writing.{refused, accepted, no-record, entry-refusal, first-bad, write-answer, bytes-after}
 use Rattle.transcript_trial.specs.Record.{lists-in, string-lent, string-back, lists-lent, lists-returned}
 use Rattle.transcript_trial.specs.Carried.{called-answer, called-string, called-lists}
 use Rattle.transcript_trial.specs.Carried.{answer-from, string-from, lists-from, Carried}

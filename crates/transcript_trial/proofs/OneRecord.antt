@@ -7,11 +7,11 @@ use mathlib.Core.List.{List}
 use lib.ListN.{length, take}
 use borrow.Rule.Slice.PartMut.{putMid}
 use Rattle.words.proofs.Lent.{lent-is, back-is}
-use Rattle.transcript_bytes.specs.Lists.{Lists, lists}
-use Rattle.transcript_bytes.specs.Reading.{ReadTranscript}
-use Rattle.transcript_bytes.specs.Writing.{WroteTranscript}
-use Rattle.transcript_bytes.specs.declared.Transcribed.{Transcribed}
-use Rattle.transcript_bytes.proofs.LentLists.{parts, put-back, Lends, parts-lent, parts-back}
+use Rattle.transcript_spec.specs.Lists.{Lists, lists}
+use Rattle.transcript_spec.specs.Reading.{ReadTranscript}
+use Rattle.transcript_spec.specs.Writing.{WroteTranscript}
+use Rattle.transcript_spec.specs.declared.Transcribed.{Transcribed}
+use Rattle.transcript_spec.proofs.LentLists.{parts, put-back, Lends, parts-lent, parts-back}
 use Rattle.transcript_trial.specs.Record.{byte, column, lists-in, reads, string-lent, string-back, lists-returned}
 use Rattle.transcript_trial.specs.Carried.{called-answer, called-string, called-lists, Called}
 use Rattle.transcript_trial.specs.Carried.{answer-from, string-from, lists-from, Carried}

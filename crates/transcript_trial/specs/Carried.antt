@@ -8,10 +8,10 @@ use mathlib.Core.Path.{_≡_}
 use mathlib.Core.Bool.{Bool, cond}
 use mathlib.Core.List.{List}
 use lib.ListN.{length}
-use Rattle.transcript_bytes.specs.Lists.{Lists, size, entries-in}
-use Rattle.transcript_bytes.specs.Reading.{read-answer, lists-after}
-use Rattle.transcript_bytes.specs.Writing.{write-answer, bytes-after}
-use Rattle.transcript_bytes.specs.declared.Transcribed.{Transcribed}
+use Rattle.transcript_spec.specs.Lists.{Lists, size, entries-in}
+use Rattle.transcript_spec.specs.Reading.{read-answer, lists-after}
+use Rattle.transcript_spec.specs.Writing.{write-answer, bytes-after}
+use Rattle.transcript_spec.specs.declared.Transcribed.{Transcribed}
 use Rattle.transcript_trial.specs.Record.{reads, string-lent, string-back, lists-lent, lists-returned}
 
 -- ---- a call, on all of a string and of four lists

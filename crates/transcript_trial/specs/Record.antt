@@ -15,7 +15,7 @@ use mathlib.Core.List.{List, [], _∷_}
 use lib.Dec.{eqb}
 use lib.ListN.{getD}
 use Rattle.words.specs.Lent.{lent, given-back}
-use Rattle.transcript_bytes.specs.Lists.{Lists, lists, lent-lists, lists-back}
+use Rattle.transcript_spec.specs.Lists.{Lists, lists, lent-lists, lists-back}
 
 abbrev pub byte : List ℕ → ℕ → ℕ
 byte b k = getD b k 0

@@ -1,13 +1,13 @@
 // A record of a script, carried out.
 ghost use mathlib.Core.Path.{_≡_};
 ghost use Prim.Native.Nat.{min};
-ghost use Rattle.transcript_bytes.specs.Lists.{lists};
+ghost use Rattle.transcript_spec.specs.Lists.{lists};
 ghost use Rattle.transcript_trial.specs.Record.{lists-in};
 ghost use Rattle.transcript_trial.specs.Carried.{Called, Carried};
 use crate::reading::column_at;
 use transcript::read_transcript;
 use transcript::write_transcript;
-use transcript_bytes::Transcribed;
+use transcript_spec::Transcribed;
 use words::least;
 
 // What a record leaves, but for its string: what the call answered, and the four lists.

@@ -3,7 +3,7 @@ ghost use mathlib.Core.Path.{_≡_};
 ghost use Prim.Native.Nat.{_/_, _%_};
 ghost use mathlib.Core.List.{[], _∷_};
 use crate::carrying::Left;
-use transcript_bytes::Transcribed;
+use transcript_spec::Transcribed;
 
 // A number's bytes, low first.
 fn bytes_of(n: u32) -> [u8; 4]

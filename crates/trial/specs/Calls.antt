@@ -22,20 +22,20 @@ use Rattle.registers.specs.Processor.{processor-reads, processor-writes, at-res
 use Rattle.registers.specs.declared.Registers.{Registers}
 use Rattle.registers.specs.declared.ProcessorRead.{ProcessorRead}
 use Rattle.registers.specs.declared.ProcessorWrite.{ProcessorWrite}
-use Rattle.port.specs.Host.{access, access-memory}
-use Rattle.port.specs.declared.Access.{Access}
-use Rattle.port.specs.declared.Access.the-variants.{Read, Write}
-use Rattle.port.specs.declared.Cycle.{Cycle}
-use Rattle.port.specs.declared.Cycle.the-variants.{None, Inside, Empty}
-use Rattle.port.specs.declared.Answer.{Answer}
-use Rattle.port.specs.declared.Outcome.{Outcome}
-use Rattle.fields.specs.Answers.{taken, taken-signed, put-answer, put-memory}
-use Rattle.fields.specs.declared.Taken.{Taken}
-use Rattle.fields.specs.declared.SignedTaken.{SignedTaken}
-use Rattle.fields.specs.declared.Put.{Put}
-use Rattle.block_words.specs.Block.{block-read, block-write, memory-left, list-after as read-list}
-use Rattle.block_words.specs.declared.BlockRead.{BlockRead}
-use Rattle.block_words.specs.declared.BlockWrite.{BlockWrite}
+use Rattle.port_spec.specs.Host.{access, access-memory}
+use Rattle.port_spec.specs.declared.Access.{Access}
+use Rattle.port_spec.specs.declared.Access.the-variants.{Read, Write}
+use Rattle.port_spec.specs.declared.Cycle.{Cycle}
+use Rattle.port_spec.specs.declared.Cycle.the-variants.{None, Inside, Empty}
+use Rattle.port_spec.specs.declared.Answer.{Answer}
+use Rattle.port_spec.specs.declared.Outcome.{Outcome}
+use Rattle.field.specs.Answers.{taken, taken-signed, put-answer, put-memory}
+use Rattle.field.specs.declared.Taken.{Taken}
+use Rattle.field.specs.declared.SignedTaken.{SignedTaken}
+use Rattle.field.specs.declared.Put.{Put}
+use Rattle.block_spec.specs.Block.{block-read, block-write, memory-left, list-after as read-list}
+use Rattle.block_spec.specs.declared.BlockRead.{BlockRead}
+use Rattle.block_spec.specs.declared.BlockWrite.{BlockWrite}
 use Rattle.script.specs.Script.{host-letter, processor-letter, field-letter, bus-letter, whole-letter, plain-letter}
 use Rattle.script.specs.Answers.{counted}
 use Rattle.script.specs.declared.Call.{Call}

@@ -25,13 +25,13 @@ pub(crate) fn call_fields(s: State, memory: &mut [u16], call: Call) -> Done
 {
     let at = BitAddress(call.a);
     if call.letter == b'T' {
-        let t = fields::take_out(memory, at, call.b);
+        let t = field::take_out(memory, at, call.b);
         return answer(s, t.number, t.value, t.cycles);
     }
     if call.letter == b'S' {
-        let t = fields::take_out_signed(memory, at, call.b);
+        let t = field::take_out_signed(memory, at, call.b);
         return answer(s, t.number, modulo_of(t.value), t.cycles);
     }
-    let p = fields::put_in(memory, at, call.b, call.c);
+    let p = field::put_in(memory, at, call.b, call.c);
     answer(s, p.number, 0, p.cycles)
 }

@@ -5,10 +5,10 @@ ghost use Rattle.trial.specs.Calls.{marks, access-in, HostDone, processo
 ghost use Rattle.trial.specs.Calls.{cycle-number as Calls·cycle-number, host-done as Calls·host-done};
 use crate::setting::answer;
 use crate::setting::answer_with;
-use port::Access;
-use port::Answer;
-use port::Cycle;
-use port::Outcome;
+use port_spec::Access;
+use port_spec::Answer;
+use port_spec::Cycle;
+use port_spec::Outcome;
 use script::Call;
 use script::Done;
 use script::State;
@@ -67,9 +67,12 @@ pub(crate) fn call_host(s: State, memory: &mut [u16], call: Call) -> Done
 {
     let r = s.registers;
     if is_in_place_letter(call.letter) {
-        return host_done(s, bench::host_access_by_lending(r, memory, access_of(call)));
+        return host_done(
+            s,
+            in_place::host_access_by_lending(r, memory, access_of(call)),
+        );
     }
-    host_done(s, host::host_access(r, memory, access_of(call)))
+    host_done(s, port::host_access(r, memory, access_of(call)))
 }
 
 // P or Q.

@@ -1,6 +1,6 @@
 -- `door::close_call` meets its contract: the cycle carried over bytes, then finished, saved and packed.
 use borrow.Author.Needs.{needs}
-use Rattle.port.specs.Host.{done}
+use Rattle.port_spec.specs.Host.{done}
 use Rattle.door.proofs.close_call.Statement.{statement}
 use Rattle.door.proofs.close_call.Tie as tie
 

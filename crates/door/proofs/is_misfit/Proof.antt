@@ -2,8 +2,8 @@
 use borrow.Author.Needs.{needs}
 use mathlib.Core.Path.{sym, _∙_}
 use borrow.Author.Tests.{eq-eqb, ne-eqb, lt-ltb, le-ltb}
-use Rattle.door_bytes.specs.Image.{registers-of}
-use Rattle.door_bytes.specs.Door.{misfit}
+use Rattle.door_spec.specs.Image.{registers-of}
+use Rattle.door_spec.specs.Door.{misfit}
 use Rattle.door.proofs.is_misfit.Statement.{statement}
 use Rattle.door.proofs.is_misfit.Tie as tie
 

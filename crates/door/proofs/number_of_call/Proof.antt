@@ -1,7 +1,7 @@
 -- `door::number_of_call` meets its contract: number 11 first, then the numbers of the access on the words.
 use mathlib.Core.Path.{sym, _∙_}
-use Rattle.door_bytes.specs.Door.{call-number}
-use Rattle.door_bytes.proofs.WordsAndBytes.{words-length}
+use Rattle.door_spec.specs.Door.{call-number}
+use Rattle.door_spec.proofs.WordsAndBytes.{words-length}
 use Rattle.door.proofs.number_of_call.Statement.{statement}
 use Rattle.door.proofs.number_of_call.Tie as tie
 

@@ -1,5 +1,5 @@
 -- `transcript_lists::has_no_record` meets its contract: the tests are the definition's.
-use Rattle.transcript_bytes.specs.Writing.{no-record}
+use Rattle.transcript_spec.specs.Writing.{no-record}
 use Rattle.transcript_lists.proofs.has_no_record.Statement.{statement}
 use Rattle.transcript_lists.proofs.has_no_record.Tie as tie
 

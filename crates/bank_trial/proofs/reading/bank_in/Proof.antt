@@ -1,6 +1,6 @@
 -- `bank_trial::reading::bank_in` meets its contract: both numbers are those of the definition.
 use borrow.Author.Needs.{needs}
-use Rattle.bank_bits.specs.Registers.{bank}
+use Rattle.bank_spec.specs.Registers.{bank}
 use Rattle.bank_trial.proofs.reading.bank_in.Statement.{statement}
 use Rattle.bank_trial.proofs.reading.bank_in.Tie as tie
 

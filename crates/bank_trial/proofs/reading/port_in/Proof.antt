@@ -1,6 +1,6 @@
 -- `bank_trial::reading::port_in` meets its contract: its parts are those of the definition.
 use borrow.Author.Needs.{needs}
-use Rattle.bank_bits.specs.Access.{port}
+use Rattle.bank_spec.specs.Access.{port}
 use Rattle.bank_trial.specs.Record.{banks}
 use Rattle.bank_trial.proofs.reading.port_in.Statement.{statement}
 use Rattle.bank_trial.proofs.reading.port_in.Tie as tie

@@ -6,7 +6,7 @@ use native.Mathlib.Omega.{arith}
 use Prim.Native.Nat.{_+_}
 use lib.Dec.{ltb}
 use borrow.Author.Tests.{lt-ltb, le-ltb}
-use Rattle.block_words.specs.Block.{block-refusal}
+use Rattle.block_spec.specs.Block.{block-refusal}
 use Rattle.block.proofs.judging.block_number_of.Statement.{statement}
 use Rattle.block.proofs.judging.block_number_of.Tie as tie
 

@@ -6,12 +6,12 @@ use native.Mathlib.Omega.{arith}
 use mathlib.Core.Path.{_≡_, sym, ap, _∙_}
 use mathlib.Core.Logic.{_≢_}
 use lib.ListN.{length}
-use Rattle.port.specs.Runs.{machine}
-use Rattle.block_words.specs.Block.{block-number}
-use Rattle.block_words.specs.Parts.{ReadInto}
-use Rattle.block_words.proofs.Numbers.{when, read-barred, list-barred}
-use Rattle.block_words.proofs.Whole.{read-block}
-use Rattle.block_words.proofs.Lent.{part-length, put-back}
+use Rattle.port_spec.specs.Runs.{machine}
+use Rattle.block_spec.specs.Block.{block-number}
+use Rattle.block_spec.specs.Parts.{ReadInto}
+use Rattle.block_spec.proofs.Numbers.{when, read-barred, list-barred}
+use Rattle.block_spec.proofs.Whole.{read-block}
+use Rattle.block_spec.proofs.Lent.{part-length, put-back}
 use Rattle.block.proofs.reading.block_read.Statement.{statement}
 use Rattle.block.proofs.reading.block_read.Tie as tie
 

@@ -1,6 +1,6 @@
 -- `block::reading::fetch_here` meets its contract: a fetch leaves the registers standing where it fetched.
 use Rattle.words.specs.Memory.{fetch-at}
-use Rattle.port.specs.Cycle.{after-fetch, standing}
+use Rattle.port_spec.specs.Cycle.{after-fetch, standing}
 use Rattle.block.proofs.reading.fetch_here.Statement.{statement}
 use Rattle.block.proofs.reading.fetch_here.Tie as tie
 

@@ -9,18 +9,18 @@ use lib.ListN.{length, take, set, length-set}
 use lib.Seq.{take-length, take-suc-set}
 use borrow.Author.Needs.{needs}
 use Rattle.registers.specs.declared.Registers.{Registers}
-use Rattle.port.specs.Cycle.{standing}
-use Rattle.port.specs.Deeds.{ahead}
-use Rattle.port.specs.Runs.{machine, answers, ends}
-use Rattle.port.specs.Table.{Memory, reading}
-use Rattle.port.proofs.Handed.{shows-word}
-use Rattle.block_words.specs.Block.{counted, tally}
-use Rattle.block_words.specs.Parts.{ReadInto}
-use Rattle.block_words.proofs.Joining.{join-reads, few-hollows}
-use Rattle.block_words.proofs.OneAccess.{one-read}
+use Rattle.port_spec.specs.Cycle.{standing}
+use Rattle.port_spec.specs.Deeds.{ahead}
+use Rattle.port_spec.specs.Runs.{machine, answers, ends}
+use Rattle.port_spec.specs.Table.{Memory, reading}
+use Rattle.port_spec.proofs.Handed.{shows-word}
+use Rattle.block_spec.specs.Block.{counted, tally}
+use Rattle.block_spec.specs.Parts.{ReadInto}
+use Rattle.block_spec.proofs.Joining.{join-reads, few-hollows}
+use Rattle.block_spec.proofs.OneAccess.{one-read}
 use mathlib.Core.Logic.{⊎-elim}
 use mathlib.Core.Bool.{Bool, true, false}
-use Rattle.port.specs.Cycle.{stepped}
+use Rattle.port_spec.specs.Cycle.{stepped}
 use Rattle.block.proofs.reading.read_singly.Statement.{statement}
 use Rattle.block.proofs.reading.read_singly.Tie as tie
 

@@ -7,9 +7,9 @@ use mathlib.Core.Path.{_≡_, sym, ap, _∙_}
 use lib.ListN.{length}
 use Rattle.words.specs.Addresses.{word-at}
 use Rattle.words.specs.declared.WordNumber.{WordNumber}
-use Rattle.port.specs.Table.{Memory}
-use Rattle.block_words.proofs.Lent.{part-length, part-is}
-use Rattle.block_words.proofs.Straight.{copied-read}
+use Rattle.port_spec.specs.Table.{Memory}
+use Rattle.block_spec.proofs.Lent.{part-length, part-is}
+use Rattle.block_spec.proofs.Straight.{copied-read}
 use Rattle.block.proofs.reading.read_straight.Statement.{statement}
 use Rattle.block.proofs.reading.read_straight.Tie as tie
 

@@ -7,12 +7,12 @@ use mathlib.Core.Path.{_≡_}
 use lib.ListN.{length}
 use Rattle.words.specs.Addresses.{word-at}
 use Rattle.control.specs.Control.{incr}
-use Rattle.port.specs.Runs.{machine}
-use Rattle.block_words.specs.Parts.{ReadInto}
-use Rattle.block_words.proofs.Joining.{few-hollows, read-length, join-reads}
+use Rattle.port_spec.specs.Runs.{machine}
+use Rattle.block_spec.specs.Parts.{ReadInto}
+use Rattle.block_spec.proofs.Joining.{few-hollows, read-length, join-reads}
 use Rattle.words.proofs.Lent.{first-length}
-use Rattle.block_words.proofs.Lent.{between, rest-starts, rest-length, both-back}
-use Rattle.block_words.proofs.Straight.{Straight, reads-go-straight}
+use Rattle.block_spec.proofs.Lent.{between, rest-starts, rest-length, both-back}
+use Rattle.block_spec.proofs.Straight.{Straight, reads-go-straight}
 use Rattle.block.proofs.reading.read_words.Statement.{statement}
 use Rattle.block.proofs.reading.read_words.Tie as tie
 

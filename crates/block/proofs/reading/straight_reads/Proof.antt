@@ -1,7 +1,7 @@
 -- `block::reading::straight_reads` meets its contract, with the step that the control word says and without.
 use borrow.Author.Needs.{needs}
 use mathlib.Core.Path.{sym, _∙_}
-use Rattle.block_words.specs.Parts.{straight-reads}
+use Rattle.block_spec.specs.Parts.{straight-reads}
 use Rattle.block.proofs.reading.straight_reads.Statement.{statement}
 use Rattle.block.proofs.reading.straight_reads.Tie as tie
 

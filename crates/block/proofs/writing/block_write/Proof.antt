@@ -5,10 +5,10 @@ use native.Mathlib.Omega.{arith}
 use mathlib.Core.Path.{_≡_, sym, ap, _∙_}
 use mathlib.Core.Logic.{_≢_}
 use lib.ListN.{length}
-use Rattle.block_words.specs.Block.{block-number}
-use Rattle.block_words.proofs.Numbers.{when, write-barred, memory-barred}
-use Rattle.block_words.proofs.Whole.{write-block}
-use Rattle.block_words.proofs.Lent.{part-length, part-is}
+use Rattle.block_spec.specs.Block.{block-number}
+use Rattle.block_spec.proofs.Numbers.{when, write-barred, memory-barred}
+use Rattle.block_spec.proofs.Whole.{write-block}
+use Rattle.block_spec.proofs.Lent.{part-length, part-is}
 use Rattle.block.proofs.writing.block_write.Statement.{statement}
 use Rattle.block.proofs.writing.block_write.Tie as tie
 

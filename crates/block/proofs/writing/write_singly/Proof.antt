@@ -15,12 +15,12 @@ use Rattle.words.proofs.MemoryWords.{stored-length}
 use Rattle.control.specs.Control.{incw}
 use Rattle.registers.specs.Registers.{with-latch}
 use Rattle.registers.specs.declared.Registers.{Registers}
-use Rattle.port.specs.Cycle.{stepped}
-use Rattle.port.specs.Runs.{machine, answers, ends}
-use Rattle.block_words.specs.Block.{counted, tally}
-use Rattle.block_words.specs.Parts.{WrittenFrom}
-use Rattle.block_words.proofs.Joining.{join-writes, few-empties}
-use Rattle.block_words.proofs.OneAccess.{one-write}
+use Rattle.port_spec.specs.Cycle.{stepped}
+use Rattle.port_spec.specs.Runs.{machine, answers, ends}
+use Rattle.block_spec.specs.Block.{counted, tally}
+use Rattle.block_spec.specs.Parts.{WrittenFrom}
+use Rattle.block_spec.proofs.Joining.{join-writes, few-empties}
+use Rattle.block_spec.proofs.OneAccess.{one-write}
 use Rattle.block.proofs.writing.write_singly.Statement.{statement}
 use Rattle.block.proofs.writing.write_singly.Tie as tie
 

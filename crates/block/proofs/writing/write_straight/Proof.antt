@@ -6,8 +6,8 @@ use mathlib.Core.Path.{_≡_, ap}
 use lib.ListN.{length}
 use Rattle.words.specs.Addresses.{word-at}
 use Rattle.words.specs.declared.WordNumber.{WordNumber}
-use Rattle.block_words.proofs.Lent.{part-length, put-back}
-use Rattle.block_words.proofs.Straight.{copied-write}
+use Rattle.block_spec.proofs.Lent.{part-length, put-back}
+use Rattle.block_spec.proofs.Straight.{copied-write}
 use Rattle.block.proofs.writing.write_straight.Statement.{statement}
 use Rattle.block.proofs.writing.write_straight.Tie as tie
 

@@ -6,12 +6,12 @@ use lib.ListN.{length, take, drop, length-drop, take-append-drop}
 use lib.Seq.{length-take-le}
 use Rattle.words.specs.Addresses.{word-at}
 use Rattle.control.specs.Control.{incw}
-use Rattle.port.specs.Runs.{machine}
-use Rattle.block_words.specs.Parts.{WrittenFrom}
-use Rattle.block_words.proofs.Joining.{few-empties, join-writes}
+use Rattle.port_spec.specs.Runs.{machine}
+use Rattle.block_spec.specs.Parts.{WrittenFrom}
+use Rattle.block_spec.proofs.Joining.{few-empties, join-writes}
 use Rattle.words.proofs.Lent.{first-length}
-use Rattle.block_words.proofs.Lent.{first-is, rest-is}
-use Rattle.block_words.proofs.Straight.{Straight, writes-go-straight}
+use Rattle.block_spec.proofs.Lent.{first-is, rest-is}
+use Rattle.block_spec.proofs.Straight.{Straight, writes-go-straight}
 use Rattle.block.proofs.writing.write_words.Statement.{statement}
 use Rattle.block.proofs.writing.write_words.Tie as tie
 

@@ -1,6 +1,6 @@
 -- `door::answer::pack` meets its contract: the parts lie side by side, so the sum fits.
 use borrow.Author.Needs.{needs}
-use Rattle.door_bytes.specs.Answer.{packed}
+use Rattle.door_spec.specs.Answer.{packed}
 use Rattle.door.proofs.answer.pack.Statement.{statement}
 use Rattle.door.proofs.answer.pack.Tie as tie
 

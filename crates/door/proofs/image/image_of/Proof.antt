@@ -1,6 +1,6 @@
 -- `door::image::image_of` meets its contract: the bytes and their order are the definition's.
 use borrow.Author.Needs.{needs}
-use Rattle.door_bytes.specs.Image.{image-of}
+use Rattle.door_spec.specs.Image.{image-of}
 use Rattle.door.proofs.image.image_of.Statement.{statement}
 use Rattle.door.proofs.image.image_of.Tie as tie
 

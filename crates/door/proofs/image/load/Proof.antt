@@ -1,6 +1,6 @@
 -- `door::image::load` meets its contract: the bytes and their order are the definition's.
 use borrow.Author.Needs.{needs}
-use Rattle.door_bytes.specs.Image.{registers-of}
+use Rattle.door_spec.specs.Image.{registers-of}
 use Rattle.door.proofs.image.load.Statement.{statement}
 use Rattle.door.proofs.image.load.Tie as tie
 

@@ -6,7 +6,7 @@ use mathlib.Core.Path.{_≡_, ap, _∙_}
 use mathlib.Core.List.{List, _++_, append-nil}
 use lib.ListN.{length, take, drop, drop-of-length-le}
 use lib.Seq.{take-all}
-use Rattle.door_bytes.specs.Image.{image-of}
+use Rattle.door_spec.specs.Image.{image-of}
 use Rattle.door.proofs.image.save.Statement.{statement}
 use Rattle.door.proofs.image.save.Tie as tie
 

@@ -1,6 +1,6 @@
 -- `door::memory::carry_bytes` meets its contract, by cases on the cycle that is due: each is aimed, done and settled.
 use borrow.Author.Needs.{needs}
-use Rattle.port.specs.Cycle.{carried}
+use Rattle.port_spec.specs.Cycle.{carried}
 use Rattle.door.specs.Parts.{bytes-after}
 use Rattle.door.proofs.memory.carry_bytes.Statement.{statement}
 use Rattle.door.proofs.memory.carry_bytes.Tie as tie

@@ -4,8 +4,8 @@ use Prim.Native.Nat.{_<_, _≤_}
 use borrow.Author.Tests.{lt-ltb, le-ltb}
 use lib.ListN.{length}
 use Rattle.words.specs.Memory.{fetch-at}
-use Rattle.door_bytes.specs.Bytes.{words-of}
-use Rattle.door_bytes.proofs.WordsAndBytes.{words-length, word-is-two-bytes}
+use Rattle.door_spec.specs.Bytes.{words-of}
+use Rattle.door_spec.proofs.WordsAndBytes.{words-length, word-is-two-bytes}
 use Rattle.door.proofs.memory.fetch_bytes.Statement.{statement}
 use Rattle.door.proofs.memory.fetch_bytes.Tie as tie
 

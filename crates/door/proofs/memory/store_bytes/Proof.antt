@@ -5,8 +5,8 @@ use native.Mathlib.Omega.{arith}
 use borrow.Author.Tests.{lt-ltb, le-ltb}
 use mathlib.Core.Path.{sym}
 use lib.ListN.{length, length-set}
-use Rattle.door_bytes.specs.Bytes.{words-of}
-use Rattle.door_bytes.proofs.WordsAndBytes.{words-length}
+use Rattle.door_spec.specs.Bytes.{words-of}
+use Rattle.door_spec.proofs.WordsAndBytes.{words-length}
 use Rattle.door.specs.Parts.{store-bytes}
 use Rattle.door.proofs.memory.store_bytes.Statement.{statement}
 use Rattle.door.proofs.memory.store_bytes.Tie as tie

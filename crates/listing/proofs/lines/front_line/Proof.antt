@@ -1,6 +1,6 @@
 -- `listing::lines::front_line` meets its contract: each way through it is one of the three cases.
 use mathlib.Core.Path.{sym, ap, _∙_}
-use Rattle.port.specs.declared.Access.{Access}
+use Rattle.port_spec.specs.declared.Access.{Access}
 use Rattle.listing.specs.declared.Front.the-variants.{Good}
 use Rattle.listing.proofs.FrontLine.{reads-front, writes-front, others-front}
 use Rattle.listing.proofs.lines.front_line.Statement.{statement}

@@ -1,9 +1,9 @@
 -- `listing::stretches::answer_line` meets its contract: the access, then the text of its answer, whose number has one digit.
 use native.Mathlib.Omega.{arith}
 use mathlib.Core.Path.{ap, subst}
-use Rattle.port.specs.declared.Answer.{Answer}
-use Rattle.port.specs.declared.Outcome.{Outcome}
-use Rattle.port.proofs.Numbers.{numbered}
+use Rattle.port_spec.specs.declared.Answer.{Answer}
+use Rattle.port_spec.specs.declared.Outcome.{Outcome}
+use Rattle.port_spec.proofs.Numbers.{numbered}
 use Rattle.listing.specs.Answer.{answer-text}
 use Rattle.listing.specs.Parts.{Put}
 use borrow.Author.Needs.{needs}

@@ -3,7 +3,7 @@ use Prim.Native.Nat.{ℕ}
 use mathlib.Core.Path.{ap, _∙_}
 use borrow.Author.Needs.{needs}
 use borrow.Author.Tests.{eq-eqb, ne-eqb}
-use Rattle.stream.specs.Stream.{streamed}
+use Rattle.stream_spec.specs.Stream.{streamed}
 use Rattle.stream_trial.specs.Record.{started-at}
 use Rattle.stream_trial.proofs.OneRecord.{by-start, by-delivery, by-end}
 use Rattle.stream_trial.proofs.carrying.carry_record.Statement.{statement}

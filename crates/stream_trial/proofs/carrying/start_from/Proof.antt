@@ -1,8 +1,8 @@
 -- `stream_trial::carrying::start_from` meets its contract: where no bytes have come, what it answers is the stream that `start_stream` makes.
 use Prim.Native.Nat.{ℕ}
 use mathlib.Core.Path.{sym, ap, _∙_}
-use Rattle.stream.specs.Stream.{streamed}
-use Rattle.stream.specs.declared.Stream.{Stream}
+use Rattle.stream_spec.specs.Stream.{streamed}
+use Rattle.stream_spec.specs.declared.Stream.{Stream}
 use Rattle.stream_trial.specs.Record.{started-at}
 use Rattle.stream_trial.proofs.carrying.start_from.Statement.{statement}
 use Rattle.stream_trial.proofs.carrying.start_from.Tie as tie

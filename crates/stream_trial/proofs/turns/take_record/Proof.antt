@@ -1,6 +1,6 @@
 -- `stream_trial::turns::take_record` meets its contract: the stream is in what the record leaves.
 use mathlib.Core.Path.{ap}
-use Rattle.stream.specs.declared.Streamed.{Streamed}
+use Rattle.stream_spec.specs.declared.Streamed.{Streamed}
 use Rattle.stream_trial.proofs.turns.take_record.Statement.{statement}
 use Rattle.stream_trial.proofs.turns.take_record.Tie as tie
 

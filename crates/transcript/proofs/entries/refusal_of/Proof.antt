@@ -1,7 +1,7 @@
 -- `transcript::entries::refusal_of` meets its contract: the tests are the definition's, in its order.
 use mathlib.Core.Path.{sym, _∙_}
 use borrow.Author.Tests.{not-true, not-false}
-use Rattle.transcript_bytes.specs.Writing.{entry-refusal}
+use Rattle.transcript_spec.specs.Writing.{entry-refusal}
 use Rattle.transcript.proofs.entries.refusal_of.Statement.{statement}
 use Rattle.transcript.proofs.entries.refusal_of.Tie as tie
 

@@ -1,8 +1,8 @@
 -- `transcript::reading::read_transcript` meets its contract: its answer is right, and by that answer the lists are filled or left.
 use native.Mathlib.Omega.{arith}
 use mathlib.Core.Path.{_≡_, ap, _∙_}
-use Rattle.transcript_bytes.specs.Lists.{lists, size}
-use Rattle.transcript_bytes.specs.Reading.{read-answer}
+use Rattle.transcript_spec.specs.Lists.{lists, size}
+use Rattle.transcript_spec.specs.Reading.{read-answer}
 use Rattle.transcript.proofs.ReadOutcomes.{nothing-put, all-put}
 use Rattle.transcript.proofs.reading.read_transcript.Statement.{statement}
 use Rattle.transcript.proofs.reading.read_transcript.Tie as tie

@@ -1,7 +1,7 @@
 -- `transcript::records::count_bytes` meets its contract: the groups of the head and, for a write, those of the word.
 use native.Mathlib.Omega.{arith}
-use Rattle.transcript_bytes.proofs.Groups.{few-groups}
-use Rattle.transcript_bytes.proofs.RecordBytes.{length-of-write, of-other}
+use Rattle.transcript_spec.proofs.Groups.{few-groups}
+use Rattle.transcript_spec.proofs.RecordBytes.{length-of-write, of-other}
 use Rattle.transcript.proofs.records.count_bytes.Statement.{statement}
 use Rattle.transcript.proofs.records.count_bytes.Tie as tie
 

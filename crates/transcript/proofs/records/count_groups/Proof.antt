@@ -1,7 +1,7 @@
 -- `transcript::records::count_groups` meets its contract: the tests are those by which a number is put in groups.
 use mathlib.Core.Path.{sym, ap}
 use lib.ListN.{length}
-use Rattle.transcript_bytes.proofs.Groups.{one-group, two-groups, three-groups}
+use Rattle.transcript_spec.proofs.Groups.{one-group, two-groups, three-groups}
 use Rattle.transcript.proofs.records.count_groups.Statement.{statement}
 use Rattle.transcript.proofs.records.count_groups.Tie as tie
 

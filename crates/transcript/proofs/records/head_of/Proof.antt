@@ -1,7 +1,7 @@
 -- `transcript::records::head_of` meets its contract: the head of a good entry is small, so that nothing wraps.
 use native.Mathlib.Omega.{arith}
 use mathlib.Core.Path.{refl}
-use Rattle.transcript_bytes.proofs.Judged.{head-range}
+use Rattle.transcript_spec.proofs.Judged.{head-range}
 use Rattle.transcript.proofs.records.head_of.Statement.{statement}
 use Rattle.transcript.proofs.records.head_of.Tie as tie
 

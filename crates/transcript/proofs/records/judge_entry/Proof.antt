@@ -1,6 +1,6 @@
 -- `transcript::records::judge_entry` meets its contract: the entry is refused, or its record is counted.
 use mathlib.Core.Path.{sym, _∙_}
-use Rattle.transcript_bytes.proofs.WrittenExactly.{passes-good}
+use Rattle.transcript_spec.proofs.WrittenExactly.{passes-good}
 use Rattle.transcript.proofs.Judging.{said-refused, said-good}
 use Rattle.transcript.proofs.records.judge_entry.Statement.{statement}
 use Rattle.transcript.proofs.records.judge_entry.Tie as tie

@@ -5,9 +5,9 @@ use native.Mathlib.Omega.{arith}
 use mathlib.Core.Path.{_≡_, refl, ap}
 use mathlib.Core.List.{List}
 use lib.ListN.{length, set, length-set}
-use Rattle.transcript_bytes.specs.Format.{groups}
+use Rattle.transcript_spec.specs.Format.{groups}
 use Rattle.transcript.specs.WriterParts.{Put}
-use Rattle.transcript_bytes.proofs.Groups.{one-group, two-groups, three-groups}
+use Rattle.transcript_spec.proofs.Groups.{one-group, two-groups, three-groups}
 use Rattle.transcript.proofs.records.put_groups.Statement.{statement}
 use Rattle.transcript.proofs.records.put_groups.Tie as tie
 

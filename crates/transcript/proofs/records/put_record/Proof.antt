@@ -1,9 +1,9 @@
 -- `transcript::records::put_record` meets its contract: the head's groups and, for a write, the word's behind them.
 use native.Mathlib.Omega.{arith}
 use mathlib.Core.Path.{sym}
-use Rattle.transcript_bytes.proofs.Judged.{head-range}
+use Rattle.transcript_spec.proofs.Judged.{head-range}
 use Rattle.transcript.proofs.Putting.{put-behind, put-length}
-use Rattle.transcript_bytes.proofs.RecordBytes.{head-fits, of-write, length-of-write, of-other}
+use Rattle.transcript_spec.proofs.RecordBytes.{head-fits, of-write, length-of-write, of-other}
 use Rattle.transcript.proofs.records.put_record.Statement.{statement}
 use Rattle.transcript.proofs.records.put_record.Tie as tie
 

@@ -7,15 +7,15 @@ use mathlib.Core.Path.{_≡_, sym, ap, _∙_}
 use mathlib.Core.List.{_∷_}
 use mathlib.Core.Logic.{_≢_}
 use lib.ListN.{length}
-use Rattle.transcript_bytes.specs.Format.{record-of}
-use Rattle.transcript_bytes.specs.Lists.{Lists, lists, entry-at, entries-from}
-use Rattle.transcript_bytes.specs.Writing.{entry-refusal}
-use Rattle.transcript_bytes.specs.declared.Entry.{Entry}
+use Rattle.transcript_spec.specs.Format.{record-of}
+use Rattle.transcript_spec.specs.Lists.{Lists, lists, entry-at, entries-from}
+use Rattle.transcript_spec.specs.Writing.{entry-refusal}
+use Rattle.transcript_spec.specs.declared.Entry.{Entry}
 use Rattle.transcript.specs.WriterParts.{judged}
-use Rattle.transcript_bytes.proofs.EntriesLeft.{left, all-left, next-left, none-left}
+use Rattle.transcript_spec.proofs.EntriesLeft.{left, all-left, next-left, none-left}
 use Rattle.transcript.proofs.Judging.{found, number-said, size-said, good-one, bad-one}
-use Rattle.transcript_bytes.proofs.RecordBytes.{short}
-use Rattle.transcript_bytes.proofs.WrittenExactly.{passes-good}
+use Rattle.transcript_spec.proofs.RecordBytes.{short}
+use Rattle.transcript_spec.proofs.WrittenExactly.{passes-good}
 use Rattle.transcript.proofs.writing.judge.Statement.{statement}
 use Rattle.transcript.proofs.writing.judge.Tie as tie
 

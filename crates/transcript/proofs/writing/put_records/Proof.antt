@@ -5,12 +5,12 @@ use mathlib.Core.Path.{_≡_, refl, ap, _∙_}
 use mathlib.Core.List.{List, _∷_, _++_}
 use lib.ListN.{length, length-append}
 use lib.Seq.{sets}
-use Rattle.transcript_bytes.specs.Format.{record-of, transcript-of}
-use Rattle.transcript_bytes.specs.InPlainWords.{AllGood}
-use Rattle.transcript_bytes.specs.Lists.{Lists, lists, entry-at, entries-from, over}
-use Rattle.transcript_bytes.specs.declared.Entry.{Entry}
+use Rattle.transcript_spec.specs.Format.{record-of, transcript-of}
+use Rattle.transcript_spec.specs.InPlainWords.{AllGood}
+use Rattle.transcript_spec.specs.Lists.{Lists, lists, entry-at, entries-from, over}
+use Rattle.transcript_spec.specs.declared.Entry.{Entry}
 use Rattle.transcript.specs.WriterParts.{Put, Writable}
-use Rattle.transcript_bytes.proofs.EntriesLeft.{left, all-left, next-left, none-left}
+use Rattle.transcript_spec.proofs.EntriesLeft.{left, all-left, next-left, none-left}
 use Rattle.transcript.proofs.Putting.{sets-behind, put-length, put-front}
 use Rattle.transcript.proofs.writing.put_records.Statement.{statement}
 use Rattle.transcript.proofs.writing.put_records.Tie as tie

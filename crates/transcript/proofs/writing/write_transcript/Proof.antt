@@ -1,7 +1,7 @@
 -- `transcript::writing::write_transcript` meets its contract: the whole list is judged, and by what is found it is refused or written.
 use native.Mathlib.Omega.{arith}
 use mathlib.Core.Path.{_≡_}
-use Rattle.transcript_bytes.specs.Lists.{Lists, lists, entries-in}
+use Rattle.transcript_spec.specs.Lists.{Lists, lists, entries-in}
 use Rattle.transcript.specs.WriterParts.{judged}
 use Rattle.transcript.proofs.Written.{bad-entry, too-small, can-write, written}
 use Rattle.transcript.proofs.writing.write_transcript.Statement.{statement}

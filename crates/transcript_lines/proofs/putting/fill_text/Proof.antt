@@ -1,7 +1,7 @@
 -- `transcript_lines::putting::fill_text` meets its contract: each turn is one of those of `EntryByEntry`.
 use Prim.Native.Nat.{_-_}
 use native.Mathlib.Omega.{arith}
-use Rattle.transcript_bytes.specs.Lists.{lists}
+use Rattle.transcript_spec.specs.Lists.{lists}
 use Rattle.transcript_lines.proofs.EntryByEntry.{Laid, laid-start, laid-length, laid-room, laid-next, laid-all}
 use Rattle.transcript_lines.proofs.putting.fill_text.Statement.{statement}
 use Rattle.transcript_lines.proofs.putting.fill_text.Tie as tie

@@ -2,7 +2,7 @@
 use Prim.Native.Nat.{_-_}
 use native.Mathlib.Omega.{arith}
 use mathlib.Core.Path.{sym, _∙_}
-use Rattle.transcript_bytes.specs.Lists.{lists}
+use Rattle.transcript_spec.specs.Lists.{lists}
 use Rattle.transcript_lines.proofs.EntryByEntry.{Judged, judged-start, judged-next, judged-unsayable, judged-all}
 use Rattle.transcript_lines.proofs.putting.judge_entries.Statement.{statement}
 use Rattle.transcript_lines.proofs.putting.judge_entries.Tie as tie

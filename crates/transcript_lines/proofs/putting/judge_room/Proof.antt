@@ -1,7 +1,7 @@
 -- `transcript_lines::putting::judge_room` meets its contract: each turn is one of those of `EntryByEntry`.
 use Prim.Native.Nat.{_-_}
 use native.Mathlib.Omega.{arith}
-use Rattle.transcript_bytes.specs.Lists.{lists}
+use Rattle.transcript_spec.specs.Lists.{lists}
 use Rattle.transcript_lines.proofs.EntryByEntry.{Measured, measured-start, measured-next, measured-out, measured-all}
 use Rattle.transcript_lines.proofs.putting.judge_room.Statement.{statement}
 use Rattle.transcript_lines.proofs.putting.judge_room.Tie as tie

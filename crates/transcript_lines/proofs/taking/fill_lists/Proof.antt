@@ -2,7 +2,7 @@
 use Prim.Native.Nat.{_-_}
 use native.Mathlib.Omega.{arith}
 use lib.ListN.{length}
-use Rattle.transcript_bytes.specs.Lists.{lists}
+use Rattle.transcript_spec.specs.Lists.{lists}
 use Rattle.transcript_lines.proofs.Turns.{good-lies}
 use Rattle.transcript_lines.proofs.Filling.{Filled, filled-start, still-long, filled-next, filled-all}
 use borrow.Author.Needs.{needs}

@@ -1,5 +1,5 @@
 -- `transcript_lines::taking::take_lines` meets its contract, by its answer.
-use Rattle.transcript_bytes.specs.Lists.{lists}
+use Rattle.transcript_spec.specs.Lists.{lists}
 use Rattle.transcript_lines.proofs.Results.{refused-take, taken-room, done-take}
 use borrow.Author.Needs.{needs}
 use Rattle.transcript_lines.proofs.taking.take_lines.Statement.{statement}

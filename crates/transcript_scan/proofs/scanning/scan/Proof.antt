@@ -5,7 +5,7 @@ use mathlib.Core.Bool.{cond}
 use mathlib.Core.List.{List}
 use lib.Dec.{eqb}
 use borrow.Author.Needs.{needs}
-use Rattle.transcript_bytes.specs.Reading.{fresh, cut-off}
+use Rattle.transcript_spec.specs.Reading.{fresh, cut-off}
 use Rattle.transcript_scan.specs.Scan.{scanned, scanned-on}
 use Rattle.transcript_scan.specs.declared.scanning.Scanned.{Scanned}
 use Rattle.transcript_scan.specs.declared.scanning.ScannedOn.{ScannedOn}

@@ -1,7 +1,7 @@
 -- `transcript_scan::steps::add_group` meets its contract: its test is that of the definition.
 use borrow.Author.Needs.{needs}
 use borrow.Author.Tests.{lt-ltb, le-ltb}
-use Rattle.transcript_bytes.specs.Reading.{with-group}
+use Rattle.transcript_spec.specs.Reading.{with-group}
 use Rattle.transcript_scan.proofs.steps.add_group.Statement.{statement}
 use Rattle.transcript_scan.proofs.steps.add_group.Tie as tie
 

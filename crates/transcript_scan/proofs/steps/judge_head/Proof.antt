@@ -1,7 +1,7 @@
 -- `transcript_scan::steps::judge_head` meets its contract: its tests are those of the definition, in their order.
 use borrow.Author.Needs.{needs}
 use borrow.Author.Tests.{lt-ltb, le-ltb, eq-eqb, ne-eqb}
-use Rattle.transcript_bytes.specs.Reading.{head-read}
+use Rattle.transcript_spec.specs.Reading.{head-read}
 use Rattle.transcript_scan.proofs.steps.judge_head.Statement.{statement}
 use Rattle.transcript_scan.proofs.steps.judge_head.Tie as tie
 

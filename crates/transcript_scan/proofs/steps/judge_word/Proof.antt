@@ -1,7 +1,7 @@
 -- `transcript_scan::steps::judge_word` meets its contract: its tests are those of the definition, in their order.
 use borrow.Author.Needs.{needs}
 use borrow.Author.Tests.{lt-ltb, le-ltb}
-use Rattle.transcript_bytes.specs.Reading.{word-read}
+use Rattle.transcript_spec.specs.Reading.{word-read}
 use Rattle.transcript_scan.proofs.steps.judge_word.Statement.{statement}
 use Rattle.transcript_scan.proofs.steps.judge_word.Tie as tie
 

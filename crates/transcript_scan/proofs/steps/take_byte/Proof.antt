@@ -1,7 +1,7 @@
 -- `transcript_scan::steps::take_byte` meets its contract: by the part, and by the byte's top bit.
 use borrow.Author.Needs.{needs}
 use borrow.Author.Tests.{lt-ltb, le-ltb}
-use Rattle.transcript_bytes.specs.Reading.{step}
+use Rattle.transcript_spec.specs.Reading.{step}
 use Rattle.transcript_scan.proofs.steps.take_byte.Statement.{statement}
 use Rattle.transcript_scan.proofs.steps.take_byte.Tie as tie
 

@@ -2,9 +2,9 @@
 use Prim.Native.Nat.{ℕ}
 use mathlib.Core.List.{List}
 use mathlib.Core.Path.{_≡_, ap, _∙_}
-use Rattle.port.specs.Host.{access, access-memory, Accessed}
-use Rattle.port.specs.declared.Access.{Access}
-use Rattle.port.specs.declared.Outcome.{Outcome}
+use Rattle.port_spec.specs.Host.{access, access-memory, Accessed}
+use Rattle.port_spec.specs.declared.Access.{Access}
+use Rattle.port_spec.specs.declared.Outcome.{Outcome}
 use Rattle.script.specs.declared.Call.{Call}
 use Rattle.script.specs.declared.State.{State}
 use Rattle.script.specs.declared.Done.{Done}

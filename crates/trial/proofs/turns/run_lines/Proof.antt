@@ -8,7 +8,7 @@ use mathlib.Core.Path.{_≡_, refl, sym, ap, _∙_}
 use mathlib.Core.List.{List, _++_}
 use lib.ListN.{length, take}
 use borrow.Rule.Slice.PartMut.{putMid, same-len-mid}
-use Rattle.block_words.proofs.Lent.{part-length, part-is}
+use Rattle.block_spec.proofs.Lent.{part-length, part-is}
 use Rattle.script.proofs.Laying.{pushed, whole-line}
 use Rattle.script.proofs.Shapes.{read-good, read-bad}
 use Rattle.script.specs.Script.{is-call, call-in, line-in}

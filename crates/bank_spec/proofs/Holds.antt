@@ -1,0 +1,14 @@
+-- The worked examples hold, in one statement: worked out by the definitions, the table is what it was. By computation.
+use mathlib.Core.Path.{_≡_, refl}
+use mathlib.Core.List.{map}
+use Rattle.words.specs.Bytes.{bit, are-lanes}
+use Rattle.bank_spec.specs.Registers.{bank-at, with-bank, half, with-half, value-of, with-value, half-at, with-half-at}
+use Rattle.bank_spec.specs.Access.{refusal, read-answer, write-answer}
+use Rattle.bank_spec.specs.Decode.{agrees-at, agrees-below, agrees, in-turn, admits, selects, decoded}
+use Rattle.bank_spec.specs.Table.{worked, sample-map, order, bytes, no-lanes, wrap, special, refresh, several, seen, table}
+
+pub table-holds : map worked table ≡ table
+unfolding
+    table sample-map order bytes no-lanes wrap special refresh several seen bit are-lanes bank-at with-bank half with-half value-of
+    with-value half-at with-half-at refusal read-answer write-answer agrees-at agrees-below agrees in-turn admits selects decoded
+table-holds = refl

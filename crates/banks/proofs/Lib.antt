@@ -1,3 +1,0 @@
--- What the contracts of the calls say. The laws of bank selects are crate `bank_bits`; proofs of single functions are in the folders
--- beside this.
-pub mod Promised

@@ -1,0 +1,39 @@
+-- The parts of a block that is not refused: what the private functions of crate `block` state.
+--   straight-reads, straight-writes   how many accesses step from word to word inside memory
+--   stepped-by n a                    the bit address n steps on
+--   ReadInto, WrittenFrom             what reads leave, with the part of the list that they fill; what writes leave, with the memory
+use Prim.Native.Nat.{ℕ, _+_, _-_, _*_, _%_, _^_, min}
+use mathlib.Core.Bool.{cond}
+use mathlib.Core.List.{List}
+use mathlib.Core.Path.{_≡_}
+use Rattle.words.specs.Addresses.{word-at}
+use Rattle.words.specs.declared.BitAddress.{BitAddress}
+use Rattle.control.specs.Control.{incr, incw}
+use Rattle.registers.specs.declared.Registers.{Registers}
+use Rattle.port_spec.specs.Runs.{Machine, words-in, answers, ends}
+use Rattle.port_spec.specs.Table.{reading}
+use Rattle.block_spec.specs.Block.{writing, hollows-in, empties-in}
+use Rattle.block_spec.specs.declared.Run.{Run}
+
+-- a read fetches the word after the pointer's
+unfoldable pub straight-reads : Registers → ℕ → ℕ → ℕ
+straight-reads r words count = cond (incr (r .control)) (min count (words - (word-at (r .pointer) .0 + 1))) 0
+
+-- a write stores at the pointer's own word
+unfoldable pub straight-writes : Registers → ℕ → ℕ → ℕ
+straight-writes r words count = cond (incw (r .control)) (min count (words - word-at (r .pointer) .0)) 0
+
+abbrev pub stepped-by : ℕ → BitAddress → BitAddress
+stepped-by n a = record { 0 = (a .0 + 16 * n) % 2 ^ 32 }
+
+-- n reads from the machine s, into all of a part of n places
+pub record ReadInto (s : Machine) (n : ℕ) (o : Run) (part : List ℕ) : Type 0 where
+  pub registers : o .registers ≡ ends s (reading n) .registers
+  pub marked : o .marked ≡ hollows-in (answers s (reading n))
+  pub words : part ≡ words-in (answers s (reading n))
+
+-- a write of each of the words ws from the machine s
+pub record WrittenFrom (s : Machine) (ws : List ℕ) (o : Run) (m : List ℕ) : Type 0 where
+  pub registers : o .registers ≡ ends s (writing ws) .registers
+  pub marked : o .marked ≡ empties-in (answers s (writing ws))
+  pub memory : m ≡ ends s (writing ws) .memory

@@ -1,0 +1,63 @@
+-- A table that holds, row by row and step by step. Rows and steps are counted from 0.
+--   row t n, line e i    the n-th row of a table; what must come out of the i-th step of an example
+--   row-holds            the n-th row of a table that holds is what the definitions make of it
+--   step-holds           so is what comes out of its i-th step
+--   same-..              what two equal lines say is equal
+use Prim.Native.Nat.{ℕ}
+use mathlib.Core.Path.{_≡_, ap, sym, _∙_}
+use mathlib.Core.List.{List, [], map}
+use lib.ListN.{getD, List·getD-map}
+use Rattle.port_spec.specs.Deeds.{woken}
+use Rattle.port_spec.specs.declared.Answer.{Answer}
+use Rattle.field.specs.declared.Put.{Put}
+use Rattle.field.specs.declared.Taken.{Taken}
+use Rattle.field.specs.declared.SignedTaken.{SignedTaken}
+use Rattle.checked_spec.specs.Acts.{Seen, Step, Example, _⇒_, memory, replay, replayed}
+use Rattle.checked_spec.specs.Acts.{answered, put-in, taken-out, taken-out-signed, granted-to, number, is, words}
+use Rattle.checked_spec.specs.Table.{at-rest}
+
+-- what stands for a row or a step that a table does not have
+abbrev no-steps : Example
+no-steps = record { start = at-rest (woken []); steps = [] }
+
+abbrev no-step : Step
+no-step = memory ⇒ words []
+
+abbrev pub row : List Example → ℕ → Example
+row t n = getD t n no-steps
+
+abbrev pub line : Example → ℕ → Seen
+line e i = getD (e .steps) i no-step .what
+
+pub row-holds : {t : List Example} → map replayed t ≡ t → (n : ℕ) → replayed (row t n) ≡ row t n
+unfolding replayed replay
+row-holds {t} holds n = sym (List·getD-map replayed t n no-steps) ∙ ap (λ (x : List Example). row x n) holds
+
+pub step-holds : {t : List Example} → map replayed t ≡ t → (n i : ℕ) → line (replayed (row t n)) i ≡ line (row t n) i
+step-holds holds n i = ap (λ (e : Example). line e i) (row-holds holds n)
+
+-- ---- lines
+
+pub same-answer : {x y : Answer} → answered x ≡ answered y → x ≡ y
+same-answer e = cc
+
+pub same-put : {x y : Put} → put-in x ≡ put-in y → x ≡ y
+same-put e = cc
+
+pub same-taken : {x y : Taken} → taken-out x ≡ taken-out y → x ≡ y
+same-taken e = cc
+
+pub same-signed : {x y : SignedTaken} → taken-out-signed x ≡ taken-out-signed y → x ≡ y
+same-signed e = cc
+
+pub same-grant : {m n s t : ℕ} → granted-to m s ≡ granted-to n t → (m ≡ n) × (s ≡ t)
+same-grant e = (cc, cc)
+
+pub same-number : {m n : ℕ} → number m ≡ number n → m ≡ n
+same-number e = cc
+
+pub same-look : {m n : ℕ} → is m ≡ is n → m ≡ n
+same-look e = cc
+
+pub same-words : {x y : List ℕ} → words x ≡ words y → x ≡ y
+same-words e = cc

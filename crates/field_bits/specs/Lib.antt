@@ -1,6 +1,0 @@
--- ---- what the contracts of crate fields cite
-pub mod Field
-pub mod Count
--- ---- the words of the laws
-pub mod WithBits
-pub mod InPlainWords

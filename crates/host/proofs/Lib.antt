@@ -1,2 +1,0 @@
--- What the contracts of the calls say. The laws of an access are crate `port`; proofs of single functions are in the folders beside this.
-pub mod Promised

@@ -1,0 +1,20 @@
+-- The two ways of the program, by its argument.
+--   bytes-word, lines-word   `bytes`, `lines`
+--   Named a w                the argument a names the way w
+use Prim.Native.Nat.{ℕ}
+use mathlib.Core.Path.{_≡_}
+use mathlib.Core.List.{List, [], _∷_}
+use mathlib.Core.Logic.{_≢_}
+use Rattle.transcript_command.specs.declared.Way.{Way}
+use Rattle.transcript_command.specs.declared.Way.the-variants.{Bytes, Lines, Neither}
+
+abbrev pub bytes-word : List ℕ
+bytes-word = 98 ∷ 121 ∷ 116 ∷ 101 ∷ 115 ∷ []
+
+abbrev pub lines-word : List ℕ
+lines-word = 108 ∷ 105 ∷ 110 ∷ 101 ∷ 115 ∷ []
+
+abbrev pub Named : List ℕ → Way → Type 0
+Named a Bytes = a ≡ bytes-word
+Named a Lines = a ≡ lines-word
+Named a Neither = (a ≢ bytes-word) × (a ≢ lines-word)
