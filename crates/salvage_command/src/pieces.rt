@@ -6,7 +6,7 @@ ghost use mathlib.Core.Bool.{true};
 ghost use lib.ListN.{length, take, drop};
 ghost use Rattle.salvage_spec.specs.Pieces.{may-go-on};
 ghost use Rattle.salvage_command.specs.Turning.{held-count, leaving, Ready, Took};
-use salvage_spec::salvage_transcript;
+use salvage::salvage_transcript;
 use words::least;
 
 // How far an input is salvaged. The bytes that are held stand at the front of the piece.

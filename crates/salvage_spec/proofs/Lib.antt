@@ -7,7 +7,6 @@ pub mod MoreBehind
 pub mod OneMorePiece
 pub mod InPieces
 -- ---- the call
-pub mod Outcomes
 pub mod Promised
 pub mod WhatWasWritten
 pub mod WhatWasLeft

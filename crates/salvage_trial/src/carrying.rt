@@ -1,7 +1,7 @@
 // A record of a script, carried out.
 ghost use Rattle.salvage_trial.specs.Carried.{Carried};
+use salvage::salvage_transcript;
 use salvage_spec::Salvaged;
-use salvage_spec::salvage_transcript;
 use words::least;
 
 // The record's call. What it is lent of the damaged transcript, and to be written, is their first places, as many as the record says.

@@ -1,9 +1,9 @@
--- `salvage_spec::salvage_transcript` meets its contract: what the scan found fits or not, and is written or not.
+-- `salvage::salvage_transcript` meets its contract: what the scan found fits or not, and is written or not.
 use native.Mathlib.Omega.{arith}
 use borrow.Author.Needs.{needs}
-use Rattle.salvage_spec.proofs.Outcomes.{within, as-long, too-small, written}
-use Rattle.salvage_spec.proofs.salvage_transcript.Statement.{statement}
-use Rattle.salvage_spec.proofs.salvage_transcript.Tie as tie
+use Rattle.salvage.proofs.Outcomes.{within, as-long, too-small, written}
+use Rattle.salvage.proofs.salvage_transcript.Statement.{statement}
+use Rattle.salvage.proofs.salvage_transcript.Tie as tie
 
 scan-requires : tie.Need-scan-requires
 scan-requires c κs = tt
