@@ -9,7 +9,7 @@ ghost use Rattle.bus.specs.Order.{granted};
 ghost use Rattle.port_spec.specs.Host.{Accessed};
 ghost use Rattle.registers.specs.Processor.{fresh};
 ghost use Rattle.port_spec.specs.declared.Access.the-variants.{Read, Write};
-ghost use Rattle.field.specs.Answers.{put-memory};
+ghost use Rattle.field_spec.specs.Answers.{put-memory};
 use bus::Bus;
 use bus::Granted;
 use port_spec::Access;

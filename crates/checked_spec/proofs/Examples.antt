@@ -17,7 +17,7 @@ use Rattle.port_spec.specs.declared.Access.the-variants.{Read, Write}
 use Rattle.port_spec.specs.declared.Answer.{Answer}
 use Rattle.port_spec.specs.declared.Cycle.{Cycle}
 use Rattle.port_spec.specs.declared.Cycle.the-variants.{Inside, Empty}
-use Rattle.field.specs.Answers.{taken, taken-signed, put-answer, put-memory}
+use Rattle.field_spec.specs.Answers.{taken, taken-signed, put-answer, put-memory}
 use Rattle.checked_spec.specs.Acts.{seen, later, replay, replayed, after-all}
 use Rattle.checked_spec.specs.Table.{INCR, INCW, held, hollow, controlled, three-words, all-waiting}
 use Rattle.checked_spec.specs.Table.{row-1, row-2, row-3, row-4, row-5, row-6, row-7, row-8, row-9, row-10, table}

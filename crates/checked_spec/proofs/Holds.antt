@@ -13,8 +13,8 @@ use Rattle.port_spec.specs.Host.{read-due, write-due, begin-access, refusal, do
 use Rattle.port_spec.specs.Runs.{answer-of, after}
 use Rattle.field_spec.specs.Field.{memory-bit, with-bit, set-memory-bit, field-at, with-field, signed}
 use Rattle.field_spec.specs.Count.{touched, wholly-covered, sum-over, take-cost, take-cycles, put-cost, put-cycles}
-use Rattle.field.specs.Answers as fields
-use Rattle.field.specs.Answers.{no-size, taken, taken-signed, put-answer, put-memory}
+use Rattle.field_spec.specs.Answers as fields
+use Rattle.field_spec.specs.Answers.{no-size, taken, taken-signed, put-answer, put-memory}
 use Rattle.checked_spec.specs.Acts.{seen, later, replay, replayed, after-all}
 use Rattle.checked_spec.specs.Table.{row-1, row-2, row-3, row-4, row-5, row-6, row-7, row-8, row-9, row-10, table}
 

@@ -9,9 +9,9 @@ use mathlib.Core.List.{List, [], map}
 use lib.ListN.{getD, List·getD-map}
 use Rattle.port_spec.specs.Deeds.{woken}
 use Rattle.port_spec.specs.declared.Answer.{Answer}
-use Rattle.field.specs.declared.Put.{Put}
-use Rattle.field.specs.declared.Taken.{Taken}
-use Rattle.field.specs.declared.SignedTaken.{SignedTaken}
+use Rattle.field_spec.specs.declared.Put.{Put}
+use Rattle.field_spec.specs.declared.Taken.{Taken}
+use Rattle.field_spec.specs.declared.SignedTaken.{SignedTaken}
 use Rattle.checked_spec.specs.Acts.{Seen, Step, Example, _⇒_, memory, replay, replayed}
 use Rattle.checked_spec.specs.Acts.{answered, put-in, taken-out, taken-out-signed, granted-to, number, is, words}
 use Rattle.checked_spec.specs.Table.{at-rest}

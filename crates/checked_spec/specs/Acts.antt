@@ -20,10 +20,10 @@ use Rattle.registers.specs.declared.Registers.{Registers}
 use Rattle.port_spec.specs.Runs.{Machine, answer-of, after}
 use Rattle.port_spec.specs.declared.Access.{Access}
 use Rattle.port_spec.specs.declared.Answer.{Answer}
-use Rattle.field.specs.Answers.{taken, taken-signed, put-answer, put-memory}
-use Rattle.field.specs.declared.Taken.{Taken}
-use Rattle.field.specs.declared.SignedTaken.{SignedTaken}
-use Rattle.field.specs.declared.Put.{Put}
+use Rattle.field_spec.specs.Answers.{taken, taken-signed, put-answer, put-memory}
+use Rattle.field_spec.specs.declared.Taken.{Taken}
+use Rattle.field_spec.specs.declared.SignedTaken.{SignedTaken}
+use Rattle.field_spec.specs.declared.Put.{Put}
 
 pub record World : Type 0 where
   pub machine : Machine

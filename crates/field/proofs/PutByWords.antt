@@ -17,7 +17,8 @@ use Rattle.field_spec.specs.Field.{with-field}
 use Rattle.field_spec.specs.Count.{touched, wholly-covered, put-cost, put-cycles}
 use Rattle.field_spec.proofs.Steps.{put-part}
 use Rattle.field_spec.proofs.Sums.{sum-of-one, sum-of-two}
-use Rattle.field.specs.Parts.{Accepted, Scattered, with-part}
+use Rattle.field_spec.specs.Answers.{Accepted}
+use Rattle.field.specs.Parts.{Scattered, with-part}
 
 -- ---- the cost of a word
 

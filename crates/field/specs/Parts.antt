@@ -1,22 +1,15 @@
 -- An accepted field by its words: what the private functions state.
---   Accepted words a n   a field that is accepted by a memory of so many words
 --   window m i k         k words of the memory from word i on, as one number
 --   with-part            a memory with a part of a value put into one word
 --   Scattered            what putting in an accepted field leaves
-use Prim.Native.Nat.{ℕ, zero, suc, _+_, _*_, _/_, _%_, _^_, _≤_, _<_}
+use Prim.Native.Nat.{ℕ, zero, suc, _+_, _*_, _/_, _%_, _^_}
 use mathlib.Core.List.{List}
 use mathlib.Core.Path.{_≡_}
 use lib.ListN.{getD, set}
 use Rattle.words.specs.declared.BitAddress.{BitAddress}
 use Rattle.field_spec.specs.Field.{with-field}
-use Rattle.field_spec.specs.Count.{last-word, put-cycles}
+use Rattle.field_spec.specs.Count.{put-cycles}
 use Rattle.field_spec.specs.WithBits.{with-bits}
-
-pub record Accepted (words : ℕ) (a : BitAddress) (n : ℕ) : Type 0 where
-  pub few : words ≤ 32768
-  pub some : 1 ≤ n
-  pub most : n ≤ 32
-  pub there : last-word a n .0 < words
 
 -- the first word lowest, so that the bits stand in the order of their addresses
 unfoldable pub window : List ℕ → ℕ → ℕ → ℕ

@@ -1,6 +1,6 @@
 // Which number refuses a field. Document 01, "Numbers returned": 1, 4, 5 and 6.
 ghost use mathlib.Core.Path.{_≡_};
-ghost use Rattle.field.specs.Answers.{no-size, refusal};
+ghost use Rattle.field_spec.specs.Answers.{no-size, refusal};
 use crate::places::touched_by;
 use words::BitAddress;
 use words::either;

@@ -4,12 +4,12 @@ ghost use Prim.Native.Nat.{_+_, _≤_, _<_};
 ghost use lib.Dec.{eqb};
 ghost use lib.ListN.{length};
 ghost use Rattle.field_spec.specs.Count.{put-cost};
-ghost use Rattle.field.specs.Answers.{PutIn};
-ghost use Rattle.field.specs.Parts.{Accepted, Scattered, with-part};
-use crate::Put;
+ghost use Rattle.field_spec.specs.Answers.{Accepted, PutIn};
+ghost use Rattle.field.specs.Parts.{Scattered, with-part};
 use crate::bits::bits_of;
 use crate::bits::replace_bits;
 use crate::judging::refusal_of;
+use field_spec::Put;
 use words::BitAddress;
 use words::word_of;
 

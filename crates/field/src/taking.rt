@@ -2,12 +2,12 @@
 ghost use mathlib.Core.Path.{_≡_};
 ghost use Prim.Native.Nat.{_+_, _≤_};
 ghost use lib.ListN.{length};
-ghost use Rattle.field.specs.Answers.{done-taking, taken};
-ghost use Rattle.field.specs.Parts.{Accepted, window};
-use crate::Taken;
+ghost use Rattle.field_spec.specs.Answers.{Accepted, done-taking, taken};
+ghost use Rattle.field.specs.Parts.{window};
 use crate::bits::pow2_wide;
 use crate::judging::refusal_of;
 use crate::places::touched_by;
+use field_spec::Taken;
 use words::BitAddress;
 use words::word_of;
 

@@ -2,11 +2,11 @@
 ghost use mathlib.Core.Path.{_≡_};
 ghost use Prim.Native.Nat.{_^_, _≤_, _<_};
 ghost use Rattle.field_spec.specs.Field.{signed};
-ghost use Rattle.field.specs.Answers.{taken-signed};
-use crate::SignedTaken;
+ghost use Rattle.field_spec.specs.Answers.{taken-signed};
 use crate::bits::pow2;
 use crate::judging::refusal_of;
 use crate::taking::gather;
+use field_spec::SignedTaken;
 use words::BitAddress;
 
 // The signed reading of a field of `size` bits. (2^32 is no 32-bit number, so half of 2^size stands in for it.)

@@ -8,9 +8,8 @@ use lib.Dec.{ltb, leb}
 use borrow.Author.Tests.{ltb-true, ltb-false, leb-true, leb-false}
 use Rattle.words.proofs.Choices.{both-false}
 use Rattle.words.specs.declared.BitAddress.{BitAddress}
 use Rattle.field_spec.specs.Count.{last-word, touched}
-use Rattle.field.specs.Answers.{no-size, refusal}
-use Rattle.field.specs.Parts.{Accepted}
+use Rattle.field_spec.specs.Answers.{no-size, refusal, Accepted}
 
 -- v is the number for a memory of so many words and a field of n bits that touches t words, l the last of them.
 pub record Tested (words n t l v : ℕ) : Type 0 where

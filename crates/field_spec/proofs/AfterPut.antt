@@ -10,16 +10,16 @@ use Rattle.words.specs.Bytes.{bit}
 use Rattle.words.specs.Memory.{AreWords}
 use Rattle.words.specs.declared.BitAddress.{BitAddress}
 use Rattle.words.proofs.Choices.{same-or-not}
 use Rattle.field_spec.specs.Field.{memory-bit}
 use Rattle.field_spec.specs.Count.{take-cycles}
 use Rattle.field_spec.specs.InPlainWords.{Covers}
 use Rattle.field_spec.proofs.Readings.{put-length, put-bit, put-elsewhere, put-words}
-use Rattle.field.specs.Answers.{refusal, taken, PutIn}
-use Rattle.field.specs.declared.Put.{Put}
-use Rattle.field.proofs.Accepted.{none-applies}
-use Rattle.field.proofs.Answered.{memory-done, memory-refused}
-use Rattle.field.proofs.Numbers.{put-number, refused-put}
-use Rattle.field.proofs.RoundTrips.{taken-after-put}
+use Rattle.field_spec.specs.Answers.{refusal, taken, PutIn}
+use Rattle.field_spec.specs.declared.Put.{Put}
+use Rattle.field_spec.proofs.Accepted.{none-applies}
+use Rattle.field_spec.proofs.Answered.{memory-done, memory-refused}
+use Rattle.field_spec.proofs.Numbers.{put-number, refused-put}
+use Rattle.field_spec.proofs.RoundTrips.{taken-after-put}
 
 module _ {m m′ : List ℕ} {a : BitAddress} {n v : ℕ} {r : Put} (p : PutIn m a n v r m′) where
   number-is : r .number ≡ refusal (length m) a n

@@ -7,9 +7,9 @@ use lib.IntN.{pos}
 use lib.ListN.{length}
 use borrow.Author.Tests.{ne-eqb}
 use Rattle.words.specs.declared.BitAddress.{BitAddress}
 use Rattle.field_spec.specs.Field.{field-at, with-field, signed}
 use Rattle.field_spec.specs.Count.{take-cycles, put-cycles}
-use Rattle.field.specs.Answers.{refusal, taken, taken-signed, put-answer, put-memory}
+use Rattle.field_spec.specs.Answers.{refusal, taken, taken-signed, put-answer, put-memory}
 
 module _ (m : List ℕ) (a : BitAddress) (n : ℕ) where
   module _ (e : refusal (length m) a n ≡ 0) where

@@ -10,16 +10,16 @@ use lib.ListN.{length}
 use Rattle.words.proofs.Choices.{less-or-not, same-or-not}
 use Rattle.words.specs.Addresses.{word-at}
 use Rattle.words.specs.declared.BitAddress.{BitAddress}
 use Rattle.field_spec.specs.Count.{last-word, touched}
 use Rattle.field_spec.specs.InPlainWords.{Missing}
 use Rattle.field_spec.proofs.Counted.{missing-last, last-missing}
-use Rattle.field.specs.Answers.{no-size, refusal, taken, taken-signed, put-answer, put-memory}
-use Rattle.field.specs.declared.Taken.{Taken}
-use Rattle.field.specs.declared.SignedTaken.{SignedTaken}
-use Rattle.field.specs.declared.Put.{Put}
-use Rattle.field.proofs.Answered.{taken-done, signed-done, put-done}
-use Rattle.field.proofs.Answered.{taken-refused, signed-refused, put-refused, memory-refused}
-use Rattle.field.proofs.Accepted.{tested}
+use Rattle.field_spec.specs.Answers.{no-size, refusal, taken, taken-signed, put-answer, put-memory}
+use Rattle.field_spec.specs.declared.Taken.{Taken}
+use Rattle.field_spec.specs.declared.SignedTaken.{SignedTaken}
+use Rattle.field_spec.specs.declared.Put.{Put}
+use Rattle.field_spec.proofs.Answered.{taken-done, signed-done, put-done}
+use Rattle.field_spec.proofs.Answered.{taken-refused, signed-refused, put-refused, memory-refused}
+use Rattle.field_spec.proofs.Accepted.{tested}
 
 -- ---- when, and only then
 

@@ -10,14 +10,14 @@ use Rattle.words.specs.Bytes.{bit}
 use Rattle.words.specs.declared.BitAddress.{BitAddress}
 use Rattle.words.proofs.Choices.{same-or-not}
 use Rattle.words.proofs.Bits.{bit-of-remainder}
 use Rattle.field_spec.specs.Field.{ahead, memory-bit, field-at, with-field, signed}
 use Rattle.field_spec.specs.Count.{last-word, take-cycles}
 use Rattle.field_spec.specs.InPlainWords.{same-bits}
 use Rattle.field_spec.proofs.Readings.{as-it-is, put-length, field-fits, field-bit, field-from-bits, put-bit}
 use Rattle.field_spec.proofs.Signs.{same-low-bits}
-use Rattle.field.specs.Answers.{refusal, taken, taken-signed, put-memory}
-use Rattle.field.proofs.Accepted.{none-applies}
-use Rattle.field.proofs.Answered.{taken-done, signed-done, memory-done, memory-refused}
+use Rattle.field_spec.specs.Answers.{refusal, taken, taken-signed, put-memory}
+use Rattle.field_spec.proofs.Accepted.{none-applies}
+use Rattle.field_spec.proofs.Answered.{taken-done, signed-done, memory-done, memory-refused}
 
 -- ---- of the definitions
 

@@ -1,12 +1,13 @@
 -- The answers of the field calls, for every input: document 01, 'Fields' and 'Numbers returned'.
 --   no-size n               a field can't have n bits
 --   refusal words a n       number 1, 4, 5 or 6, or 0 where none applies, for a memory of so many words
+--   Accepted words a n      a field that is accepted by a memory of so many words
 --   done-taking m a n       what taking out an accepted field answers
 --   taken m a n             what taking out answers
 --   taken-signed m a n      what taking out signed answers
 --   put-answer words a n    what putting in answers
 --   put-memory m a n v      the memory after putting in
-use Prim.Native.Nat.{ℕ}
+use Prim.Native.Nat.{ℕ, _≤_, _<_}
 use mathlib.Core.Bool.{Bool, cond, _||_}
 use mathlib.Core.List.{List}
 use mathlib.Core.Path.{_≡_}
@@ -15,11 +16,11 @@ use lib.IntN.{pos}
 use lib.ListN.{length}
 use Rattle.words.specs.Memory.{over-limit}
 use Rattle.words.specs.declared.BitAddress.{BitAddress}
 use Rattle.field_spec.specs.Field.{field-at, with-field, signed}
 use Rattle.field_spec.specs.Count.{last-word, touched, take-cycles, put-cycles}
-use Rattle.field.specs.declared.Taken.{Taken}
-use Rattle.field.specs.declared.SignedTaken.{SignedTaken}
-use Rattle.field.specs.declared.Put.{Put}
+use Rattle.field_spec.specs.declared.Taken.{Taken}
+use Rattle.field_spec.specs.declared.SignedTaken.{SignedTaken}
+use Rattle.field_spec.specs.declared.Put.{Put}
 
 -- "field size not 1 to 32"
 unfoldable pub no-size : ℕ → Bool
@@ -33,6 +34,12 @@ refusal words a n =
     (cond (no-size n) 4
     (cond (ltb 3 (touched a n)) 5
     (cond (leb words (last-word a n .0)) 6 0)))
+
+pub record Accepted (words : ℕ) (a : BitAddress) (n : ℕ) : Type 0 where
+  pub few : words ≤ 32768
+  pub some : 1 ≤ n
+  pub most : n ≤ 32
+  pub there : last-word a n .0 < words
 
 -- ---- "The answer counts memory cycles"; "A refusal returns zeros"
 

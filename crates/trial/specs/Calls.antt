@@ -29,10 +29,10 @@ use Rattle.port_spec.specs.declared.Cycle.{Cycle}
 use Rattle.port_spec.specs.declared.Cycle.the-variants.{None, Inside, Empty}
 use Rattle.port_spec.specs.declared.Answer.{Answer}
 use Rattle.port_spec.specs.declared.Outcome.{Outcome}
-use Rattle.field.specs.Answers.{taken, taken-signed, put-answer, put-memory}
-use Rattle.field.specs.declared.Taken.{Taken}
-use Rattle.field.specs.declared.SignedTaken.{SignedTaken}
-use Rattle.field.specs.declared.Put.{Put}
+use Rattle.field_spec.specs.Answers.{taken, taken-signed, put-answer, put-memory}
+use Rattle.field_spec.specs.declared.Taken.{Taken}
+use Rattle.field_spec.specs.declared.SignedTaken.{SignedTaken}
+use Rattle.field_spec.specs.declared.Put.{Put}
 use Rattle.block_spec.specs.Block.{block-read, block-write, memory-left, list-after as read-list}
 use Rattle.block_spec.specs.declared.BlockRead.{BlockRead}
 use Rattle.block_spec.specs.declared.BlockWrite.{BlockWrite}

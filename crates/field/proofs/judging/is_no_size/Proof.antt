@@ -1,5 +1,5 @@
 -- `field::judging::is_no_size` meets its contract: its tests are the definition's.
-use Rattle.field.specs.Answers.{no-size}
+use Rattle.field_spec.specs.Answers.{no-size}
 use Rattle.field.proofs.judging.is_no_size.Statement.{statement}
 use Rattle.field.proofs.judging.is_no_size.Tie as tie
 

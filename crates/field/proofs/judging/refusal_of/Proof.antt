@@ -6,8 +6,8 @@ use native.Mathlib.Omega.{arith}
 use borrow.Author.Tests.{lt-ltb, le-ltb, le-leb, lt-leb}
 use Rattle.words.specs.Memory.{over-limit}
 use Rattle.field_spec.proofs.Counted.{touched-is, last-is}
-use Rattle.field.specs.Answers.{no-size, refusal}
-use Rattle.field.proofs.Accepted.{sized}
+use Rattle.field_spec.specs.Answers.{no-size, refusal}
+use Rattle.field_spec.proofs.Accepted.{sized}
 use Rattle.field.proofs.judging.refusal_of.Statement.{statement}
 use Rattle.field.proofs.judging.refusal_of.Tie as tie
 

@@ -2,8 +2,8 @@
 use borrow.Author.Needs.{needs}
 use mathlib.Core.Path.{sym, _∙_}
 use borrow.Author.Tests.{ne-eqb}
-use Rattle.field.specs.Answers.{put-answer, put-memory}
-use Rattle.field.proofs.Accepted.{none-applies}
+use Rattle.field_spec.specs.Answers.{put-answer, put-memory}
+use Rattle.field_spec.proofs.Accepted.{none-applies}
 use Rattle.field.proofs.putting.put_in.Statement.{statement}
 use Rattle.field.proofs.putting.put_in.Tie as tie
 

@@ -1,8 +1,8 @@
 -- `field::taking::take_out` meets its contract: it answers zeros to what is refused, and gathers what is accepted.
 use mathlib.Core.Path.{sym, _∙_}
 use borrow.Author.Tests.{ne-eqb}
-use Rattle.field.specs.Answers.{taken}
-use Rattle.field.proofs.Accepted.{none-applies}
+use Rattle.field_spec.specs.Answers.{taken}
+use Rattle.field_spec.proofs.Accepted.{none-applies}
 use Rattle.field.proofs.taking.take_out.Statement.{statement}
 use Rattle.field.proofs.taking.take_out.Tie as tie
 

@@ -7,8 +7,8 @@ use mir.Syntax.{w32}
 use native.Mathlib.Omega.{arith}
 use mathlib.Core.Path.{sym, _∙_}
 use Rattle.field_spec.proofs.Readings.{field-fits}
-use Rattle.field.specs.Answers.{taken-signed}
-use Rattle.field.proofs.Accepted.{none-applies}
+use Rattle.field_spec.specs.Answers.{taken-signed}
+use Rattle.field_spec.proofs.Accepted.{none-applies}
 use Rattle.field.proofs.taking_signed.take_out_signed.Statement.{statement}
 use Rattle.field.proofs.taking_signed.take_out_signed.Tie as tie
 
