@@ -5,10 +5,10 @@ use Rattle.words.specs.Bytes.{bit, are-lanes}
 use Rattle.bank_spec.specs.Registers.{bank-at, with-bank, half, with-half, value-of, with-value, half-at, with-half-at}
 use Rattle.bank_spec.specs.Access.{refusal, read-answer, write-answer}
 use Rattle.bank_spec.specs.Decode.{agrees-at, agrees-below, agrees, in-turn, admits, selects, decoded}
-use Rattle.bank_spec.specs.Table.{worked, sample-map, order, bytes, no-lanes, wrap, special, refresh, several, seen, table}
+use Rattle.bank_spec.specs.Examples.{worked, sample-map, order, bytes, no-lanes, wrap, special, refresh, several, seen, examples}
 
-pub table-holds : map worked table ≡ table
+pub examples-hold : map worked examples ≡ examples
 unfolding
-    table sample-map order bytes no-lanes wrap special refresh several seen bit are-lanes bank-at with-bank half with-half value-of
+    examples sample-map order bytes no-lanes wrap special refresh several seen bit are-lanes bank-at with-bank half with-half value-of
     with-value half-at with-half-at refusal read-answer write-answer agrees-at agrees-below agrees in-turn admits selects decoded
-table-holds = refl
+examples-hold = refl

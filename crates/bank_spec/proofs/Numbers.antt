@@ -27,18 +27,18 @@ unstated d f = (λ e. absurd (d e), λ a. absurd (f a))
 -- ---- an access
 
 -- v is the number for these lanes: 3 for those that are none, 30 for those of one byte
-pub record When (lanes v : ℕ) : Type 0 where
+pub record BankWhen (lanes v : ℕ) : Type 0 where
   pub listed : (v ≡ 0) ⊎ (v ≡ 3) ⊎ (v ≡ 30)
   pub no-lanes : v ≡ 3 ↔ (lanes ≡ 0) ⊎ (3 < lanes)
   pub of-bytes : v ≡ 30 ↔ (lanes ≡ 1) ⊎ (lanes ≡ 2)
   pub done : v ≡ 0 ↔ lanes ≡ 3
 
 -- The number that applies is 0, 3 or 30, each when, and only then.
-pub when : (lanes : ℕ) → When lanes (refusal lanes)
+pub when : (lanes : ℕ) → BankWhen lanes (refusal lanes)
 unfolding refusal
 when lanes = ⊎-elim (λ p. ⊎-elim (whole p) (byte p) (same-or-not lanes 3)) none (either-way (are-lanes lanes))
   where
-    none : are-lanes lanes ≡ false → When lanes (refusal lanes)
+    none : are-lanes lanes ≡ false → BankWhen lanes (refusal lanes)
     none p =
         let u = lanes-unnamed lanes p in
         rw p
@@ -49,7 +49,7 @@ when lanes = ⊎-elim (λ p. ⊎-elim (whole p) (byte p) (same-or-not lanes 3)) 
           done = unstated (omega arith) (u .2);
         })
 
-    byte : are-lanes lanes ≡ true → lanes ≢ 3 → When lanes (refusal lanes)
+    byte : are-lanes lanes ≡ true → lanes ≢ 3 → BankWhen lanes (refusal lanes)
     byte p d =
         let k = lanes-named lanes .0 p in
         rw (p, ne-eqb lanes 3 d)
@@ -60,7 +60,7 @@ when lanes = ⊎-elim (λ p. ⊎-elim (whole p) (byte p) (same-or-not lanes 3)) 
           done = unstated (omega arith) d;
         })
 
-    whole : are-lanes lanes ≡ true → lanes ≡ 3 → When lanes (refusal lanes)
+    whole : are-lanes lanes ≡ true → lanes ≡ 3 → BankWhen lanes (refusal lanes)
     whole p e =
         rw (p, eq-eqb lanes 3 e)
         (record {
@@ -73,7 +73,7 @@ when lanes = ⊎-elim (λ p. ⊎-elim (whole p) (byte p) (same-or-not lanes 3)) 
 -- o is what an access with these lanes may answer: its number is that of the lanes; refused, it answers no word, and the port is as it was
 -- passed, its index too
 pub record AccessNumbers (p : BankPort) (lanes : ℕ) (o : BankAnswer) : Type 0 where
-  pub number : When lanes (o .number)
+  pub number : BankWhen lanes (o .number)
   pub refused : o .number ≢ 0 → (o .word ≡ 0) × (o .port ≡ p)
 
 module _ (p : BankPort) (lanes : ℕ) where
@@ -84,7 +84,7 @@ module _ (p : BankPort) (lanes : ℕ) where
       accepted : refusal lanes ≡ 0 → AccessNumbers p lanes (cond (eqb (refusal lanes) 0) o (refused (refusal lanes) p))
       accepted e =
           rw (eq-eqb (refusal lanes) 0 e)
-          (record { number = subst (When lanes) (e ∙ sym z) (when lanes); refused = λ d. absurd (d z) })
+          (record { number = subst (BankWhen lanes) (e ∙ sym z) (when lanes); refused = λ d. absurd (d z) })
 
       barred : refusal lanes ≢ 0 → AccessNumbers p lanes (cond (eqb (refusal lanes) 0) o (refused (refusal lanes) p))
       barred d = rw (ne-eqb (refusal lanes) 0 d) (record { number = when lanes; refused = λ _. (refl, refl) })

@@ -4,4 +4,4 @@ pub mod Access
 pub mod Decode
 -- ---- the words of the laws
 pub mod InPlainWords
-pub mod Table
+pub mod Examples

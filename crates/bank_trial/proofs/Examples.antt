@@ -10,9 +10,9 @@ use Rattle.bank_spec.specs.Registers.{bank, bank-at, with-bank, half, with-half
 use Rattle.bank_spec.specs.Access.{port, refusal, read-answer, write-answer}
 use Rattle.bank_spec.specs.Decode.{agrees-at, agrees-below, agrees, in-turn, admits, selects, decoded-as, decoded}
 use Rattle.bank_spec.specs.declared.BankPort.{BankPort}
-use Rattle.bank_trial.specs.Record.{starts, reads, writes, number-in, banks, port-in, word-in, address-in, control-in, zeroed}
+use Rattle.bank_trial.specs.Record.{is-start, is-read, is-write, number-in, banks, port-in, word-in, address-in, control-in, zeroed}
 use Rattle.bank_trial.specs.Selected.{digit}
-use Rattle.bank_trial.specs.Carried.{left, decoded-by, carried}
+use Rattle.bank_trial.specs.CarriedOut.{left, decoded-by, carried}
 
 -- n numbers from k on
 abbrev counting : ℕ → ℕ → List ℕ
@@ -24,7 +24,7 @@ own-places = counting 0 40
 
 -- whether a record with that first byte is a fresh start, a read, a write; one that is neither is a decode
 abbrev asks : ℕ → Bool → Bool → Bool → Type 0
-asks a s r w = (starts (a ∷ []) ≡ s) × (reads (a ∷ []) ≡ r) × (writes (a ∷ []) ≡ w)
+asks a s r w = (is-start (a ∷ []) ≡ s) × (is-read (a ∷ []) ≡ r) × (is-write (a ∷ []) ≡ w)
 
 pub record Says : Type 0 where
   -- "what is done, modulo 4: 0 a fresh start, 1 a read, 2 a write, 3 a decode"

@@ -1,3 +1,3 @@
 pub mod Record
 pub mod Selected
-pub mod Carried
+pub mod CarriedOut

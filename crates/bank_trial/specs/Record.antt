@@ -1,10 +1,10 @@
 -- What a record of a script says: crates/bank_trial/src/main.rt, the table of 'A script'. Here it is the list of its bytes.
 --   byte b k            byte k of the record b
 --   number-at b k       the number of 32 bits whose first byte is byte k
---   word-at b k         the word of 16 bits whose first byte is byte k
---   starts b            it is a fresh start
---   reads b             it is a read
---   writes b            it is a write; what is none of these three is a decode
+--   word-from b k       the word of 16 bits whose first byte is byte k
+--   is-start b          it is a fresh start
+--   is-read b           it is a read
+--   is-write b          it is a write; what is none of these three is a decode
 --   number-in b         the index of a fresh start, the lanes of a read or a write, the kind of a decode
 --   bank-in b n         of a fresh start: bank n
 --   banks k0 k1 k2 k3   the registers of these four banks
@@ -35,20 +35,20 @@ byte b k = getD b k 0
 abbrev pub number-at : List ℕ → ℕ → ℕ
 number-at b k = byte b k + 256 * byte b (k + 1) + 65536 * byte b (k + 2) + 16777216 * byte b (k + 3)
 
-abbrev pub word-at : List ℕ → ℕ → ℕ
-word-at b k = byte b k + 256 * byte b (k + 1)
+abbrev pub word-from : List ℕ → ℕ → ℕ
+word-from b k = byte b k + 256 * byte b (k + 1)
 
 -- ---- the record
 
 -- "what is done, modulo 4: 0 a fresh start, 1 a read, 2 a write, 3 a decode"
-abbrev pub starts : List ℕ → Bool
-starts b = eqb (byte b 0 % 4) 0
+abbrev pub is-start : List ℕ → Bool
+is-start b = eqb (byte b 0 % 4) 0
 
-abbrev pub reads : List ℕ → Bool
-reads b = eqb (byte b 0 % 4) 1
+abbrev pub is-read : List ℕ → Bool
+is-read b = eqb (byte b 0 % 4) 1
 
-abbrev pub writes : List ℕ → Bool
-writes b = eqb (byte b 0 % 4) 2
+abbrev pub is-write : List ℕ → Bool
+is-write b = eqb (byte b 0 % 4) 2
 
 -- "bytes 4 to 7": "of a fresh start the index; of a read or a write the lanes; of a decode the kind"
 abbrev pub number-in : List ℕ → ℕ
@@ -66,14 +66,14 @@ port-in b = port (banks (bank-in b 0) (bank-in b 1) (bank-in b 2) (bank-in b 3))
 
 -- "bytes 8, 9 the word"
 abbrev pub word-in : List ℕ → ℕ
-word-in b = word-at b 8
+word-in b = word-from b 8
 
 -- "bytes 8 to 11 the address, bytes 12, 13 the control word"
 abbrev pub address-in : List ℕ → BitAddress
 address-in b = address (number-at b 8)
 
 abbrev pub control-in : List ℕ → ℕ
-control-in b = word-at b 12
+control-in b = word-from b 12
 
 -- ---- before the first record
 

@@ -1,6 +1,6 @@
 // A record of a script, carried out.
 ghost use mathlib.Core.Path.{_≡_};
-ghost use Rattle.bank_trial.specs.Carried.{left-by-start, left-by-access, decoded-by, carried};
+ghost use Rattle.bank_trial.specs.CarriedOut.{left-by-start, left-by-access, decoded-by, carried};
 use crate::reading::address_in;
 use crate::reading::control_in;
 use crate::reading::number_in;

@@ -1,7 +1,7 @@
 // What the bytes of a record say.
 ghost use mathlib.Core.Path.{_≡_};
 ghost use Prim.Native.Nat.{_<_};
-ghost use Rattle.bank_trial.specs.Record.{number-at, word-at, number-in, word-in, address-in, control-in, bank-in, port-in};
+ghost use Rattle.bank_trial.specs.Record.{number-at, word-from, number-in, word-in, address-in, control-in, bank-in, port-in};
 use bank_spec::Bank;
 use bank_spec::BankPort;
 use bank_spec::Banks;
@@ -22,7 +22,7 @@ fn number_at(bytes: &[u8; 40], k: usize) -> u32
 // The word whose first byte is byte k.
 fn word_at(bytes: &[u8; 40], k: usize) -> u16
     requires { ⌜ k < 39 ⌝ }
-    ensures { λ n. ⌜ n ≡ word-at (now (bytes .entry)) k ⌝ }
+    ensures { λ n. ⌜ n ≡ word-from (now (bytes .entry)) k ⌝ }
 {
     join_bytes(bytes[k], bytes[k + 1])
 }

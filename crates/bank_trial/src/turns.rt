@@ -1,7 +1,7 @@
 // Reading the script, a record at a time.
 ghost use mathlib.Core.Path.{_≡_};
 ghost use Rattle.bank_trial.specs.Record.{zeroed};
-ghost use Rattle.bank_trial.specs.Carried.{carried};
+ghost use Rattle.bank_trial.specs.CarriedOut.{carried};
 use crate::carrying::carry_record;
 use crate::printing::print_record;
 use bank_spec::Bank;

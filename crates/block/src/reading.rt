@@ -6,7 +6,7 @@ ghost use lib.ListN.{length};
 ghost use Rattle.words.specs.Addresses.{word-at};
 ghost use Rattle.control.specs.Control.{incr};
 ghost use Rattle.port_spec.specs.Cycle.{standing};
-ghost use Rattle.port_spec.specs.Runs.{machine};
+ghost use Rattle.port_spec.specs.Sequences.{machine};
 ghost use Rattle.block_spec.specs.Block.{ReadBlock};
 ghost use Rattle.block_spec.specs.Parts.{straight-reads, ReadInto};
 use crate::copying::copy_words;
@@ -53,7 +53,7 @@ pub(crate) fn read_singly(r: Registers, memory: &[u16], part: &mut [u16]) -> Run
     }
     Run {
         registers: q,
-        marked: hollows,
+        tallied: hollows,
     }
 }
 
@@ -88,7 +88,7 @@ pub(crate) fn read_straight(r: Registers, memory: &[u16], part: &mut [u16]) -> R
             control: r.control,
             hollow: false,
         },
-        marked: one_if(r.hollow),
+        tallied: one_if(r.hollow),
     }
 }
 
@@ -109,7 +109,7 @@ pub(crate) fn read_words(r: Registers, memory: &[u16], part: &mut [u16]) -> Run
     let last = rest.registers;
     Run {
         registers: last,
-        marked: first.marked + rest.marked,
+        tallied: first.tallied + rest.tallied,
     }
 }
 
@@ -136,7 +136,7 @@ pub fn block_read(
     let q = run.registers;
     BlockRead {
         number: 0,
-        hollows: run.marked,
+        hollows: run.tallied,
         registers: q,
     }
 }

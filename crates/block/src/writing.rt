@@ -5,7 +5,7 @@ ghost use Prim.Native.Nat.{_+_, _<_, _≤_};
 ghost use lib.ListN.{length};
 ghost use Rattle.words.specs.Addresses.{word-at};
 ghost use Rattle.control.specs.Control.{incw};
-ghost use Rattle.port_spec.specs.Runs.{machine};
+ghost use Rattle.port_spec.specs.Sequences.{machine};
 ghost use Rattle.block_spec.specs.Block.{WrittenBlock};
 ghost use Rattle.block_spec.specs.Parts.{straight-writes, WrittenFrom};
 use crate::copying::copy_words;
@@ -41,7 +41,7 @@ pub(crate) fn write_singly(r: Registers, memory: &mut [u16], part: &[u16]) -> Ru
     }
     Run {
         registers: q,
-        marked: empties,
+        tallied: empties,
     }
 }
 
@@ -75,7 +75,7 @@ pub(crate) fn write_straight(r: Registers, memory: &mut [u16], part: &[u16]) -> 
             control: r.control,
             hollow: false,
         },
-        marked: 0,
+        tallied: 0,
     }
 }
 
@@ -96,7 +96,7 @@ pub(crate) fn write_words(r: Registers, memory: &mut [u16], part: &[u16]) -> Run
     let last = rest.registers;
     Run {
         registers: last,
-        marked: first.marked + rest.marked,
+        tallied: first.tallied + rest.tallied,
     }
 }
 
@@ -123,7 +123,7 @@ pub fn block_write(
     let q = run.registers;
     BlockWrite {
         number: 0,
-        empties: run.marked,
+        empties: run.tallied,
         registers: q,
     }
 }

@@ -10,30 +10,30 @@ use lib.ListN.{length, replicate}
 use Rattle.words.specs.Addresses.{word-at}
 use Rattle.words.specs.declared.BitAddress.{BitAddress}
 use Rattle.control.specs.Control.{incr}
-use Rattle.port_spec.specs.Runs.{Machine, machine, words-in, answers}
+use Rattle.port_spec.specs.Sequences.{Machine, machine, words-in, answers}
 use Rattle.port_spec.specs.Table.{Memory, loaded, reading, table, Lies, given}
 use Rattle.port_spec.proofs.Handed.{loads}
 use Rattle.port_spec.proofs.EveryWord.{every-word, then-hollow, only-hollow}
-use Rattle.block_spec.specs.Block.{stretch, hollows-in, block-read, list-after}
+use Rattle.block_spec.specs.Block.{list-part, hollows-in, block-read, list-after}
 use Rattle.block_spec.specs.InPlainWords.{Fits}
 use Rattle.block_spec.specs.declared.BlockRead.{BlockRead}
 use Rattle.block_spec.proofs.Numbers.{when, read-taken, list-taken}
-use Rattle.block_spec.proofs.Lent.{laid-stretch}
+use Rattle.block_spec.proofs.Lent.{laid-part}
 use Rattle.block_spec.proofs.HandedOut.{held-then-hollow, all-held}
 use Rattle.port_spec.proofs.Joined.{filled-length}
 
 -- Load the pointer at a table of n words that lies in memory, with INCR set, and read a block of n: it is done, every word of the
--- table lies in the list's stretch, in order, the last included, and none is counted hollow, whatever lies after the table.
+-- table lies in the list's part, in order, the last included, and none is counted hollow, whatever lies after the table.
 pub record EveryWord (s : Machine) (a : BitAddress) (l : List ℕ) (place n : ℕ) : Type 0 where
   pub number : block-read (loaded s a .registers) (s .memory) l place n .number ≡ 0
-  pub words : stretch (list-after (loaded s a .registers) (s .memory) l place n) place n ≡ table (s .memory) a n
+  pub words : list-part (list-after (loaded s a .registers) (s .memory) l place n) place n ≡ table (s .memory) a n
   pub hollows : block-read (loaded s a .registers) (s .memory) l place n .hollows ≡ 0
 
 -- Read a block past the end of memory: of n + j words the n that are left in memory and then j fillers, and j are counted hollow.
 pub record ThenHollow (s : Machine) (a : BitAddress) (l : List ℕ) (place n j : ℕ) : Type 0 where
   pub number : block-read (loaded s a .registers) (s .memory) l place (n + j) .number ≡ 0
   pub words :
-      stretch (list-after (loaded s a .registers) (s .memory) l place (n + j)) place (n + j) ≡ table (s .memory) a n ++ replicate j 0xffff
+      list-part (list-after (loaded s a .registers) (s .memory) l place (n + j)) place (n + j) ≡ table (s .memory) a n ++ replicate j 0xffff
   pub hollows : block-read (loaded s a .registers) (s .memory) l place (n + j) .hollows ≡ j
 
 module _ (s : Machine) (k : Memory (s .memory)) (i : incr (s .registers .control) ≡ true) (a : BitAddress)
@@ -48,7 +48,7 @@ module _ (s : Machine) (k : Memory (s .memory)) (i : incr (s .registers .control
       let x = answers (machine r (s .memory)) (reading n) in
       (words-in x ≡ ws) × (hollows-in x ≡ j) →
       (block-read r (s .memory) l place n .number ≡ 0)
-      × (stretch (list-after r (s .memory) l place n) place n ≡ ws)
+      × (list-part (list-after r (s .memory) l place n) place n ≡ ws)
       × (block-read r (s .memory) l place n .hollows ≡ j)
   handed-out n ws j f told =
       let r = loaded s a .registers in
@@ -57,7 +57,7 @@ module _ (s : Machine) (k : Memory (s .memory)) (i : incr (s .registers .control
       let o = read-taken r m l place n e in
       let x = words-in (answers (machine r m) (reading n)) in (
         ap (λ (x : BlockRead). x .number) o,
-        rw (list-taken r m l place n e) (laid-stretch place n l x (f .1) (filled-length (machine r m) n)) ∙ told .0,
+        rw (list-taken r m l place n e) (laid-part place n l x (f .1) (filled-length (machine r m) n)) ∙ told .0,
         ap (λ (x : BlockRead). x .hollows) o ∙ told .1,
       )
 
@@ -81,7 +81,7 @@ module _ (s : Machine) (k : Memory (s .memory)) (i : incr (s .registers .control
   -- Begun past the end of memory, the block is done, and every word of it is filler, and counted.
   pub block-beyond : (j : ℕ) → a .0 < 2 ^ 32 → length (s .memory) ≤ word-at a .0 → word-at a .0 + j ≤ 2 ^ 28 → Fits l place j →
       (block-read (loaded s a .registers) (s .memory) l place j .number ≡ 0)
-      × (stretch (list-after (loaded s a .registers) (s .memory) l place j) place j ≡ replicate j 0xffff)
+      × (list-part (list-after (loaded s a .registers) (s .memory) l place j) place j ≡ replicate j 0xffff)
       × (block-read (loaded s a .registers) (s .memory) l place j .hollows ≡ j)
   block-beyond j b h q f =
       let given-so = ap (λ (t : Machine). map given (answers t (reading j))) (just-loaded b) ∙ only-hollow s k i a j b h q in

@@ -7,20 +7,20 @@ use mathlib.Core.List.{List, [], _++_, append-nil}
 use lib.ListN.{length, getD, take, drop, length-append, length-take, length-drop, drop-of-length-le, List·getD-append}
 use lib.Seq.{length-take-le, take-at, drop-at, take-all, getD-append-add, getD-drop, getD-take}
 use borrow.Rule.Slice.PartMut.{putMid, postOf, post-is}
-use Rattle.block_spec.specs.Block.{stretch, with-stretch}
+use Rattle.block_spec.specs.Block.{list-part, with-list-part}
 
 -- The n places from a on, lent.
 pub part-length : (a n : ℕ) (l : List ℕ) → a + n ≤ length l → length (take (a + n - a) (drop a l)) ≡ n
 part-length a n l h = simp (length-take, length-drop) (omega arith)
 
--- They are the stretch.
-pub part-is : (a n : ℕ) (l : List ℕ) → take (a + n - a) (drop a l) ≡ stretch l a n
+-- They are the part.
+pub part-is : (a n : ℕ) (l : List ℕ) → take (a + n - a) (drop a l) ≡ list-part l a n
 part-is a n l =
     let e : a + n - a ≡ n = omega arith in
     ap (λ (k : ℕ). take k (drop a l)) e
 
 -- Come back as ys, they lie between what was before them and what was after them.
-pub put-back : (a n : ℕ) (l ys : List ℕ) → putMid a (a + n - a) l ys ≡ with-stretch l a n ys
+pub put-back : (a n : ℕ) (l ys : List ℕ) → putMid a (a + n - a) l ys ≡ with-list-part l a n ys
 put-back a n l ys = ap (λ (r : List ℕ). take a l ++ (ys ++ r)) (post-is a (a + n) l (omega arith))
 
 -- The first n places, lent, are its first n words.
@@ -55,10 +55,10 @@ module _ (n : ℕ) (l xs : List ℕ) (h : n ≤ length l) (e : length xs ≡ n) 
       let none : postOf n (length (between n l xs) - n) (between n l xs) ≡ [] = drop-of-length-le (drop n (between n l xs)) left in
       rw (take-at xs (postOf 0 (n - 0) l) n e, none, append-nil)
 
--- ---- what lies where, once a stretch of a list has become ys
+-- ---- what lies where, once a part of a list has become ys
 module _ (a n : ℕ) (l ys : List ℕ) (h : a + n ≤ length l) (e : length ys ≡ n) where
   abbrev laid : List ℕ
-  laid = with-stretch l a n ys
+  laid = with-list-part l a n ys
 
   front : length (take a l) ≡ a
   front = length-take-le a l (omega arith)
@@ -67,16 +67,16 @@ module _ (a n : ℕ) (l ys : List ℕ) (h : a + n ≤ length l) (e : length ys �
   pub laid-length : length laid ≡ length l
   laid-length = simp (length-append, length-drop) (omega (arith, front))
 
-  -- In the stretch lie ys.
+  -- In the part lie ys.
   pub laid-inside : (k : ℕ) → k < n → getD laid (a + k) 0 ≡ getD ys k 0
   laid-inside k q =
       ap (λ (x : ℕ). getD laid (x + k) 0) (sym front) ∙
       getD-append-add (take a l) (ys ++ drop (a + n) l) k 0 ∙
       List·getD-append ys (drop (a + n) l) 0 k (omega arith)
 
-  -- The stretch itself is ys.
-  pub laid-stretch : stretch laid a n ≡ ys
-  laid-stretch = rw (drop-at (take a l) (ys ++ drop (a + n) l) a front) (take-at ys (drop (a + n) l) n e)
+  -- The part itself is ys.
+  pub laid-part : list-part laid a n ≡ ys
+  laid-part = rw (drop-at (take a l) (ys ++ drop (a + n) l) a front) (take-at ys (drop (a + n) l) n e)
 
   -- Before it lies what lay there.
   pub laid-before : (k : ℕ) → k < a → getD laid k 0 ≡ getD l k 0

@@ -7,7 +7,7 @@ use native.Mathlib.Nat.{add-zero}
 use lib.ListN.{take-append-drop}
 use Rattle.words.proofs.Choices.{same-or-not}
 use Rattle.registers.specs.declared.Registers.{Registers}
-use Rattle.port_spec.specs.Runs.{answers, ends}
+use Rattle.port_spec.specs.Sequences.{answers, ends}
 use Rattle.port_spec.specs.Table.{reading}
 use Rattle.block_spec.specs.Block.{block-number, tally, block-read, list-after, block-write, memory-left}
 use Rattle.block_spec.proofs.Numbers.{read-taken, list-taken, write-taken, memory-taken}

@@ -11,26 +11,26 @@ use lib.ListN.{length}
 use borrow.Author.Tests.{ltb-true, ltb-false, eq-eqb, ne-eqb}
 use Rattle.words.proofs.Choices.{same-or-not}
 use Rattle.registers.specs.declared.Registers.{Registers}
-use Rattle.port_spec.specs.Runs.{machine, words-in, Sixteen, answers, ends}
+use Rattle.port_spec.specs.Sequences.{machine, words-in, Sixteen, answers, ends}
 use Rattle.port_spec.specs.Table.{reading}
-use Rattle.block_spec.specs.Block.{block-refusal, block-number, stretch, with-stretch, writing, hollows-in, empties-in}
+use Rattle.block_spec.specs.Block.{block-refusal, block-number, list-part, with-list-part, writing, hollows-in, empties-in}
 use Rattle.block_spec.specs.Block.{block-read, list-after, block-write, memory-left}
 use Rattle.block_spec.specs.declared.BlockRead.{BlockRead}
 use Rattle.block_spec.specs.declared.BlockWrite.{BlockWrite}
 
 -- v is the number for a memory of so many words, a list of so many places, a place and a count
-pub record When (words room place count v : ℕ) : Type 0 where
+pub record BlockWhen (words room place count v : ℕ) : Type 0 where
   pub listed : (v ≡ 0) ⊎ ((v ≡ 1) ⊎ (v ≡ 10))
   pub over : v ≡ 1 ↔ 32768 < words
   pub unfit : v ≡ 10 ↔ (words ≤ 32768) × ((4096 < count) ⊎ (room < place + count))
   pub done : v ≡ 0 ↔ (words ≤ 32768) × (count ≤ 4096) × (place + count ≤ room)
 
 -- The number that applies is one of them, each when, and only then.
-pub when : (words room place count : ℕ) → When words room place count (block-refusal words room place count)
+pub when : (words room place count : ℕ) → BlockWhen words room place count (block-refusal words room place count)
 unfolding block-refusal
 when n l p k = go (ltb 32768 n) (ltb 4096 k) (ltb l (p + k)) refl refl refl
   where
-    go : (a b c : Bool) → ltb 32768 n ≡ a → ltb 4096 k ≡ b → ltb l (p + k) ≡ c → When n l p k (cond a 1 (cond (b || c) 10 0))
+    go : (a b c : Bool) → ltb 32768 n ≡ a → ltb 4096 k ≡ b → ltb l (p + k) ≡ c → BlockWhen n l p k (cond a 1 (cond (b || c) 10 0))
     go true b c x y z =
         let h = ltb-true 32768 n x in
         record {
@@ -75,7 +75,7 @@ module _ (r : Registers) (m l : List ℕ) (place count : ℕ) where
   -- ---- a block that is accepted is its accesses
   module _ (e : number ≡ 0) where
     abbrev writes : List Sixteen
-    writes = writing (stretch l place count)
+    writes = writing (list-part l place count)
 
     -- What a block read answers.
     pub read-taken : block-read r m l place count ≡
@@ -88,7 +88,7 @@ module _ (r : Registers) (m l : List ℕ) (place count : ℕ) where
     read-taken = rw (eq-eqb _ _ e)
 
     -- And the list after it.
-    pub list-taken : list-after r m l place count ≡ with-stretch l place count (words-in (answers (machine r m) (reading count)))
+    pub list-taken : list-after r m l place count ≡ with-list-part l place count (words-in (answers (machine r m) (reading count)))
     unfolding list-after
     list-taken = rw (eq-eqb _ _ e)
 
@@ -143,9 +143,9 @@ module _ (r : Registers) (m l : List ℕ) (place count : ℕ) where
       (same-or-not number 0)
 
   -- Both are 0, 1 or 10, each when, and only then.
-  pub read-numbered : When (length m) (length l) place count (block-read r m l place count .number)
+  pub read-numbered : BlockWhen (length m) (length l) place count (block-read r m l place count .number)
   read-numbered = rw read-number (when (length m) (length l) place count)
 
   -- The same of a block write.
-  pub write-numbered : When (length m) (length l) place count (block-write r m l place count .number)
+  pub write-numbered : BlockWhen (length m) (length l) place count (block-write r m l place count .number)
   write-numbered = rw write-number (when (length m) (length l) place count)

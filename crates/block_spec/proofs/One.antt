@@ -5,7 +5,7 @@ use mathlib.Core.Path.{_≡_, ap, _∙_}
 use mathlib.Core.List.{List}
 use Rattle.words.proofs.One.{one-value}
 use Rattle.registers.specs.declared.Registers.{Registers}
-use Rattle.port_spec.specs.Runs.{Machine}
+use Rattle.port_spec.specs.Sequences.{Machine}
 use Rattle.block_spec.specs.Block.{ReadBlock, WrittenBlock}
 use Rattle.block_spec.specs.Parts.{ReadInto, WrittenFrom}
 use Rattle.block_spec.specs.declared.Run.{Run}
@@ -13,9 +13,9 @@ use Rattle.block_spec.specs.declared.BlockRead.{BlockRead}
 use Rattle.block_spec.specs.declared.BlockWrite.{BlockWrite}
 
 -- the two fields of what some accesses leave
-one-run : {o p : Run} → o .registers ≡ p .registers → o .marked ≡ p .marked → o ≡ p
+one-run : {o p : Run} → o .registers ≡ p .registers → o .tallied ≡ p .tallied → o ≡ p
 one-run {o} {p} e d =
-    ap (λ (q : Registers). record { registers = q; marked = o .marked }) e ∙ ap (λ (n : ℕ). record { registers = p .registers; marked = n }) d
+    ap (λ (q : Registers). record { registers = q; tallied = o .tallied }) e ∙ ap (λ (n : ℕ). record { registers = p .registers; tallied = n }) d
 
 module _ {r : Registers} {m l : List ℕ} {place count : ℕ} where
   -- A block read has one outcome.
@@ -31,9 +31,9 @@ module _ {r : Registers} {m l : List ℕ} {place count : ℕ} where
 -- Some reads leave one outcome and fill their part in one way.
 pub one-read-into : {s : Machine} {n : ℕ} {o p : Run} {x y : List ℕ} → ReadInto s n o x → ReadInto s n p y → (o ≡ p) × (x ≡ y)
 one-read-into a b =
-    (one-run (one-value (a .registers) (b .registers)) (one-value (a .marked) (b .marked)), one-value (a .words) (b .words))
+    (one-run (one-value (a .registers) (b .registers)) (one-value (a .tallied) (b .tallied)), one-value (a .words) (b .words))
 
 -- Some writes leave one outcome and one memory.
 pub one-written-from : {s : Machine} {ws : List ℕ} {o p : Run} {x y : List ℕ} → WrittenFrom s ws o x → WrittenFrom s ws p y → (o ≡ p) × (x ≡ y)
 one-written-from a b =
-    (one-run (one-value (a .registers) (b .registers)) (one-value (a .marked) (b .marked)), one-value (a .memory) (b .memory))
+    (one-run (one-value (a .registers) (b .registers)) (one-value (a .tallied) (b .tallied)), one-value (a .memory) (b .memory))

@@ -19,7 +19,7 @@ use Rattle.registers.specs.declared.Registers.{Registers}
 use Rattle.port_spec.specs.Cycle.{standing, stepped}
 use Rattle.port_spec.specs.Deeds.{ahead, has-cycle, word-used}
 use Rattle.port_spec.specs.Host.{access}
-use Rattle.port_spec.specs.Runs.{machine, answer-of, after, answers, ends}
+use Rattle.port_spec.specs.Sequences.{machine, answer-of, after, answers, ends}
 use Rattle.port_spec.specs.Table.{reading}
 use Rattle.port_spec.specs.declared.Access.the-variants.{Read, Write}
 use Rattle.port_spec.proofs.Numbers.{numbered}
@@ -37,13 +37,13 @@ module _ (r : Registers) (m : List ℕ) (few : length m ≤ 32768) where
 
   -- It hands out the word that is held, with its mark, and then fetches.
   pub one-read : r .latch < 65536 →
-      ReadInto (machine r m) 1 (record { registers = standing m (r .control) (ahead r); marked = counted (r .hollow) }) (r .latch ∷ [])
+      ReadInto (machine r m) 1 (record { registers = standing m (r .control) (ahead r); tallied = counted (r .hollow) }) (r .latch ∷ [])
   unfolding reading answers ends tally answer-of after
   one-read h =
       let says = rule r m 3 read-accepted in
       record {
         registers = sym (read-fetches r m 3 read-accepted (both-close (r .control)));
-        marked = ap (λ (b : Bool). counted b) (sym (says .hollow)) ∙ sym (add-zero _);
+        tallied = ap (λ (b : Bool). counted b) (sym (says .hollow)) ∙ sym (add-zero _);
         words = ap (λ (w : ℕ). w ∷ []) (sym (says .word ∙ shown-whole (r .latch) h));
       }
 
@@ -69,7 +69,7 @@ module _ (r : Registers) (m : List ℕ) (few : length m ≤ 32768) where
         WrittenFrom (machine r m) (w ∷ [])
         (record {
           registers = stepped (incw (r .control)) (with-latch r w false);
-          marked = counted (not (in-memory m (word-at (r .pointer))));
+          tallied = counted (not (in-memory m (word-at (r .pointer))));
         })
         (store-at m (word-at (r .pointer)) w)
     unfolding answers ends tally answer-of after stepped
@@ -78,6 +78,6 @@ module _ (r : Registers) (m : List ℕ) (few : length m ≤ 32768) where
         let closing = both-close (r .control) in
         record {
           registers = sym (write-steps r m 3 w write-accepted closing ∙ ap (λ (x : ℕ). after-storing r x (incw (r .control))) whole);
-          marked = ap (λ (b : Bool). counted b) (sym falls) ∙ sym (add-zero _);
+          tallied = ap (λ (b : Bool). counted b) (sym falls) ∙ sym (add-zero _);
           memory = sym (write-stores r m 3 w write-accepted closing ∙ ap (store-at m (word-at (r .pointer))) whole);
         }

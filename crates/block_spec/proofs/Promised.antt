@@ -13,16 +13,16 @@ use Rattle.words.specs.declared.BitAddress.{BitAddress}
 use Rattle.control.specs.Control.{incr, incw}
 use Rattle.registers.specs.declared.Registers.{Registers}
 use Rattle.port_spec.specs.Calls.{Made}
-use Rattle.port_spec.specs.Runs.{Machine, machine, words-in, ends}
+use Rattle.port_spec.specs.Sequences.{Machine, machine, words-in, ends}
 use Rattle.port_spec.specs.Table.{Memory, loaded, reading, table, Lies}
 use Rattle.port_spec.specs.declared.Answer.{Answer}
 use Rattle.port_spec.proofs.CallAfterCall.{made-as-run}
-use Rattle.block_spec.specs.Block.{block-number, stretch, writing, hollows-in, is-empty, empties-in, memory-left}
+use Rattle.block_spec.specs.Block.{block-number, list-part, writing, hollows-in, is-empty, empties-in, memory-left}
 use Rattle.block_spec.specs.Block.{ReadBlock, WrittenBlock}
 use Rattle.block_spec.specs.InPlainWords.{kth-read, kth-write, number-below, Fits}
 use Rattle.block_spec.specs.declared.BlockRead.{BlockRead}
 use Rattle.block_spec.specs.declared.BlockWrite.{BlockWrite}
-use Rattle.block_spec.proofs.Numbers.{When, read-number, read-numbered, read-barred, list-barred}
+use Rattle.block_spec.proofs.Numbers.{BlockWhen, read-number, read-numbered, read-barred, list-barred}
 use Rattle.block_spec.proofs.Numbers.{write-number, write-numbered, write-barred, memory-barred}
 use Rattle.block_spec.proofs.Singles.{LikeReads, like-reads, reads-answer}
 use Rattle.block_spec.proofs.Singles.{LikeWrites, like-writes, writes-answer}
@@ -33,7 +33,7 @@ use Rattle.block_spec.proofs.ReadBack.{words-laid, reads-back}
 -- ---- a block read
 module _ {r : Registers} {m l : List ℕ} {place count : ℕ} {o : BlockRead} {l′ : List ℕ} (k : ReadBlock r m l place count o l′) where
   -- It answers 0, 1 or 10, each when, and only then.
-  pub read-returns-number : When (length m) (length l) place count (o .number)
+  pub read-returns-number : BlockWhen (length m) (length l) place count (o .number)
   read-returns-number = rw (k .outcome) (read-numbered r m l place count)
 
   -- Refused, it counts no hollow word, and leaves the registers and every place of the list.
@@ -72,15 +72,15 @@ module _ {r : Registers} {m l : List ℕ} {place count : ℕ} {o : BlockRead} {l
     pub read-ends-alike : machine (o .registers) m ≡ ends (machine r m) (reading count)
     read-ends-alike = ap (λ (x : BlockRead). machine (x .registers) m) (k .outcome) ∙ like .ended
 
-    -- It ends like any calls that read one by one, by words or by bytes: with their registers, their words in the list's stretch, and as
+    -- It ends like any calls that read one by one, by words or by bytes: with their registers, their words in the list's part, and as
     -- many hollow ones.
     pub read-like-calls : {xs : List Answer} {t : Machine} → Made (machine r m) (reading count) xs t →
-        (machine (o .registers) m ≡ t) × (stretch l′ place count ≡ words-in xs) × (o .hollows ≡ hollows-in xs)
+        (machine (o .registers) m ≡ t) × (list-part l′ place count ≡ words-in xs) × (o .hollows ≡ hollows-in xs)
     read-like-calls c =
         let e = made-as-run c in
         let a = reads-answer r m l place count (sym (ap (λ (x : BlockRead). x .number) (k .outcome)) ∙ z) in (
           read-ends-alike ∙ sym (e .1),
-          ap (λ (x : List ℕ). stretch x place count) (k .list) ∙ a .0 ∙ ap words-in (sym (e .0)),
+          ap (λ (x : List ℕ). list-part x place count) (k .list) ∙ a .0 ∙ ap words-in (sym (e .0)),
           ap (λ (x : BlockRead). x .hollows) (k .outcome) ∙ a .1 ∙ ap hollows-in (sym (e .0)),
         )
 
@@ -96,14 +96,14 @@ module _ (s : Machine) (a : BitAddress) {l : List ℕ} {place n : ℕ} {o : Bloc
     (k : ReadBlock (loaded s a .registers) (s .memory) l place n o l′)
     (y : Memory (s .memory)) (i : incr (s .registers .control) ≡ true) (f : Fits l place n) where
   -- Of a table of n words that lies in memory it hands out every word, in order, the last included, and counts none hollow.
-  pub hands-out-every-word : Lies (s .memory) a n → (o .number ≡ 0) × (stretch l′ place n ≡ table (s .memory) a n) × (o .hollows ≡ 0)
+  pub hands-out-every-word : Lies (s .memory) a n → (o .number ≡ 0) × (list-part l′ place n ≡ table (s .memory) a n) × (o .hollows ≡ 0)
   hands-out-every-word h =
       let w = every-word-of-a-block s y i a l place n h f in
       rw (k .outcome, k .list) (w .number, w .words, w .hollows)
 
   -- Begun past the end of memory, it is done, and every word of it is filler, and counted.
   pub hands-out-filler : a .0 < 2 ^ 32 → length (s .memory) ≤ word-at a .0 → word-at a .0 + n ≤ 2 ^ 28 →
-      (o .number ≡ 0) × (stretch l′ place n ≡ replicate n 0xffff) × (o .hollows ≡ n)
+      (o .number ≡ 0) × (list-part l′ place n ≡ replicate n 0xffff) × (o .hollows ≡ n)
   hands-out-filler b h q = rw (k .outcome, k .list) (block-beyond s y i a l place n b h q f)
 
 -- Of n + j words, n left in memory, it hands out those and then j fillers, and counts j hollow.
@@ -111,7 +111,7 @@ pub hands-out-words-then-filler : (s : Machine) (a : BitAddress) {l : List ℕ} 
     ReadBlock (loaded s a .registers) (s .memory) l place (n + j) o l′ →
     Memory (s .memory) → incr (s .registers .control) ≡ true → Fits l place (n + j) →
     word-at a .0 + n ≡ length (s .memory) → word-at a .0 + n + j ≤ 2 ^ 28 →
-    (o .number ≡ 0) × (stretch l′ place (n + j) ≡ table (s .memory) a n ++ replicate j 0xffff) × (o .hollows ≡ j)
+    (o .number ≡ 0) × (list-part l′ place (n + j) ≡ table (s .memory) a n ++ replicate j 0xffff) × (o .hollows ≡ j)
 hands-out-words-then-filler s a {l} {place} n j k y i f h q =
     let w = block-past-the-end s y i a l place n j h q f in
     rw (k .outcome, k .list) (w .number, w .words, w .hollows)
@@ -119,7 +119,7 @@ hands-out-words-then-filler s a {l} {place} n j k y i f h q =
 -- ---- a block write
 module _ {r : Registers} {m l : List ℕ} {place count : ℕ} {o : BlockWrite} {m′ : List ℕ} (k : WrittenBlock r m l place count o m′) where
   -- It answers 0, 1 or 10, each when, and only then.
-  pub write-returns-number : When (length m) (length l) place count (o .number)
+  pub write-returns-number : BlockWhen (length m) (length l) place count (o .number)
   write-returns-number = rw (k .outcome) (write-numbered r m l place count)
 
   -- Refused, it counts no empty store, and leaves the registers and the memory.
@@ -138,25 +138,25 @@ module _ {r : Registers} {m l : List ℕ} {place count : ℕ} {o : BlockWrite} {
     done : LikeWrites r m l place count
     done = like-writes r m l place count (sym (ap (λ (x : BlockWrite). x .number) (k .outcome)) ∙ z)
 
-    -- Its registers and the memory end where the single writes of the stretch's words end.
-    pub write-ends-alike : machine (o .registers) m′ ≡ ends (machine r m) (writing (stretch l place count))
+    -- Its registers and the memory end where the single writes of the part's words end.
+    pub write-ends-alike : machine (o .registers) m′ ≡ ends (machine r m) (writing (list-part l place count))
     write-ends-alike =
         ap (machine (o .registers)) (k .memory) ∙
         ap (λ (x : BlockWrite). machine (x .registers) (memory-left r m l place count)) (k .outcome) ∙
         done .ended
 
     -- The j-th of these words is that of place + j of the list.
-    pub write-takes : (j : ℕ) → j < count → getD (stretch l place count) j 0 ≡ getD l (place + j) 0
+    pub write-takes : (j : ℕ) → j < count → getD (list-part l place count) j 0 ≡ getD l (place + j) 0
     write-takes = done .words
 
     -- The empty stores that it counts are those of the single writes.
     pub write-counts-empties :
-        o .empties ≡ number-below count (λ j. is-empty (kth-write (machine r m) (stretch l place count) j .cycle))
+        o .empties ≡ number-below count (λ j. is-empty (kth-write (machine r m) (list-part l place count) j .cycle))
     write-counts-empties = ap (λ (x : BlockWrite). x .empties) (k .outcome) ∙ done .empties
 
     -- It ends like any calls that write these words one by one, by words or by bytes: with their registers and memory, and as many stores
     -- that fell empty.
-    pub write-like-calls : {xs : List Answer} {t : Machine} → Made (machine r m) (writing (stretch l place count)) xs t →
+    pub write-like-calls : {xs : List Answer} {t : Machine} → Made (machine r m) (writing (list-part l place count)) xs t →
         (machine (o .registers) m′ ≡ t) × (o .empties ≡ empties-in xs)
     write-like-calls c =
         let e = made-as-run c in
@@ -181,7 +181,7 @@ module _ {r : Registers} {m l : List ℕ} {place n : ℕ} {o : BlockWrite} {m′
       rw (k .outcome) (p .number, p .empties, p .pointer)
 
   -- The words lie in memory from the pointer's word on.
-  pub write-lays : table m′ (r .pointer) n ≡ stretch l place n
+  pub write-lays : table m′ (r .pointer) n ≡ list-part l place n
   write-lays = rw (k .memory) (words-laid r m l place n y i w some most room there .words)
 
   -- All else of memory stays.
@@ -193,7 +193,7 @@ module _ {r : Registers} {m l : List ℕ} {place n : ℕ} {o : BlockWrite} {m′
   -- With INCR set, a block read from where it began hands the words out again, all held, into any list with room for them.
   pub read-after-write : incr (r .control) ≡ true → {q : BlockRead} {t t′ : List ℕ} {place′ : ℕ} →
       ReadBlock (loaded (machine (o .registers) m′) (r .pointer) .registers) m′ t place′ n q t′ → place′ + n ≤ length t →
-      (q .number ≡ 0) × (stretch t′ place′ n ≡ stretch l place n) × (q .hollows ≡ 0)
+      (q .number ≡ 0) × (list-part t′ place′ n ≡ list-part l place n) × (q .hollows ≡ 0)
   read-after-write c {q} {t} {t′} {place′} b h =
       let p = reads-back r m l place n y i w some most room there c t place′ h in
       let d = rw (k .outcome, k .memory) at b in

@@ -14,12 +14,12 @@ use Rattle.words.proofs.Choices.{less-or-not}
 use Rattle.control.specs.Control.{incr, incw}
 use Rattle.registers.specs.declared.Registers.{Registers}
 use Rattle.port_spec.specs.Table.{Memory, loaded, table, Lies}
-use Rattle.port_spec.specs.Runs.{machine}
-use Rattle.block_spec.specs.Block.{block-number, stretch, with-stretch, block-write, memory-left, block-read, list-after}
+use Rattle.port_spec.specs.Sequences.{machine}
+use Rattle.block_spec.specs.Block.{block-number, list-part, with-list-part, block-write, memory-left, block-read, list-after}
 use Rattle.block_spec.specs.Parts.{stepped-by, WrittenFrom}
 use Rattle.block_spec.specs.declared.BlockWrite.{BlockWrite}
 use Rattle.block_spec.proofs.Numbers.{when, write-taken, memory-taken}
-use Rattle.block_spec.proofs.Lent.{laid-length, laid-inside, laid-stretch, laid-before, laid-behind}
+use Rattle.block_spec.proofs.Lent.{laid-length, laid-inside, laid-part, laid-before, laid-behind}
 use Rattle.block_spec.proofs.Straight.{wrote, copied-write}
 use Rattle.block_spec.proofs.EveryWordOfABlock.{every-word-of-a-block}
 
@@ -30,7 +30,7 @@ pub record Laid (r : Registers) (m l : List ℕ) (place n : ℕ) : Type 0 where
   pub empties : block-write r m l place n .empties ≡ 0
   pub control : block-write r m l place n .registers .control ≡ r .control
   pub pointer : block-write r m l place n .registers .pointer .0 ≡ r .pointer .0 + 16 * n
-  pub words : table (memory-left r m l place n) (r .pointer) n ≡ stretch l place n
+  pub words : table (memory-left r m l place n) (r .pointer) n ≡ list-part l place n
   pub before : (k : ℕ) → k < word-at (r .pointer) .0 → getD (memory-left r m l place n) k 0 ≡ getD m k 0
   pub behind : (k : ℕ) → word-at (r .pointer) .0 + n ≤ k → getD (memory-left r m l place n) k 0 ≡ getD m k 0
   pub size : length (memory-left r m l place n) ≡ length m
@@ -38,21 +38,21 @@ pub record Laid (r : Registers) (m l : List ℕ) (place n : ℕ) : Type 0 where
 -- What the same words are when a block reads them again: the pointer is loaded with the address where the write began.
 pub record ReadBack (l : List ℕ) (place n : ℕ) (l′ : List ℕ) (place′ : ℕ) (q : Registers) (m′ : List ℕ) : Type 0 where
   pub number : block-read q m′ l′ place′ n .number ≡ 0
-  pub words : stretch (list-after q m′ l′ place′ n) place′ n ≡ stretch l place n
+  pub words : list-part (list-after q m′ l′ place′ n) place′ n ≡ list-part l place n
   pub hollows : block-read q m′ l′ place′ n .hollows ≡ 0
 
-stretch-words : (l : List ℕ) (place n : ℕ) → AreWords l → AreWords (stretch l place n)
-stretch-words l place n w j =
-    let none : n ≤ j → length (stretch l place n) ≤ j = λ h. simp (length-take, length-drop) (omega arith) in
+part-words : (l : List ℕ) (place n : ℕ) → AreWords l → AreWords (list-part l place n)
+part-words l place n w j =
+    let none : n ≤ j → length (list-part l place n) ≤ j = λ h. simp (length-take, length-drop) (omega arith) in
     ⊎-elim
     (λ h. rw (getD-take n (drop place l) j 0 h ∙ getD-drop place l j 0) (w (place + j)))
-    (λ h. rw (List·getD-eq-default (stretch l place n) 0 (none h)) (omega arith))
+    (λ h. rw (List·getD-eq-default (list-part l place n) 0 (none h)) (omega arith))
     (less-or-not j n)
 
 module _ (r : Registers) (m l : List ℕ) (place n : ℕ) (k : Memory m) (i : incw (r .control) ≡ true) (w : AreWords l)
     (some : 0 < n) (most : n ≤ 4096) (room : place + n ≤ length l) (there : Lies m (r .pointer) n) where
   abbrev ws : List ℕ
-  ws = stretch l place n
+  ws = list-part l place n
 
   abbrev x : ℕ
   x = word-at (r .pointer) .0
@@ -64,10 +64,10 @@ module _ (r : Registers) (m l : List ℕ) (place n : ℕ) (k : Memory m) (i : in
   accepted = when (length m) (length l) place n .done .1 (k .size, most, room)
 
   written :
-      WrittenFrom (machine r m) ws (record { registers = wrote r n (getD ws (n - 1) 0); marked = 0 }) (with-stretch m x n ws)
-  written = rw size-of at (copied-write ws r m (rw size-of some) (k .size) i (stretch-words l place n w) (rw size-of there))
+      WrittenFrom (machine r m) ws (record { registers = wrote r n (getD ws (n - 1) 0); tallied = 0 }) (with-list-part m x n ws)
+  written = rw size-of at (copied-write ws r m (rw size-of some) (k .size) i (part-words l place n w) (rw size-of there))
 
-  memory-is : memory-left r m l place n ≡ with-stretch m x n ws
+  memory-is : memory-left r m l place n ≡ with-list-part m x n ws
   memory-is = memory-taken r m l place n accepted ∙ sym (written .memory)
 
   no-wrap : stepped-by n (r .pointer) .0 ≡ r .pointer .0 + 16 * n
@@ -79,11 +79,11 @@ module _ (r : Registers) (m l : List ℕ) (place n : ℕ) (k : Memory m) (i : in
       let o = write-taken r m l place n accepted in
       record {
         number = ap (λ (b : BlockWrite). b .number) o;
-        empties = ap (λ (b : BlockWrite). b .empties) o ∙ sym (written .marked);
+        empties = ap (λ (b : BlockWrite). b .empties) o ∙ sym (written .tallied);
         control = ap (λ (b : BlockWrite). b .registers .control) o ∙ ap (λ (q : Registers). q .control) (sym (written .registers));
         pointer =
             ap (λ (b : BlockWrite). b .registers .pointer .0) o ∙ ap (λ (q : Registers). q .pointer .0) (sym (written .registers)) ∙ no-wrap;
-        words = rw memory-is (laid-stretch x n m ws there size-of);
+        words = rw memory-is (laid-part x n m ws there size-of);
         before = λ j h. rw memory-is (laid-before x n m ws there size-of j h);
         behind = λ j h. rw memory-is (laid-behind x n m ws there size-of j h);
         size = rw memory-is (laid-length x n m ws there size-of);
@@ -92,7 +92,7 @@ module _ (r : Registers) (m l : List ℕ) (place n : ℕ) (k : Memory m) (i : in
   words-there : AreWords (memory-left r m l place n)
   words-there j =
       let inside : (d : ℕ) → d < n → getD (memory-left r m l place n) (x + d) 0 < 65536 =
-      λ d q. rw (memory-is, laid-inside x n m ws there size-of d q) (stretch-words l place n w d) in
+      λ d q. rw (memory-is, laid-inside x n m ws there size-of d q) (part-words l place n w d) in
       ⊎-elim
       (λ h. rw (words-laid .before j h) (k .words j))
       (λ h. ⊎-elim

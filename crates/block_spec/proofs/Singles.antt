@@ -11,18 +11,18 @@ use lib.ListN.{length, getD, drop}
 use lib.ListN.{length-drop, length-take}
 use lib.Seq.{getD-drop, getD-take}
 use Rattle.registers.specs.declared.Registers.{Registers}
-use Rattle.port_spec.specs.Runs.{Machine, machine, words-in, answer-of, after, answers, ends}
+use Rattle.port_spec.specs.Sequences.{Machine, machine, words-in, answer-of, after, answers, ends}
 use Rattle.port_spec.specs.Table.{reading}
 use Rattle.port_spec.specs.declared.Access.the-variants.{Read, Write}
 use Rattle.port_spec.specs.declared.Cycle.{Cycle}
 use Rattle.port_spec.specs.declared.Cycle.the-variants.{None, Inside, Empty}
-use Rattle.block_spec.specs.Block.{writing, stretch, counted, tally, hollows-in, is-empty, empties-in}
+use Rattle.block_spec.specs.Block.{writing, list-part, counted, tally, hollows-in, is-empty, empties-in}
 use Rattle.block_spec.specs.Block.{block-read, list-after, block-write, memory-left}
 use Rattle.block_spec.specs.InPlainWords.{kth-read, kth-write, number-below}
 use Rattle.block_spec.specs.declared.BlockRead.{BlockRead}
 use Rattle.block_spec.specs.declared.BlockWrite.{BlockWrite}
 use Rattle.block_spec.proofs.Numbers.{when, read-number, read-taken, list-taken, write-number, write-taken, memory-taken}
-use Rattle.block_spec.proofs.Lent.{laid-length, laid-inside, laid-stretch, laid-before, laid-behind}
+use Rattle.block_spec.proofs.Lent.{laid-length, laid-inside, laid-part, laid-before, laid-behind}
 use Rattle.port_spec.proofs.Joined.{reads-keep-memory, filled-length}
 
 -- ---- what is counted
@@ -68,13 +68,13 @@ pub record LikeReads (r : Registers) (m l : List ℕ) (place count : ℕ) : Type
 
 -- An accepted block write: the empty stores counted are those of the single writes, and registers and memory end where they end.
 pub record LikeWrites (r : Registers) (m l : List ℕ) (place count : ℕ) : Type 0 where
-  pub words : (k : ℕ) → k < count → getD (stretch l place count) k 0 ≡ getD l (place + k) 0
+  pub words : (k : ℕ) → k < count → getD (list-part l place count) k 0 ≡ getD l (place + k) 0
   pub empties :
       block-write r m l place count .empties ≡
-      number-below count (λ k. is-empty (kth-write (machine r m) (stretch l place count) k .cycle))
+      number-below count (λ k. is-empty (kth-write (machine r m) (list-part l place count) k .cycle))
   pub ended :
       machine (block-write r m l place count .registers) (memory-left r m l place count) ≡
-      ends (machine r m) (writing (stretch l place count))
+      ends (machine r m) (writing (list-part l place count))
 
 module _ (r : Registers) (m l : List ℕ) (place count : ℕ) where
   -- A block read ends like its single reads.
@@ -102,7 +102,7 @@ module _ (r : Registers) (m l : List ℕ) (place count : ℕ) where
   pub like-writes : block-write r m l place count .number ≡ 0 → LikeWrites r m l place count
   like-writes n =
       let s = machine r m in
-      let ws = stretch l place count in
+      let ws = list-part l place count in
       let e = sym (write-number r m l place count) ∙ n in
       let fits = when (length m) (length l) place count .done .0 e .2 in
       let o = write-taken r m l place count e in
@@ -117,21 +117,21 @@ module _ (r : Registers) (m l : List ℕ) (place count : ℕ) where
             ap (machine (ends s (writing ws) .registers)) (memory-taken r m l place count e);
       }
 
-  -- The list's stretch is the words that the single reads hand out, and as many of these are hollow.
+  -- The list's part is the words that the single reads hand out, and as many of these are hollow.
   pub reads-answer : block-read r m l place count .number ≡ 0 →
-      (stretch (list-after r m l place count) place count ≡ words-in (answers (machine r m) (reading count)))
+      (list-part (list-after r m l place count) place count ≡ words-in (answers (machine r m) (reading count)))
       × (block-read r m l place count .hollows ≡ hollows-in (answers (machine r m) (reading count)))
   reads-answer n =
       let s = machine r m in
       let e = sym (read-number r m l place count) ∙ n in
       let fits = when (length m) (length l) place count .done .0 e .2 in (
         rw (list-taken r m l place count e)
-            (laid-stretch place count l (words-in (answers s (reading count))) fits (filled-length s count)),
+            (laid-part place count l (words-in (answers s (reading count))) fits (filled-length s count)),
         ap (λ (x : BlockRead). x .hollows) (read-taken r m l place count e),
       )
 
   -- As many stores of the single writes fell empty.
   pub writes-answer : block-write r m l place count .number ≡ 0 →
-      block-write r m l place count .empties ≡ empties-in (answers (machine r m) (writing (stretch l place count)))
+      block-write r m l place count .empties ≡ empties-in (answers (machine r m) (writing (list-part l place count)))
   writes-answer n =
       ap (λ (x : BlockWrite). x .empties) (write-taken r m l place count (sym (write-number r m l place count) ∙ n))

@@ -18,7 +18,7 @@ use Rattle.control.specs.Control.{incr, incw}
 use Rattle.registers.specs.Registers.{with-latch}
 use Rattle.registers.specs.declared.Registers.{Registers}
 use Rattle.port_spec.specs.Cycle.{standing, stepped}
-use Rattle.port_spec.specs.Runs.{Machine, machine, words-in, answers, ends}
+use Rattle.port_spec.specs.Sequences.{Machine, machine, words-in, answers, ends}
 use Rattle.port_spec.specs.Table.{Memory, stands, reading, on-by, table, Lies, given}
 use Rattle.port_spec.proofs.Handed.{on-by-gains, reads-answer, reads-end}
 use Rattle.port_spec.proofs.TableWords.{table-handed}
@@ -78,22 +78,22 @@ module _ (r : Registers) (m : List ℕ) (k : Memory m) (i : incr (r .control) �
   -- reads of registers that stand at a
   later : (n : ℕ) (a : BitAddress) → Lies m a n →
       ReadInto (machine (standing m (r .control) a) m) n
-      (record { registers = standing m (r .control) (on-by n a); marked = 0 }) (table m a n)
+      (record { registers = standing m (r .control) (on-by n a); tallied = 0 }) (table m a n)
   later n a h =
       let given-so = ap (map given) (reads-answer s k i n a) ∙ table-handed m (k .size) n a h in
       let g = all-held (answers (stands s a) (reading n)) (table m a n) given-so in
       record {
         registers = sym (ap (λ (t : Machine). t .registers) (reads-end s k i n a));
-        marked = sym (g .1);
+        tallied = sym (g .1);
         words = sym (g .0);
       }
 
   -- The first word is the one already held; the others are copied from memory, and so is the word that is held in the end.
   pub straight-read : (n : ℕ) → r .latch < 65536 → word-at (r .pointer) .0 + suc n < length m →
-      ReadInto s (suc n) (record { registers = moved (suc n); marked = counted (r .hollow) }) (r .latch ∷ table m (step (r .pointer)) n)
+      ReadInto s (suc n) (record { registers = moved (suc n); tallied = counted (r .hollow) }) (r .latch ∷ table m (step (r .pointer)) n)
   straight-read n f h =
       let a = r .pointer in
-      let first : ReadInto s 1 (record { registers = standing m (r .control) (step a); marked = counted (r .hollow) }) (r .latch ∷ []) =
+      let first : ReadInto s 1 (record { registers = standing m (r .control) (step a); tallied = counted (r .hollow) }) (r .latch ∷ []) =
       rw i at (one-read r m (k .size) f) in
       let both = join-reads r m 1 n _ _ _ _ first (later n (step a) (omega (arith, k .size))) in
       let count : 1 + n ≡ suc n = omega arith in
@@ -104,13 +104,13 @@ module _ (r : Registers) (m : List ℕ) (k : Memory m) (i : incr (r .control) �
       let at-end = stands-at ∙ ap (λ (x : ℕ). with-latch (moved (suc n)) (getD m x 0) false) word in
       record {
         registers = sym at-end ∙ both .registers ∙ ap (λ (x : ℕ). ends s (reading x) .registers) count;
-        marked = sym (add-zero _) ∙ both .marked ∙ ap (λ (x : ℕ). hollows-in (answers s (reading x))) count;
+        tallied = sym (add-zero _) ∙ both .tallied ∙ ap (λ (x : ℕ). hollows-in (answers s (reading x))) count;
         words = both .words ∙ ap (λ (x : ℕ). words-in (answers s (reading x))) count;
       }
 
   -- The same by a copy from the pointer's word on, with the word already held laid over the first.
   pub copied-read : (n : ℕ) → 0 < n → r .latch < 65536 → word-at (r .pointer) .0 + n < length m →
-      ReadInto s n (record { registers = moved n; marked = counted (r .hollow) }) (set (take n (drop (word-at (r .pointer) .0) m)) 0 (r .latch))
+      ReadInto s n (record { registers = moved n; tallied = counted (r .hollow) }) (set (take n (drop (word-at (r .pointer) .0) m)) 0 (r .latch))
   copied-read zero p f h = absurd (omega (arith, p))
   copied-read (suc n) p f h =
       let x = word-at (r .pointer) .0 in
@@ -124,14 +124,14 @@ wrote r n w = record { pointer = stepped-by n (r .pointer); latch = w; control =
 
 one-straight : (r : Registers) (m : List ℕ) (w : ℕ) →
     length m ≤ 32768 → incw (r .control) ≡ true → w < 65536 → word-at (r .pointer) .0 < length m →
-    WrittenFrom (machine r m) (w ∷ []) (record { registers = wrote r 1 w; marked = 0 }) (set m (word-at (r .pointer) .0) w)
+    WrittenFrom (machine r m) (w ∷ []) (record { registers = wrote r 1 w; tallied = 0 }) (set m (word-at (r .pointer) .0) w)
 unfolding stepped store-at
 one-straight r m w few i f h = rw (i, lt-ltb (word-at (r .pointer) .0) (length m) h) at (one-write r m few w f)
 
 -- The words lie in memory from the pointer's word on, and the last is held.
 pub straight-write : (ws : List ℕ) (w : ℕ) (r : Registers) (m : List ℕ) → length m ≤ 32768 → incw (r .control) ≡ true →
     AreWords (w ∷ ws) → word-at (r .pointer) .0 + suc (length ws) ≤ length m →
-    WrittenFrom (machine r m) (w ∷ ws) (record { registers = wrote r (suc (length ws)) (getD (w ∷ ws) (length ws) 0); marked = 0 })
+    WrittenFrom (machine r m) (w ∷ ws) (record { registers = wrote r (suc (length ws)) (getD (w ∷ ws) (length ws) 0); tallied = 0 })
     (sets m (word-at (r .pointer) .0) (w ∷ ws))
 straight-write [] w r m few i f h = one-straight r m w few i (f 0) (omega arith)
 straight-write (v ∷ vs) w r m few i f h =
@@ -147,7 +147,7 @@ straight-write (v ∷ vs) w r m few i f h =
 -- The same by a copy to the pointer's word and on.
 pub copied-write : (ws : List ℕ) (r : Registers) (m : List ℕ) → 0 < length ws → length m ≤ 32768 → incw (r .control) ≡ true →
     AreWords ws → word-at (r .pointer) .0 + length ws ≤ length m →
-    WrittenFrom (machine r m) ws (record { registers = wrote r (length ws) (getD ws (length ws - 1) 0); marked = 0 })
+    WrittenFrom (machine r m) ws (record { registers = wrote r (length ws) (getD ws (length ws - 1) 0); tallied = 0 })
     (take (word-at (r .pointer) .0) m ++ (ws ++ drop (word-at (r .pointer) .0 + length ws) m))
 copied-write [] r m p few i f h = absurd (omega (arith, p))
 copied-write (w ∷ ws) r m p few i f h =

@@ -1,9 +1,9 @@
 -- Blocks: document 01, 'Blocks and the two doors' and number 10 of 'Numbers returned'.
 --   block-refusal, block-number        number 1 or 10, or 0 where neither applies
---   stretch l place count              the words of a list's stretch
---   with-stretch l place count ws      the list with its stretch become ws
+--   list-part l place count            the words of a list's part
+--   with-list-part l place count ws    the list with its part become ws
 --   writing ws                         two-lane writes of register 2, one for each word
---   counted, tally f xs                a mark as a number, and how many of the answers xs bear the mark f
+--   counted, tally f xs                a yes as a number, and to how many of the answers xs f says yes
 --   is-empty                           the cycle of a store that was dropped
 --   hollows-in, empties-in             how many of the answers are hollow, or fell empty
 --   block-read, list-after             a block read: its outcome, and the list
@@ -17,7 +17,7 @@ use lib.Dec.{eqb, ltb}
 use lib.ListN.{length, take, drop}
 use Rattle.words.specs.Memory.{over-limit}
 use Rattle.registers.specs.declared.Registers.{Registers}
-use Rattle.port_spec.specs.Runs.{machine, Sixteen, save, answers, ends, words-in}
+use Rattle.port_spec.specs.Sequences.{machine, Sixteen, save, answers, ends, words-in}
 use Rattle.port_spec.specs.Table.{reading}
 use Rattle.port_spec.specs.declared.Answer.{Answer}
 use Rattle.port_spec.specs.declared.Cycle.{Cycle}
@@ -34,14 +34,14 @@ block-refusal words room place count =
 abbrev pub block-number : List ℕ → List ℕ → ℕ → ℕ → ℕ
 block-number m l place count = block-refusal (length m) (length l) place count
 
--- ---- a stretch of the caller's list, "from a given place"
+-- ---- a part of the caller's list, "from a given place"
 
-abbrev pub stretch : List ℕ → ℕ → ℕ → List ℕ
-stretch l place count = take count (drop place l)
+abbrev pub list-part : List ℕ → ℕ → ℕ → List ℕ
+list-part l place count = take count (drop place l)
 
 -- "List places outside the stretch stay"
-abbrev pub with-stretch : List ℕ → ℕ → ℕ → List ℕ → List ℕ
-with-stretch l place count ws = take place l ++ (ws ++ drop (place + count) l)
+abbrev pub with-list-part : List ℕ → ℕ → ℕ → List ℕ → List ℕ
+with-list-part l place count ws = take place l ++ (ws ++ drop (place + count) l)
 
 -- ---- the accesses: `reading n` of crate port_spec is a count of two-lane reads of register 2
 
@@ -51,13 +51,13 @@ writing ws = map (save 2) ws
 
 -- ---- what their answers say
 
--- a mark counts one
+-- a yes counts one
 abbrev pub counted : Bool → ℕ
 counted b = cond b 1 0
 
 unfoldable pub tally : (Answer → Bool) → List Answer → ℕ
-tally marked [] = 0
-tally marked (x ∷ rest) = counted (marked x) + tally marked rest
+tally f [] = 0
+tally f (x ∷ rest) = counted (f x) + tally f rest
 
 -- "The answer counts the hollow words handed out"
 abbrev pub hollows-in : List Answer → ℕ
@@ -87,7 +87,7 @@ block-read r m l place count =
 unfoldable pub list-after : Registers → List ℕ → List ℕ → ℕ → ℕ → List ℕ
 list-after r m l place count =
     cond (eqb (block-number m l place count) 0)
-    (with-stretch l place count (words-in (answers (machine r m) (reading count))))
+    (with-list-part l place count (words-in (answers (machine r m) (reading count))))
     l
 
 -- what a block read leaves: its outcome and the list
@@ -102,15 +102,15 @@ block-write r m l place count =
     cond (eqb (block-number m l place count) 0)
     (record {
       number = 0;
-      empties = empties-in (answers (machine r m) (writing (stretch l place count)));
-      registers = ends (machine r m) (writing (stretch l place count)) .registers;
+      empties = empties-in (answers (machine r m) (writing (list-part l place count)));
+      registers = ends (machine r m) (writing (list-part l place count)) .registers;
     })
     (record { number = block-number m l place count; empties = 0; registers = r })
 
 unfoldable pub memory-left : Registers → List ℕ → List ℕ → ℕ → ℕ → List ℕ
 memory-left r m l place count =
     cond (eqb (block-number m l place count) 0)
-    (ends (machine r m) (writing (stretch l place count)) .memory)
+    (ends (machine r m) (writing (list-part l place count)) .memory)
     m
 
 -- what a block write leaves: its outcome and the memory

@@ -7,7 +7,7 @@ use Prim.Native.Nat.{ℕ, zero, suc, _+_, _≤_}
 use mathlib.Core.Bool.{Bool}
 use mathlib.Core.List.{List}
 use lib.ListN.{length, getD, take}
-use Rattle.port_spec.specs.Runs.{Machine, answer-of, ends}
+use Rattle.port_spec.specs.Sequences.{Machine, answer-of, ends}
 use Rattle.port_spec.specs.Table.{reading}
 use Rattle.port_spec.specs.declared.Access.the-variants.{Read, Write}
 use Rattle.port_spec.specs.declared.Answer.{Answer}

@@ -10,7 +10,7 @@ use Rattle.words.specs.Addresses.{word-at}
 use Rattle.words.specs.declared.BitAddress.{BitAddress}
 use Rattle.control.specs.Control.{incr, incw}
 use Rattle.registers.specs.declared.Registers.{Registers}
-use Rattle.port_spec.specs.Runs.{Machine, words-in, answers, ends}
+use Rattle.port_spec.specs.Sequences.{Machine, words-in, answers, ends}
 use Rattle.port_spec.specs.Table.{reading}
 use Rattle.block_spec.specs.Block.{writing, hollows-in, empties-in}
 use Rattle.block_spec.specs.declared.Run.{Run}
@@ -29,11 +29,11 @@ stepped-by n a = record { 0 = (a .0 + 16 * n) % 2 ^ 32 }
 -- n reads from the machine s, into all of a part of n places
 pub record ReadInto (s : Machine) (n : ℕ) (o : Run) (part : List ℕ) : Type 0 where
   pub registers : o .registers ≡ ends s (reading n) .registers
-  pub marked : o .marked ≡ hollows-in (answers s (reading n))
+  pub tallied : o .tallied ≡ hollows-in (answers s (reading n))
   pub words : part ≡ words-in (answers s (reading n))
 
 -- a write of each of the words ws from the machine s
 pub record WrittenFrom (s : Machine) (ws : List ℕ) (o : Run) (m : List ℕ) : Type 0 where
   pub registers : o .registers ≡ ends s (writing ws) .registers
-  pub marked : o .marked ≡ empties-in (answers s (writing ws))
+  pub tallied : o .tallied ≡ empties-in (answers s (writing ws))
   pub memory : m ≡ ends s (writing ws) .memory

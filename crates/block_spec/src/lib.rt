@@ -1,4 +1,4 @@
-// Blocks: a count of two-lane reads of HSTDATA into a stretch of the caller's list, or of writes from one.
+// Blocks: a count of two-lane reads of HSTDATA into a part of the caller's list, or of writes from one.
 // Document 01, "Blocks and the two doors". Here stand the types, what a block means (specs/) and the laws of that (proofs/); the code is
 // crate `block`.
 use registers::Registers;
@@ -17,9 +17,9 @@ pub struct BlockWrite {
     pub registers: Registers,
 }
 
-// What some accesses of a block leave: the registers, and how many of their answers bear the mark that is counted. Only the code of
+// What some accesses of a block leave: the registers, and how many of their answers are hollow, or fell empty. Only the code of
 // crate `block` makes one; it is here because the laws of a block's parts (specs/Parts.antt) speak of it.
 pub struct Run {
     pub registers: Registers,
-    pub marked: u16,
+    pub tallied: u16,
 }

@@ -14,7 +14,7 @@ use Rattle.field_spec.specs.declared.Taken.{Taken}
 use Rattle.field_spec.specs.declared.SignedTaken.{SignedTaken}
 use Rattle.checked_spec.specs.Acts.{Seen, Step, Example, _⇒_, memory, replay, replayed}
 use Rattle.checked_spec.specs.Acts.{answered, put-in, taken-out, taken-out-signed, granted-to, number, is, words}
-use Rattle.checked_spec.specs.Table.{at-rest}
+use Rattle.checked_spec.specs.Examples.{at-rest}
 
 -- what stands for a row or a step that a table does not have
 abbrev no-steps : Example

@@ -17,7 +17,7 @@ use Rattle.bus.specs.Order.{granted, released}
 use Rattle.bus.specs.declared.Bus.{Bus}
 use Rattle.registers.specs.Processor.{processor-writes}
 use Rattle.registers.specs.declared.Registers.{Registers}
-use Rattle.port_spec.specs.Runs.{Machine, answer-of, after}
+use Rattle.port_spec.specs.Sequences.{Machine, answer-of, after}
 use Rattle.port_spec.specs.declared.Access.{Access}
 use Rattle.port_spec.specs.declared.Answer.{Answer}
 use Rattle.field_spec.specs.Answers.{taken, taken-signed, put-answer, put-memory}

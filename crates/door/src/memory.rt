@@ -59,15 +59,15 @@ pub(crate) fn carry_bytes(r: Registers, due: Due, memory: &mut [u8]) -> Carried
             registers: r,
             cycle: Cycle::None,
         },
-        Due::Fetch(step) => {
-            let q = step_if(step, r);
+        Due::Fetch { with_step } => {
+            let q = step_if(with_step, r);
             let a = q.pointer;
             settle_fetch(q, fetch_bytes(memory, word_of(a)))
         }
-        Due::Store(step) => {
+        Due::Store { with_step } => {
             let a = r.pointer;
             let inside = store_bytes(memory, word_of(a), r.latch);
-            settle_store(r, step, inside)
+            settle_store(r, with_step, inside)
         }
     }
 }

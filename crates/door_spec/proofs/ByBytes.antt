@@ -6,7 +6,7 @@ use mathlib.Core.Bool.{true}
 use mathlib.Core.Logic.{⊎-elim}
 use Rattle.words.specs.Bytes.{AreBytes}
 use Rattle.words.proofs.Choices.{either-way}
-use Rattle.port_spec.specs.Runs.{Machine, Sixteen, on, joined, answer-of, after}
+use Rattle.port_spec.specs.Sequences.{Machine, Sixteen, on, together, answer-of, after}
 use Rattle.port_spec.specs.declared.Access.{Access}
 use Rattle.port_spec.specs.declared.Answer.{Answer}
 use Rattle.port_spec.specs.declared.Cycle.the-variants.{None}
@@ -16,7 +16,7 @@ use Rattle.door_spec.specs.Image.{registers-of, image-of}
 use Rattle.door_spec.specs.Answer.{refusing}
 use Rattle.door_spec.specs.Door.{misfit, call-tells}
 use Rattle.door_spec.specs.InPlainWords.{Fitting}
-use Rattle.door_spec.specs.Runs.{Lent, told, left, opening, closing}
+use Rattle.door_spec.specs.Sequences.{Lent, told, left, opening, closing}
 use Rattle.door_spec.proofs.Numbers.{fitting, unfit-number, unfit-refused}
 use Rattle.door_spec.proofs.Refusals.{refuses}
 use Rattle.door_spec.proofs.AsByValue.{tells-as-access, image-as-access, memory-as-access, registers-left, words-left}
@@ -28,7 +28,7 @@ pub record Alike (l : Lent) (x : Sixteen) : Type 0 where
   pub first-number : told l (opening l x) .number ≡ told l (on 3 x) .number
   pub first-hollow : told l (opening l x) .hollow ≡ told l (on 3 x) .hollow
   pub first-cycle : told l (opening l x) .cycle ≡ None
-  pub answer : joined (told l (opening l x)) (told (left l (opening l x)) (closing l x)) ≡ told l (on 3 x)
+  pub answer : together (told l (opening l x)) (told (left l (opening l x)) (closing l x)) ≡ told l (on 3 x)
   pub end : left (left l (opening l x)) (closing l x) ≡ left l (on 3 x)
 
 -- ---- what fits: a call is the machine's access
@@ -83,8 +83,8 @@ module _ (l : Lent) (s : AreBytes (l .image)) (t : AreBytes (l .memory)) (x : Si
         first-hollow = rw (first, whole) (p .first-hollow);
         first-cycle = rw first (p .first-cycle);
         answer =
-            ap (λ (u : Answer). joined u (told (left l a) b)) first ∙
-            ap (λ (u : Answer). joined (answer-of (stands l) a) u)
+            ap (λ (u : Answer). together u (told (left l a) b)) first ∙
+            ap (λ (u : Answer). together (answer-of (stands l) a) u)
             (told-by-value (left l a) f₁ s₁ t₁ b ∙ ap (λ (m : Machine). answer-of m b) e) ∙
             p .answer ∙ sym whole;
         end =
@@ -103,8 +103,8 @@ module _ (l : Lent) (s : AreBytes (l .image)) (t : AreBytes (l .memory)) (x : Si
         first-hollow = rw (first, whole);
         first-cycle = rw first;
         answer =
-            ap (λ (u : Answer). joined u (told (left l a) b)) first ∙
-            ap (λ (u : Answer). joined (refusing 11) u) (ap (λ (k : Lent). told k b) stood ∙ told-unfit l e b) ∙
+            ap (λ (u : Answer). together u (told (left l a) b)) first ∙
+            ap (λ (u : Answer). together (refusing 11) u) (ap (λ (k : Lent). told k b) stood ∙ told-unfit l e b) ∙
             sym whole;
         end = ap (λ (k : Lent). left k b) stood ∙ left-unfit l e b ∙ sym (left-unfit l e (on 3 x));
       }

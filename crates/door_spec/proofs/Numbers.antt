@@ -20,7 +20,7 @@ use Rattle.door_spec.specs.InPlainWords.{Fitting, Misfit}
 use Rattle.door_spec.proofs.WordsAndBytes.{words-length}
 
 -- v is the number of a call
-pub record When (image memory : List ℕ) (a : Access) (v : ℕ) : Type 0 where
+pub record DoorWhen (image memory : List ℕ) (a : Access) (v : ℕ) : Type 0 where
   pub listed : (v ≤ 3) ⊎ (v ≡ 11)
   pub unfit : v ≡ 11 ↔ Misfit image memory
   pub over : v ≡ 1 ↔ Fitting image memory × (65536 < length memory)
@@ -98,11 +98,11 @@ module _ (image memory : List ℕ) where
     fit-number f = rw (fit-passes f)
 
     -- The number of a call is one of 0, 1, 2, 3 and 11, each when, and only then.
-    pub numbered : When image memory a (call-number image memory a)
+    pub numbered : DoorWhen image memory a (call-number image memory a)
     unfolding call-number
     numbered = go (misfit image memory) refl
       where
-        go : (t : Bool) → misfit image memory ≡ t → When image memory a (cond t 11 (number-for (words-of memory) a))
+        go : (t : Bool) → misfit image memory ≡ t → DoorWhen image memory a (cond t 11 (number-for (words-of memory) a))
         go true e =
             let never : Fitting image memory → ⊥ = λ f. not-both e (fit-passes f) in
             record {

@@ -17,8 +17,8 @@ use Rattle.port_spec.proofs.Widths.{access-word}
 use Rattle.door_spec.specs.Answer.{cycle-number, packed, refusing}
 use Rattle.door_spec.specs.Door.{call-number, outcome-of, call-tells, call-answer}
 use Rattle.door_spec.specs.InPlainWords.{number-in}
-use Rattle.door_spec.specs.Runs.{Unpacks}
-use Rattle.door_spec.proofs.Numbers.{When, numbered, fit-number}
+use Rattle.door_spec.specs.Sequences.{Unpacks}
+use Rattle.door_spec.proofs.Numbers.{DoorWhen, numbered, fit-number}
 
 -- The number of a cycle tells which it was.
 pub record Tells (c : Cycle) : Type 0 where
@@ -119,5 +119,5 @@ module _ (image memory : List ℕ) (a : Access) where
   call-unpacks = unpacks (call-tells image memory a) word-told number-below
 
   -- The number that a C program finds in the answer is one of 0, 1, 2, 3 and 11, each when, and only then.
-  pub answer-numbered : When image memory a (number-in (call-answer image memory a))
+  pub answer-numbered : DoorWhen image memory a (number-in (call-answer image memory a))
   answer-numbered = rw (call-unpacks .number ∙ number-told) (numbered image memory a)

@@ -10,7 +10,7 @@ use Rattle.words.specs.Addresses.{word-at}
 use Rattle.words.specs.Bytes.{AreBytes}
 use Rattle.port_spec.specs.Calls.{ByWords, ByBytes, AddUp, AllAddUp}
 use Rattle.port_spec.specs.Host.{access, access-memory}
-use Rattle.port_spec.specs.Runs.{Sixteen, on}
+use Rattle.port_spec.specs.Sequences.{Sixteen, on}
 use Rattle.port_spec.specs.declared.Access.{Access}
 use Rattle.port_spec.specs.declared.Access.the-variants.{Read}
 use Rattle.port_spec.specs.declared.Answer.{Answer}
@@ -22,8 +22,8 @@ use Rattle.door_spec.specs.Image.{registers-of, image-of}
 use Rattle.door_spec.specs.Answer.{cycle-number, packed}
 use Rattle.door_spec.specs.Door.{call-number, call-tells, call-answer, Called}
 use Rattle.door_spec.specs.InPlainWords.{Fitting, number-in}
-use Rattle.door_spec.specs.Runs.{Lent, told, left, control-in, opening, closing, Unpacks, at-the-door}
-use Rattle.door_spec.proofs.Numbers.{When}
+use Rattle.door_spec.specs.Sequences.{Lent, told, left, control-in, opening, closing, Unpacks, at-the-door}
+use Rattle.door_spec.proofs.Numbers.{DoorWhen}
 use Rattle.door_spec.proofs.Refusals.{refuses}
 use Rattle.door_spec.proofs.Packed.{cycle-told, number-told, call-unpacks, answer-numbered}
 use Rattle.door_spec.proofs.AsByValue.{tells-as-access, image-as-access, memory-as-access, registers-left, words-left}
@@ -34,8 +34,8 @@ use Rattle.door_spec.proofs.ByBytes.{calls-alike, image-stays-bytes, me
 -- ---- one call
 module _ {image memory : List ℕ} {a : Access} {x : ℕ} {image′ memory′ : List ℕ} (k : Called image memory a x image′ memory′) where
   -- The number that its answer holds is one of 0, 1, 2, 3 and 11, each when, and only then.
-  pub returns-number : When image memory a (number-in x)
-  returns-number = subst (λ (p : ℕ). When image memory a (number-in p)) (sym (k .answered)) (answer-numbered image memory a)
+  pub returns-number : DoorWhen image memory a (number-in x)
+  returns-number = subst (λ (p : ℕ). DoorWhen image memory a (number-in p)) (sym (k .answered)) (answer-numbered image memory a)
 
   number-found : number-in x ≡ call-number image memory a
   number-found = ap number-in (k .answered) ∙ call-unpacks image memory a .number ∙ number-told image memory a

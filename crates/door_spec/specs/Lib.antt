@@ -5,4 +5,4 @@ pub mod Answer
 pub mod Door
 -- ---- the words of the laws
 pub mod InPlainWords
-pub mod Runs
+pub mod Sequences

@@ -12,7 +12,7 @@ use Rattle.words.specs.Addresses.{address, word-at}
 use Rattle.words.specs.declared.BitAddress.{BitAddress}
 use Rattle.words.specs.declared.WordNumber.{WordNumber}
 use Rattle.field_spec.specs.Count.{last-word, touched, wholly-covered}
-use Rattle.field_spec.specs.Field.{ahead}
+use Rattle.field_spec.specs.Field.{bits-after}
 use Rattle.field_spec.specs.InPlainWords.{Covers, Holds, Counted, Missing}
 
 -- ---- how many
@@ -97,6 +97,6 @@ module _ (words : ℕ) (a : BitAddress) (n : ℕ) where
   last-missing s l =
       record {
         word = last-word a n;
-        holds = record { bit = ahead a (n - 1); covered = record { from = omega arith; to = omega arith }; in-word = refl };
+        holds = record { bit = bits-after a (n - 1); covered = record { from = omega arith; to = omega arith }; in-word = refl };
         beyond = l;
       }

@@ -24,7 +24,7 @@ use Rattle.field_spec.proofs.Accepted.{tested}
 -- ---- when, and only then
 
 -- v is the number for a memory of so many words, and a field of n bits at a.
-pub record When (words : ℕ) (a : BitAddress) (n v : ℕ) : Type 0 where
+pub record FieldWhen (words : ℕ) (a : BitAddress) (n v : ℕ) : Type 0 where
   pub listed : (v ≤ 6) × (v ≢ 2) × (v ≢ 3)
   pub over : v ≡ 1 ↔ 32768 < words
   pub no-size : v ≡ 4 ↔ (words ≤ 32768) × ((n < 1) ⊎ (32 < n))
@@ -33,7 +33,7 @@ pub record When (words : ℕ) (a : BitAddress) (n v : ℕ) : Type 0 where
   pub done : v ≡ 0 ↔ (words ≤ 32768) × (1 ≤ n) × (n ≤ 32) × (touched a n ≤ 3) × (Missing words a n → ⊥)
 
 -- The number that applies is one of 0, 1, 4, 5 and 6, each when, and only then.
-pub when : (words : ℕ) (a : BitAddress) (n : ℕ) → When words a n (refusal words a n)
+pub when : (words : ℕ) (a : BitAddress) (n : ℕ) → FieldWhen words a n (refusal words a n)
 when words a n =
     let t = tested words a n in
     record {
@@ -77,8 +77,8 @@ module _ (m : List ℕ) (a : BitAddress) (n : ℕ) where
   put-number = answer-number (λ (r : Put). r .number) _ (put-done m a n) refl (put-refused m a n) refl
 
   -- The number of every call is one of 0, 1, 4, 5 and 6, each when, and only then.
-  pub numbered : When (length m) a n (taken m a n .number) × When (length m) a n (taken-signed m a n .number)
-      × When (length m) a n (put-answer (length m) a n .number)
+  pub numbered : FieldWhen (length m) a n (taken m a n .number) × FieldWhen (length m) a n (taken-signed m a n .number)
+      × FieldWhen (length m) a n (put-answer (length m) a n .number)
   numbered = (rw taken-number (when (length m) a n), rw signed-number (when (length m) a n), rw put-number (when (length m) a n))
 
   -- A taking out that answers another number than 0 answers zeros beside it.

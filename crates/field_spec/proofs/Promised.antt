@@ -15,13 +15,13 @@ use Rattle.field_spec.specs.InPlainWords.{Covers}
 use Rattle.field_spec.specs.Answers.{taken, put-memory, PutIn}
 use Rattle.field_spec.specs.declared.Put.{Put}
 use Rattle.field_spec.proofs.Answered.{put-done}
-use Rattle.field_spec.proofs.Numbers.{When, put-number, numbered}
+use Rattle.field_spec.proofs.Numbers.{FieldWhen, put-number, numbered}
 use Rattle.field_spec.proofs.RoundTrips.{put-after-taken, put-modulo}
 use Rattle.field_spec.proofs.AfterPut.{then-bit, then-elsewhere, then-as-it-stood}
 
 module _ {m m′ : List ℕ} {a : BitAddress} {n v : ℕ} {r : Put} (p : PutIn m a n v r m′) where
   -- It answers one of 0, 1, 4, 5 and 6, each when, and only then.
-  pub put-returns-number : When (length m) a n (r .number)
+  pub put-returns-number : FieldWhen (length m) a n (r .number)
   put-returns-number = rw (p .answer) (numbered m a n .2)
 
   -- Refused, it counts no cycle and leaves the memory.

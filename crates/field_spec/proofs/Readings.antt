@@ -16,7 +16,7 @@ use Rattle.words.specs.Memory.{AreWords}
 use Rattle.words.specs.declared.BitAddress.{BitAddress}
 use Rattle.words.proofs.Choices.{less-or-not, same-or-not}
 use Rattle.words.proofs.Bits.{bit-above, bit-of-remainder, one-bit-more}
-use Rattle.field_spec.specs.Field.{ahead, memory-bit, with-bit, set-memory-bit, field-at, with-field}
+use Rattle.field_spec.specs.Field.{bits-after, memory-bit, with-bit, set-memory-bit, field-at, with-field}
 use Rattle.field_spec.specs.InPlainWords.{Covers}
 use Rattle.field_spec.proofs.OneBit.{top-is, rest-is, bit-made, bit-kept, bit-as-it-is, bit-fits}
 
@@ -79,7 +79,7 @@ add-weight false x n h = omega arith
 pub field-fits : (m : List ℕ) (a : BitAddress) (n : ℕ) → field-at m a n < 2 ^ n
 unfolding field-at
 field-fits m a zero = omega arith
-field-fits m a (suc n) = add-weight (memory-bit m (ahead a n)) (field-at m a n) n (field-fits m a n)
+field-fits m a (suc n) = add-weight (memory-bit m (bits-after a n)) (field-at m a n) n (field-fits m a n)
 
 -- ---- taking out
 
@@ -89,7 +89,7 @@ unfolding field-at
 field-bit m a zero i l = absurd (omega arith)
 field-bit m a (suc n) i l =
     let f : ℕ = field-at m a n in
-    let t : Bool = memory-bit m (ahead a n) in
+    let t : Bool = memory-bit m (bits-after a n) in
     rw (add-comm f (cond t (2 ^ n) 0))
     (⊎-elim
     (λ e. rw e (top-is n f (field-fits m a n) t))
@@ -103,7 +103,7 @@ pub field-bit-beyond : (m : List ℕ) (a : BitAddress) (n i : ℕ) → n ≤ i �
 field-bit-beyond m a n i l = bit-above n (field-fits m a n) l
 
 -- A field whose bits are those of v is v modulo 2^n.
-pub field-from-bits : (m : List ℕ) (a : BitAddress) (n v : ℕ) → ((i : ℕ) → i < n → memory-bit m (ahead a i) ≡ bit v i)
+pub field-from-bits : (m : List ℕ) (a : BitAddress) (n v : ℕ) → ((i : ℕ) → i < n → memory-bit m (bits-after a i) ≡ bit v i)
     → field-at m a n ≡ v % 2 ^ n
 unfolding field-at
 field-from-bits m a zero v h = sym (mod-one v)
@@ -120,7 +120,7 @@ set-length m b v = length-set m (b .0 / 16) _
 pub put-length : (m : List ℕ) (a : BitAddress) (n v : ℕ) → length (with-field m a n v) ≡ length m
 unfolding with-field
 put-length m a zero v = refl
-put-length m a (suc n) v = set-length (with-field m a n v) (ahead a n) _ ∙ put-length m a n v
+put-length m a (suc n) v = set-length (with-field m a n v) (bits-after a n) _ ∙ put-length m a n v
 
 -- Memory bit address + i becomes the value's bit i.
 pub put-bit : (m : List ℕ) (a : BitAddress) (n v i : ℕ) → i < n → word-at (address (a .0 + i)) .0 < length m
@@ -129,8 +129,8 @@ unfolding with-field
 put-bit m a zero v i l h = absurd (omega arith)
 put-bit m a (suc n) v i l h =
     ⊎-elim
-    (λ e. rw e (made (with-field m a n v) (ahead a n) (bit v n) (rw put-length (rw e at h))))
-    (λ d. kept (with-field m a n v) (ahead a n) (bit v n) (ahead a i) (λ f. d (omega (arith, f)))
+    (λ e. rw e (made (with-field m a n v) (bits-after a n) (bit v n) (rw put-length (rw e at h))))
+    (λ d. kept (with-field m a n v) (bits-after a n) (bit v n) (bits-after a i) (λ f. d (omega (arith, f)))
     ∙ put-bit m a n v i (omega (arith, d)) h)
     (same-or-not i n)
 
@@ -140,7 +140,7 @@ pub put-elsewhere : (m : List ℕ) (a : BitAddress) (n v : ℕ) (b : BitAddress)
 unfolding with-field
 put-elsewhere m a zero v b d = refl
 put-elsewhere m a (suc n) v b d =
-    kept (with-field m a n v) (ahead a n) (bit v n) b (λ e. d (record { from = omega (arith, e); to = omega (arith, e) }))
+    kept (with-field m a n v) (bits-after a n) (bit v n) b (λ e. d (record { from = omega (arith, e); to = omega (arith, e) }))
     ∙ put-elsewhere m a n v b (λ h. d (record { from = h .from; to = omega (arith, h .to) }))
 
 -- ---- words stay words
@@ -162,4 +162,4 @@ set-words m b v h i =
 pub put-words : (m : List ℕ) (a : BitAddress) (n v : ℕ) → AreWords m → AreWords (with-field m a n v)
 unfolding with-field
 put-words m a zero v h = h
-put-words m a (suc n) v h = set-words (with-field m a n v) (ahead a n) (bit v n) (put-words m a n v h)
+put-words m a (suc n) v h = set-words (with-field m a n v) (bits-after a n) (bit v n) (put-words m a n v h)

@@ -10,7 +10,7 @@ use Rattle.words.specs.Bytes.{bit}
 use Rattle.words.specs.declared.BitAddress.{BitAddress}
 use Rattle.words.proofs.Choices.{same-or-not}
 use Rattle.words.proofs.Bits.{bit-of-remainder}
-use Rattle.field_spec.specs.Field.{ahead, memory-bit, field-at, with-field, signed}
+use Rattle.field_spec.specs.Field.{bits-after, memory-bit, field-at, with-field, signed}
 use Rattle.field_spec.specs.Count.{last-word, take-cycles}
 use Rattle.field_spec.specs.InPlainWords.{same-bits}
 use Rattle.field_spec.proofs.Readings.{as-it-is, put-length, field-fits, field-bit, field-from-bits, put-bit}
@@ -33,12 +33,12 @@ put-alike m a zero v u h = refl
 put-alike m a (suc n) v u h = rw (put-alike m a n v u (λ i l. h i (omega (arith, l))), h n (omega arith))
 
 -- A field put in as it stands changes nothing.
-pub put-as-it-is : (m : List ℕ) (a : BitAddress) (n v : ℕ) → ((i : ℕ) → i < n → bit v i ≡ memory-bit m (ahead a i))
+pub put-as-it-is : (m : List ℕ) (a : BitAddress) (n v : ℕ) → ((i : ℕ) → i < n → bit v i ≡ memory-bit m (bits-after a i))
     → with-field m a n v ≡ m
 unfolding with-field
 put-as-it-is m a zero v h = refl
 put-as-it-is m a (suc n) v h =
-    rw (put-as-it-is m a n v (λ i l. h i (omega (arith, l))), h n (omega arith)) (as-it-is m (ahead a n))
+    rw (put-as-it-is m a n v (λ i l. h i (omega (arith, l))), h n (omega arith)) (as-it-is m (bits-after a n))
 
 -- ---- of the answers
 

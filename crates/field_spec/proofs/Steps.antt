@@ -11,7 +11,7 @@ use lib.Seq.{getD-set-same, set-set, set-getD}
 use Rattle.words.specs.Bytes.{bit}
 use Rattle.words.specs.declared.BitAddress.{BitAddress}
 use Rattle.words.proofs.Bits.{bit-of-quotient}
-use Rattle.field_spec.specs.Field.{ahead, with-field}
+use Rattle.field_spec.specs.Field.{bits-after, with-field}
 use Rattle.field_spec.specs.WithBits.{with-bits}
 use Rattle.field_spec.proofs.Readings.{set-bit-in, put-length}
 use Rattle.field_spec.proofs.WordBits.{no-bits, next-bit}
@@ -27,7 +27,7 @@ module _ (m : List ℕ) (a : BitAddress) (d w o : ℕ) (e : a .0 + d ≡ w * 16 
       let x : ℕ = getD M w 0 in
       let y : ℕ = with-bits x o n (v / 2 ^ d % 2 ^ n) in
       let inside : w < length M = rw (put-length m a d v) h in
-      let here = set-bit-in (set M w y) (ahead a (d + n)) w (o + n) (omega arith) (omega arith) (bit v (d + n)) in
+      let here = set-bit-in (set M w y) (bits-after a (d + n)) w (o + n) (omega arith) (omega arith) (bit v (d + n)) in
       rw (
         add-suc d n,
         put-part v n (omega arith) h,

@@ -1,4 +1,4 @@
--- What `sum-over` says: each word of a stretch adds its own once.
+-- What `sum-over` says: each word of a run adds its own once.
 use Prim.Native.Nat.{ℕ, zero, suc, _+_, _≤_, _<_}
 use native.Mathlib.Nat.{add-zero, add-suc, add-assoc, zero-add}
 use native.Mathlib.Numerals.{add-one}
@@ -11,7 +11,7 @@ use Rattle.field_spec.specs.Count.{touched, sum-over}
 use Rattle.field_spec.specs.InPlainWords.{Counted}
 
 module _ (f : WordNumber → ℕ) (w : WordNumber) where
-  -- The sum over a stretch of words and the stretch after it is that over both.
+  -- The sum over a run of words and the run after it is that over both.
   pub sum-of-two : (j k : ℕ) → sum-over f w (j + k) ≡ sum-over f w j + sum-over f (record { 0 = w .0 + j }) k
   unfolding sum-over
   sum-of-two j zero = rw (add-zero j, add-zero (sum-over f w j))
@@ -28,7 +28,7 @@ module _ (f : WordNumber → ℕ) (w : WordNumber) where
   sum-of-sums g zero = refl
   sum-of-sums g (suc k) = rw (sum-of-sums g k) (omega arith)
 
--- Two sums are the same if every word of the stretch adds the same to both.
+-- Two sums are the same if every word of the run adds the same to both.
 sum-alike : (f g : WordNumber → ℕ) (w : WordNumber) (k : ℕ) → ((v : WordNumber) → w .0 ≤ v .0 → v .0 < w .0 + k → f v ≡ g v)
     → sum-over f w k ≡ sum-over g w k
 unfolding sum-over

@@ -14,12 +14,12 @@ use lib.Dec.{leb}
 use Rattle.words.specs.Addresses.{address, word-at}
 use Rattle.words.specs.declared.BitAddress.{BitAddress}
 use Rattle.words.specs.declared.WordNumber.{WordNumber}
-use Rattle.field_spec.specs.Field.{ahead}
+use Rattle.field_spec.specs.Field.{bits-after}
 
 -- ---- the words
 
 abbrev pub last-word : BitAddress → ℕ → WordNumber
-last-word a n = word-at (ahead a (n - 1))
+last-word a n = word-at (bits-after a (n - 1))
 
 unfoldable pub touched : BitAddress → ℕ → ℕ
 touched a n = last-word a n .0 + 1 - word-at a .0

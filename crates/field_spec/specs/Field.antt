@@ -1,5 +1,5 @@
 -- Bits of memory, and fields bit by bit: document 01, 'Memory and addresses' and 'Fields'.
---   ahead a i              the bit address i bits after a
+--   bits-after a i         the bit address i bits after a
 --   memory-bit m b         the memory's bit at bit address b
 --   with-bit w i v         the word w with its bit i made v
 --   set-memory-bit m b v   the memory with its bit at bit address b made v
@@ -15,8 +15,8 @@ use Rattle.words.specs.Addresses.{address, word-at}
 use Rattle.words.specs.Bytes.{bit}
 use Rattle.words.specs.declared.BitAddress.{BitAddress}
 
-abbrev pub ahead : BitAddress → ℕ → BitAddress
-ahead a i = address (a .0 + i)
+abbrev pub bits-after : BitAddress → ℕ → BitAddress
+bits-after a i = address (a .0 + i)
 
 -- ---- one bit of memory
 
@@ -36,13 +36,13 @@ set-memory-bit m b v = set m (word-at b .0) (with-bit (getD m (word-at b .0) 0) 
 -- "its bit i is memory bit address + i. Taking one out gives the unsigned number"
 unfoldable pub field-at : List ℕ → BitAddress → ℕ → ℕ
 field-at m a zero = 0
-field-at m a (suc i) = field-at m a i + cond (memory-bit m (ahead a i)) (2 ^ i) 0
+field-at m a (suc i) = field-at m a i + cond (memory-bit m (bits-after a i)) (2 ^ i) 0
 
 -- "Putting one in uses the value modulo 2^size and changes no other bit": memory bit address + i becomes bit i of the value, for
 -- the n low bits alone
 unfoldable pub with-field : List ℕ → BitAddress → ℕ → ℕ → List ℕ
 with-field m a zero v = m
-with-field m a (suc i) v = set-memory-bit (with-field m a i v) (ahead a i) (bit v i)
+with-field m a (suc i) v = set-memory-bit (with-field m a i v) (bits-after a i) (bit v i)
 
 -- "the signed one: less 2^size if the top bit is set"
 unfoldable pub signed : ℕ → ℕ → ℤ

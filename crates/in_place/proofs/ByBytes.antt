@@ -4,7 +4,7 @@
 use mathlib.Core.Path.{_≡_, ap}
 use mathlib.Core.List.{List, [], _∷_}
 use Rattle.port_spec.specs.Calls.{ByWords, no-word, a-word, AddUp, AllAddUp, control-of}
-use Rattle.port_spec.specs.Runs.{Machine, answer-of, after, Sixteen, on, opening, closing}
+use Rattle.port_spec.specs.Sequences.{Machine, answer-of, after, Sixteen, on, opening, closing}
 use Rattle.port_spec.specs.declared.Access.{Access}
 use Rattle.port_spec.specs.declared.Answer.{Answer}
 use Rattle.port_spec.proofs.CallAfterCall.{bytes-alike}

@@ -21,12 +21,12 @@ use prog.Wp.{Heap}
 use Rattle.words.proofs.Contracts.{Contract}
 use Rattle.registers.specs.declared.Registers.{Registers}
 use Rattle.port_spec.specs.Host.{register-of, lanes-of, access, Accessed}
-use Rattle.port_spec.specs.Runs.{Machine, machine, answer-of, after}
+use Rattle.port_spec.specs.Sequences.{Machine, machine, answer-of, after}
 use Rattle.port_spec.specs.declared.Access.{Access}
 use Rattle.port_spec.specs.declared.Answer.{Answer}
 use Rattle.port_spec.specs.declared.Cycle.the-variants.{None}
 use Rattle.port_spec.specs.declared.Outcome.{Outcome}
-use Rattle.port_spec.proofs.Numbers.{When, numbered, refuses}
+use Rattle.port_spec.proofs.Numbers.{AccessWhen, numbered, refuses}
 use Rattle.in_place.specs.InPlace.{AccessedInPlace}
 use Rattle.in_place.proofs.host_access_in_place as in-place
 use Rattle.in_place.proofs.host_access_by_lending.Kinds as lending-kinds
@@ -41,9 +41,9 @@ pub record Untouched (r : Registers) (m : List ℕ) (x : Answer) (r′ : Registe
 
 module _ {r r′ : Registers} {m m′ : List ℕ} {a : Access} {x : Answer} (e : AccessedInPlace r m a x r′ m′) where
   -- An access in place is numbered 0 to 3, each when, and only then.
-  pub numbered-in-place : When (length m) (register-of a) (lanes-of a) (x .number)
+  pub numbered-in-place : AccessWhen (length m) (register-of a) (lanes-of a) (x .number)
   numbered-in-place =
-      subst (λ (y : Answer). When (length m) (register-of a) (lanes-of a) (y .number)) (sym (e .answer)) (numbered r m a)
+      subst (λ (y : Answer). AccessWhen (length m) (register-of a) (lanes-of a) (y .number)) (sym (e .answer)) (numbered r m a)
 
   -- Every access in place that answers another number than 0 answers zeros besides, and leaves the record and the memory as they stood.
   pub refused-in-place : x .number ≢ 0 → Untouched r m x r′ m′

@@ -3,7 +3,7 @@
 use mathlib.Core.Path.{_≡_, refl, ap, _∙_}
 use mathlib.Core.List.{List, [], _∷_}
 use Rattle.words.proofs.One.{one-value}
-use Rattle.port_spec.specs.Runs.{Machine, answer-of, after, Sixteen, on, answers, ends}
+use Rattle.port_spec.specs.Sequences.{Machine, answer-of, after, Sixteen, on, answers, ends}
 use Rattle.port_spec.specs.Deeds.{does, ran}
 use Rattle.port_spec.specs.declared.Access.{Access}
 use Rattle.port_spec.specs.declared.Answer.{Answer}

@@ -8,7 +8,7 @@
 --   by-host l                 accesses as deeds of the host
 use mathlib.Core.List.{List, [], _∷_, map}
 use Rattle.port_spec.specs.Calls.{Call, ByBytes, control-of}
-use Rattle.port_spec.specs.Runs.{Machine, answer-of, after, Sixteen, on}
+use Rattle.port_spec.specs.Sequences.{Machine, answer-of, after, Sixteen, on}
 use Rattle.port_spec.specs.Deeds.{Deed, host}
 use Rattle.port_spec.specs.declared.Access.{Access}
 use Rattle.port_spec.specs.declared.Answer.{Answer}

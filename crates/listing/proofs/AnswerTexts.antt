@@ -8,11 +8,11 @@ use Rattle.port_spec.specs.declared.Access.{Access}
 use Rattle.port_spec.specs.declared.Answer.{Answer}
 use Rattle.port_spec.specs.declared.Cycle.{Cycle}
 use Rattle.port_spec.specs.declared.Cycle.the-variants.{None, Inside, Empty}
-use Rattle.listing.specs.Answer.{head-text, shows-mark, mark-text, cycle-text, answer-text}
+use Rattle.listing.specs.Answer.{number-text, shows-mark, mark-text, cycle-text, answer-text}
 
 -- The number and the word take 6 bytes,
-pub head-length : (number w : ℕ) → length (head-text number w) ≡ 6
-unfolding head-text
+pub head-length : (number w : ℕ) → length (number-text number w) ≡ 6
+unfolding number-text
 head-length number w = refl
 
 -- the mark at most 8,

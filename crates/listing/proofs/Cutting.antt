@@ -12,7 +12,7 @@ use lib.ListN.{length, drop, length-append}
 use lib.Seq.{drop-at}
 use borrow.Author.Tests.{eqb-true, eqb-false}
 use Rattle.words.proofs.Choices.{either-way}
-use Rattle.port_spec.specs.Runs.{Machine, after, answer-of}
+use Rattle.port_spec.specs.Sequences.{Machine, after, answer-of}
 use Rattle.listing.specs.Line.{Line, good, bad, line-of, has-feed}
 use Rattle.listing.specs.Answer.{answer-text, bad-line}
 use Rattle.listing.specs.Listing.{Listing, start, stopped, line-ends, line-goes-on, next, listing}

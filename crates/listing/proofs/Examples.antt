@@ -3,17 +3,17 @@
 use Prim.Native.Nat.{ℕ}
 use mathlib.Core.Path.{_≡_, refl}
 use mathlib.Core.List.{List, [], _∷_}
-use Rattle.port_spec.specs.Runs.{Machine, answer-of, after}
+use Rattle.port_spec.specs.Sequences.{Machine, answer-of, after}
 use Rattle.port_spec.specs.Deeds.{woken}
 use Rattle.words.specs.Bytes.{bit, takes-low, takes-high, are-lanes, lay}
 use Rattle.words.specs.Memory.{fetch-at, store-at}
 use Rattle.control.specs.Control.{closes, fetches, bare, low-parts, host-low}
 use Rattle.registers.specs.Registers.{register-word, written, half-written}
-use Rattle.port_spec.specs.Cycle.{carried, memory-after, after-fetch, after-store, mark, stepped}
+use Rattle.port_spec.specs.Cycle.{carried, memory-after, after-fetch, after-store, cycle-of, stepped}
 use Rattle.port_spec.specs.Host.{access, access-memory, done, refusal, begin-access, read-due, write-due}
 use Rattle.digits.specs.Digits.{is-decimal, value-of, digit-for}
 use Rattle.listing.specs.Line.{headed, tailed, line-of}
-use Rattle.listing.specs.Answer.{head-text, shows-mark, mark-text, cycle-text, answer-text}
+use Rattle.listing.specs.Answer.{number-text, shows-mark, mark-text, cycle-text, answer-text}
 use Rattle.listing.specs.Listing.{next, listing}
 use Rattle.listing.specs.Pieces.{printed}
 
@@ -52,9 +52,9 @@ output =
 -- "Whole output (number, word, hollow or held, cycle)"
 pub document-listing : printed (woken (0 ∷ 0 ∷ [])) input ≡ output
 unfolding
-    listing next line-of headed tailed is-decimal value-of digit-for head-text shows-mark mark-text cycle-text answer-text
+    listing next line-of headed tailed is-decimal value-of digit-for number-text shows-mark mark-text cycle-text answer-text
     answer-of after access access-memory done refusal begin-access read-due write-due
-    carried memory-after after-fetch after-store mark stepped written half-written register-word
+    carried memory-after after-fetch after-store cycle-of stepped written half-written register-word
     closes fetches bare low-parts host-low bit takes-low takes-high are-lanes lay fetch-at store-at
 document-listing = refl
 
@@ -104,9 +104,9 @@ more-output =
 -- In a memory of one word, 1234h: the last word is held, and what is fetched behind it is hollow.
 pub second-listing : printed (woken (0x1234 ∷ [])) more-input ≡ more-output
 unfolding
-    listing next line-of headed tailed is-decimal value-of digit-for head-text shows-mark mark-text cycle-text answer-text
+    listing next line-of headed tailed is-decimal value-of digit-for number-text shows-mark mark-text cycle-text answer-text
     answer-of after access access-memory done refusal begin-access read-due write-due
-    carried memory-after after-fetch after-store mark stepped written half-written register-word
+    carried memory-after after-fetch after-store cycle-of stepped written half-written register-word
     closes fetches bare low-parts host-low bit takes-low takes-high are-lanes lay fetch-at store-at
 second-listing = refl
 

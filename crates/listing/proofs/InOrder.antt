@@ -6,7 +6,7 @@ use mathlib.Core.Path.{_≡_, refl, sym, ap, _∙_}
 use mathlib.Core.Bool.{false}
 use mathlib.Core.List.{List, [], _∷_, _++_, append-assoc, append-nil}
 use lib.ListN.{length, length-append}
-use Rattle.port_spec.specs.Runs.{Machine, after, answer-of}
+use Rattle.port_spec.specs.Sequences.{Machine, after, answer-of}
 use Rattle.port_spec.specs.declared.Access.{Access}
 use Rattle.listing.specs.Answer.{answer-text}
 use Rattle.listing.specs.Listing.{Listing, start, listing}

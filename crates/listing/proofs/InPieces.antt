@@ -7,7 +7,7 @@ use mathlib.Core.List.{List, [], _∷_, _++_, append-assoc, append-nil}
 use mathlib.Core.Logic.{_⊎_, inl, inr}
 use lib.ListN.{length}
 use Rattle.words.proofs.Choices.{either-way}
-use Rattle.port_spec.specs.Runs.{Machine}
+use Rattle.port_spec.specs.Sequences.{Machine}
 use Rattle.listing.specs.Line.{has-feed}
 use Rattle.listing.specs.Listing.{Listing, start, listing}
 use Rattle.listing.specs.Pieces.{left-over, at-end, printed, joined, in-turns, No-feed}

@@ -5,7 +5,7 @@ use mathlib.Core.List.{List, [], _∷_, _++_}
 use mathlib.Core.Logic.{_⊎_, inl, inr}
 use lib.ListN.{length}
 use Rattle.words.proofs.Choices.{less-or-not}
-use Rattle.port_spec.specs.Runs.{Machine}
+use Rattle.port_spec.specs.Sequences.{Machine}
 use Rattle.listing.specs.Line.{bad, line-of}
 use Rattle.listing.specs.Answer.{bad-line}
 use Rattle.listing.specs.Listing.{Listing, start, listing}

@@ -10,7 +10,7 @@ use lib.ListN.{length, getD, take, drop, length-append}
 use lib.Seq.{split-at, length-take-le}
 use borrow.Author.Tests.{eqb-true, eqb-false, ne-eqb, eq-eqb, ltb-true, ltb-false}
 use Rattle.words.proofs.Choices.{either-way, both-true, both-false, less-or-not}
-use Rattle.port_spec.specs.Runs.{Machine, after, answer-of}
+use Rattle.port_spec.specs.Sequences.{Machine, after, answer-of}
 use Rattle.port_spec.specs.declared.Access.{Access}
 use Rattle.listing.specs.Line.{Line, good, bad, headed, tailed, read-in, write-in, line-of, before-feed, has-feed, with-length, front-line}
 use Rattle.listing.specs.Answer.{answer-text}

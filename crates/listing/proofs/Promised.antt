@@ -1,4 +1,4 @@
--- What the contract of a stretch promises, said of any outcome that `ListedStretch` allows: the text lies at the output's beginning and
+-- What the contract of a piece promises, said of any outcome that `ListedPiece` allows: the text lies at the output's beginning and
 -- all else stays, it is what the bytes used print, the port is left as they leave it, and the listing of the whole input goes on from
 -- there.
 use Prim.Native.Nat.{ℕ, _≤_}
@@ -10,9 +10,9 @@ use lib.ListN.{length, take, drop, length-append, length-take, length-drop, take
 use lib.Seq.{take-append-seam, drop-append-seam, take-take}
 use Rattle.words.proofs.Contracts.{Contract}
 use Rattle.registers.specs.declared.Registers.{Registers}
-use Rattle.port_spec.specs.Runs.{Machine, machine}
+use Rattle.port_spec.specs.Sequences.{Machine, machine}
 use Rattle.listing.specs.Answer.{bad-line}
-use Rattle.listing.specs.Listing.{Listing, start, listing, fitting, stretch-listing, ListedStretch}
+use Rattle.listing.specs.Listing.{Listing, start, listing, fitting, piece-listing, ListedPiece}
 use Rattle.listing.specs.Pieces.{at-end, printed, left-over, behind}
 use Rattle.listing.specs.declared.Listed.{Listed}
 use Rattle.listing.proofs.Cutting.{come, cut, cut-after-bad}
@@ -22,16 +22,16 @@ use Rattle.listing.proofs.WholeLines.{whole, lines-are, text-fits}
 use Rattle.listing.specs.Line.{front-line}
 use Rattle.listing.proofs.lines.front_line.Kinds as front-line-kinds
 use Rattle.listing.proofs.lines.front_line.Reads as front-line
-use Rattle.listing.proofs.stretches.list_stretch.Kinds as list-stretch-kinds
-use Rattle.listing.proofs.stretches.list_stretch.Reads as list-stretch
+use Rattle.listing.proofs.pieces.list_piece.Kinds as list-piece-kinds
+use Rattle.listing.proofs.pieces.list_piece.Reads as list-piece
 
--- ---- the stretch that fits
+-- ---- the piece that fits
 module _ (r : Registers) (m input out : List ℕ) where
   abbrev fit : ℕ
   fit = fitting (length out)
 
   abbrev x : Listing
-  x = stretch-listing r m input out
+  x = piece-listing r m input out
 
   used-fits : x .used ≤ fit
   used-fits = omega (arith, come (machine r m) (take fit input) .most, length-take fit input)
@@ -40,41 +40,41 @@ module _ (r : Registers) (m input out : List ℕ) where
   lines-first : whole (machine r m) (take fit input) .lines ≡ take (x .used) input
   lines-first = sym (lines-are (machine r m) (take fit input)) ∙ take-take (x .used) fit input used-fits
 
-  -- listed alone, they leave the port as the stretch leaves it
+  -- listed alone, they leave the port as the piece leaves it
   lines-alone :
       listing (start (machine r m)) (take (x .used) input) ≡ between (x .machine) (whole (machine r m) (take fit input) .text) (x .used)
   lines-alone = ap (listing (start (machine r m))) (sym lines-first) ∙ whole (machine r m) (take fit input) .alone
 
-  -- the text of the stretch has room in the output
+  -- the text of the piece has room in the output
   room : length (x .text) ≤ length out
   room =
       text-fits (machine r m) (take fit input) (length out)
       (omega (arith, fits (length out), length-take fit input))
 
--- ---- what a stretch leaves
-module _ {r : Registers} {m input out : List ℕ} {o : Listed} {m′ out′ : List ℕ} (k : ListedStretch r m input out o m′ out′) where
-  wrote-is : o .wrote ≡ length (stretch-listing r m input out .text)
+-- ---- what a piece leaves
+module _ {r : Registers} {m input out : List ℕ} {o : Listed} {m′ out′ : List ℕ} (k : ListedPiece r m input out o m′ out′) where
+  wrote-is : o .wrote ≡ length (piece-listing r m input out .text)
   wrote-is = ap (λ (y : Listed). y .wrote) (k .outcome)
 
-  used-is : o .used ≡ stretch-listing r m input out .used
+  used-is : o .used ≡ piece-listing r m input out .used
   used-is = ap (λ (y : Listed). y .used) (k .outcome)
 
-  ended-is : o .ended ≡ stretch-listing r m input out .ended
+  ended-is : o .ended ≡ piece-listing r m input out .ended
   ended-is = ap (λ (y : Listed). y .ended) (k .outcome)
 
   -- The first bytes of the output, as many as it says it wrote, are the text that the bytes which fit print.
-  pub writes-the-text : take (o .wrote) out′ ≡ stretch-listing r m input out .text
+  pub writes-the-text : take (o .wrote) out′ ≡ piece-listing r m input out .text
   writes-the-text =
       ap (λ (n : ℕ). take n out′) wrote-is ∙
-      ap (take (length (stretch-listing r m input out .text))) (k .output) ∙
-      take-append-seam (stretch-listing r m input out .text) _
+      ap (take (length (piece-listing r m input out .text))) (k .output) ∙
+      take-append-seam (piece-listing r m input out .text) _
 
   -- Every other place of the output stays.
   pub keeps-the-rest : drop (o .wrote) out′ ≡ drop (o .wrote) out
   keeps-the-rest =
       ap (λ (n : ℕ). drop n out′) wrote-is ∙
-      ap (drop (length (stretch-listing r m input out .text))) (k .output) ∙
-      drop-append-seam (stretch-listing r m input out .text) _ ∙
+      ap (drop (length (piece-listing r m input out .text))) (k .output) ∙
+      drop-append-seam (piece-listing r m input out .text) _ ∙
       ap (λ (n : ℕ). drop n out) (sym wrote-is)
 
   -- It writes no more bytes than the output has, and leaves the output as long as it was.
@@ -101,7 +101,7 @@ module _ {r : Registers} {m input out : List ℕ} {o : Listed} {m′ out′ : Li
   pub leaves-the-port : machine (o .registers) m′ ≡ listing (start (machine r m)) (take (o .used) input) .machine
   leaves-the-port =
       ap (λ (y : Listed). machine (y .registers) m′) (k .outcome) ∙
-      ap (machine (stretch-listing r m input out .machine .registers)) (k .memory) ∙
+      ap (machine (piece-listing r m input out .machine .registers)) (k .memory) ∙
       sym
       (ap (λ (n : ℕ). listing (start (machine r m)) (take n input) .machine) used-is ∙
       ap (λ (y : Listing). y .machine) (lines-alone r m input out))
@@ -114,7 +114,7 @@ module _ {r : Registers} {m input out : List ℕ} {o : Listed} {m′ out′ : Li
   text-is =
       writes-the-text ∙
       whole (machine r m) (take (fitting (length out)) input) .said ∙
-      ap (λ (l : List ℕ). l ++ cond (stretch-listing r m input out .ended) bad-line [])
+      ap (λ (l : List ℕ). l ++ cond (piece-listing r m input out .ended) bad-line [])
       (sym
       (ap (λ (n : ℕ). listing (start (machine r m)) (take n input) .text) used-is ∙
       ap (λ (y : Listing). y .text) (lines-alone r m input out))) ∙
@@ -157,7 +157,7 @@ module _ {r : Registers} {m input out : List ℕ} {o : Listed} {m′ out′ : Li
       × (listing (start (machine r m)) input .ended ≡ true)
   ends-there e =
       let t : List ℕ = take (fitting (length out)) input in
-      let y = stretch-listing r m input out in
+      let y = piece-listing r m input out in
       let f : y .ended ≡ true = sym ended-is ∙ e in
       let same : listing (start (machine r m)) input ≡ y =
       ap (listing (start (machine r m))) (sym (take-append-drop (fitting (length out)) input)) ∙
@@ -180,8 +180,8 @@ pub front-line-contract : Contract front-line-kinds.ps front-line-kinds.r front-
     r ≡ front-line (s .now))
 front-line-contract = record { takes-any = λ κs args. tt; says = λ κs args r left p. p }
 
--- `list_stretch`: r, memory, input, output.
-pub list-stretch-contract : Contract list-stretch-kinds.ps list-stretch-kinds.r list-stretch.Pre list-stretch.Post
+-- `list_piece`: r, memory, input, output.
+pub list-piece-contract : Contract list-piece-kinds.ps list-piece-kinds.r list-piece.Pre list-piece.Post
     (λ κs args o left.
     let r = args .0 in
     let memory = args .1 .0 in
@@ -189,5 +189,5 @@ pub list-stretch-contract : Contract list-stretch-kinds.ps list-stretch-kinds.r 
     let input = args .1 .1 .0 in
     let output = args .1 .1 .1 .0 in
     let output′ = left .1 .1 .1 .0 in
-    ListedStretch r (memory .now) (input .now) (output .now) o (memory′ .now) (output′ .now))
-list-stretch-contract = record { takes-any = λ κs args. tt; says = λ κs args o left p. p }
+    ListedPiece r (memory .now) (input .now) (output .now) o (memory′ .now) (output′ .now))
+list-piece-contract = record { takes-any = λ κs args. tt; says = λ κs args o left p. p }

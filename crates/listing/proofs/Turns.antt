@@ -8,7 +8,7 @@ use lib.ListN.{length, take, drop, length-append, length-drop, drop-of-length-le
 use lib.Seq.{take-all, drop-append-add, drop-drop}
 use Rattle.registers.specs.declared.Registers.{Registers}
 use Rattle.port_spec.specs.Host.{access, access-memory}
-use Rattle.port_spec.specs.Runs.{Machine, after, answer-of}
+use Rattle.port_spec.specs.Sequences.{Machine, after, answer-of}
 use Rattle.port_spec.specs.declared.Access.{Access}
 use Rattle.listing.specs.Line.{front-line}
 use Rattle.listing.specs.Answer.{answer-text, bad-line}

@@ -1,5 +1,5 @@
 -- An answer to a line of text: document 01, 'Blocks and the two doors', "(number, word, hollow or held, cycle)".
---   head-text      the number and the word
+--   number-text    the number and the word
 --   shows-mark     whether a line tells the hollow mark
 --   mark-text      that mark, between its spaces: hollow-mark, held-mark or no-mark
 --   cycle-text     the cycle, with the line feed
@@ -17,8 +17,8 @@ use Rattle.port_spec.specs.declared.Cycle.the-variants.{None, Inside, Empty}
 use Rattle.digits.specs.Digits.{digit-for}
 
 -- the number's digit (a host's answer has no number above 3), a space, the word's four digits
-unfoldable pub head-text : ℕ → ℕ → List ℕ
-head-text number w =
+unfoldable pub number-text : ℕ → ℕ → List ℕ
+number-text number w =
     (48 + number) ∷ 32 ∷ digit-for (w / 4096) ∷ digit-for (w / 256) ∷ digit-for (w / 16) ∷ digit-for w ∷ []
 
 -- "accepted reads of register 2 print `held` or `hollow`, all other lines `-`"
@@ -49,7 +49,7 @@ cycle-text Empty = 101 ∷ 109 ∷ 112 ∷ 116 ∷ 121 ∷ 10 ∷ []
 
 unfoldable pub answer-text : Access → Answer → List ℕ
 answer-text a x =
-    head-text (x .number) (x .word) ++
+    number-text (x .number) (x .word) ++
     (mark-text (shows-mark a (x .number)) (x .hollow) ++ cycle-text (x .cycle))
 
 -- "prints `bad line`", and a line feed

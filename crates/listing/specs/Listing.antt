@@ -6,7 +6,7 @@
 --   next x b          one byte more
 --   listing x t       a whole text more
 --   fitting room      how many bytes of input surely have room for their answers
---   ListedStretch     what a stretch of input leaves, as a contract
+--   ListedPiece       what a piece of input leaves, as a contract
 use Prim.Native.Nat.{ℕ, _+_, _*_, _-_, _/_}
 use mathlib.Core.Bool.{Bool, true, false, cond}
 use mathlib.Core.List.{List, [], _∷_, _++_}
@@ -14,7 +14,7 @@ use mathlib.Core.Path.{_≡_}
 use lib.Dec.{eqb}
 use lib.ListN.{length, take, drop}
 use Rattle.registers.specs.declared.Registers.{Registers}
-use Rattle.port_spec.specs.Runs.{Machine, after, answer-of}
+use Rattle.port_spec.specs.Sequences.{Machine, after, answer-of}
 use Rattle.port_spec.specs.declared.Access.{Access}
 use Rattle.listing.specs.Line.{Line, good, bad, line-of}
 use Rattle.listing.specs.Answer.{answer-text, bad-line}
@@ -66,14 +66,14 @@ unfoldable pub listing : Listing → List ℕ → Listing
 listing x [] = x
 listing x (b ∷ rest) = listing (next x b) rest
 
--- ---- a stretch of input, whose answers go to an output of so many bytes
+-- ---- a piece of input, whose answers go to an output of so many bytes
 
 -- a good line has 6 bytes or more and its answer at most 20, and after the last of them `bad line` may come, with 9
 abbrev pub fitting : ℕ → ℕ
 fitting room = (room - 9) / 10 * 3
 
-abbrev pub stretch-listing : Registers → List ℕ → List ℕ → List ℕ → Listing
-stretch-listing r m input output =
+abbrev pub piece-listing : Registers → List ℕ → List ℕ → List ℕ → Listing
+piece-listing r m input output =
     listing (start (record { registers = r; memory = m })) (take (fitting (length output)) input)
 
 abbrev pub listed : Listing → Listed
@@ -84,7 +84,7 @@ listed x =
 abbrev pub with-text : List ℕ → List ℕ → List ℕ
 with-text output text = text ++ drop (length text) output
 
-pub record ListedStretch (r : Registers) (m input out : List ℕ) (o : Listed) (m′ out′ : List ℕ) : Type 0 where
-  pub outcome : o ≡ listed (stretch-listing r m input out)
-  pub memory : m′ ≡ stretch-listing r m input out .machine .memory
-  pub output : out′ ≡ with-text out (stretch-listing r m input out .text)
+pub record ListedPiece (r : Registers) (m input out : List ℕ) (o : Listed) (m′ out′ : List ℕ) : Type 0 where
+  pub outcome : o ≡ listed (piece-listing r m input out)
+  pub memory : m′ ≡ piece-listing r m input out .machine .memory
+  pub output : out′ ≡ with-text out (piece-listing r m input out .text)

@@ -9,7 +9,7 @@ use Prim.Native.Nat.{ℕ, _+_}
 use mathlib.Core.Bool.{false, cond}
 use mathlib.Core.List.{List, [], _∷_, _++_}
 use mathlib.Core.Path.{_≡_}
-use Rattle.port_spec.specs.Runs.{Machine}
+use Rattle.port_spec.specs.Sequences.{Machine}
 use Rattle.listing.specs.Line.{has-feed}
 use Rattle.listing.specs.Answer.{bad-line}
 use Rattle.listing.specs.Listing.{Listing, start, listing}

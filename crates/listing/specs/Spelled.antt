@@ -4,7 +4,7 @@
 --   lines-of, answers-of   the lines of a list of accesses, and those of their answers
 use Prim.Native.Nat.{ℕ, _+_, _/_, _<_}
 use mathlib.Core.List.{List, [], _∷_, _++_}
-use Rattle.port_spec.specs.Runs.{Machine, after, answer-of}
+use Rattle.port_spec.specs.Sequences.{Machine, after, answer-of}
 use Rattle.port_spec.specs.declared.Access.{Access}
 use Rattle.port_spec.specs.declared.Access.the-variants.{Read, Write}
 use Rattle.digits.specs.Digits.{digit-for}

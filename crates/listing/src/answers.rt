@@ -2,7 +2,7 @@
 ghost use mathlib.Core.Path.{_≡_};
 ghost use Prim.Native.Nat.{_+_, _≤_, _<_};
 ghost use lib.ListN.{length};
-ghost use Rattle.listing.specs.Answer.{shows-mark, head-text, mark-text, cycle-text, answer-text};
+ghost use Rattle.listing.specs.Answer.{shows-mark, number-text, mark-text, cycle-text, answer-text};
 ghost use Rattle.listing.specs.Parts.{Put};
 use digits::digit_for;
 use port_spec::Access;
@@ -39,7 +39,7 @@ fn shows_mark(a: Access, number: u8) -> bool
 // The number and the word.
 fn put_head(output: &mut [u8], at: usize, number: u8, word: u16) -> usize
     requires { ⌜ (at + 6 ≤ length (now output)) × (number < 10) ⌝ }
-    ensures { λ r. ⌜ Put (now (output .entry)) at (head-text number word) r (now (output .exit)) ⌝ }
+    ensures { λ r. ⌜ Put (now (output .entry)) at (number-text number word) r (now (output .exit)) ⌝ }
 {
     output[at] = 48 + number;
     output[at + 1] = 32;

@@ -1,13 +1,13 @@
-// The text of `portlist`: a line to an access, an answer to a line, a stretch of input to a stretch of output.
+// The text of `portlist`: a line to an access, an answer to a line, a piece of input to a piece of output.
 // Document 01, "Blocks and the two doors", its last part.
 mod answers;
 mod lines;
-mod stretches;
+mod pieces;
 
 pub use lines::front_line;
+pub use pieces::list_piece;
 use port_spec::Access;
 use registers::Registers;
-pub use stretches::list_stretch;
 
 // The line that a text begins with.
 pub enum Front {
@@ -19,7 +19,7 @@ pub enum Front {
     Open,
 }
 
-// What a stretch of input leaves, besides the memory and the text: the registers, how many bytes the lines that were
+// What a piece of input leaves, besides the memory and the text: the registers, how many bytes the lines that were
 // answered have, how many bytes their answers, and whether a bad line ended the listing.
 pub struct Listed {
     pub registers: Registers,

@@ -28,7 +28,9 @@ fn due_of_read(c: u16, register: u32, lanes: u32) -> Due
     ensures { λ r. ⌜ r ≡ read-due c register lanes ⌝ }
 {
     if both(register == 2, closes_word(c, lanes)) {
-        Due::Fetch(steps_reading(c))
+        Due::Fetch {
+            with_step: steps_reading(c),
+        }
     } else {
         Due::Nothing
     }
@@ -40,10 +42,12 @@ fn due_of_write(c: u16, register: u32, lanes: u32) -> Due
 {
     if closes_word(c, lanes) {
         if register == 2 {
-            return Due::Store(steps_writing(c));
+            return Due::Store {
+                with_step: steps_writing(c),
+            };
         }
         if fetches_by(c, register) {
-            return Due::Fetch(false);
+            return Due::Fetch { with_step: false };
         }
     }
     Due::Nothing

@@ -1,6 +1,6 @@
 // The memory cycle that an access calls for: aimed, done on the lent memory, settled in the registers.
 ghost use mathlib.Core.Path.{_≡_};
-ghost use Rattle.port_spec.specs.Cycle.{stepped, mark, after-fetch, after-store, Cycled};
+ghost use Rattle.port_spec.specs.Cycle.{stepped, cycle-of, after-fetch, after-store, Cycled};
 use port_spec::Carried;
 use port_spec::Cycle;
 use port_spec::Due;
@@ -24,9 +24,9 @@ pub fn step_if(step: bool, r: Registers) -> Registers
     r
 }
 
-// The mark of a cycle that was called for.
-fn mark_of(inside: bool) -> Cycle
-    ensures { λ r. ⌜ r ≡ mark inside ⌝ }
+// What the answer says of a cycle that was called for.
+fn cycle_of(inside: bool) -> Cycle
+    ensures { λ r. ⌜ r ≡ cycle-of inside ⌝ }
 {
     if inside { Cycle::Inside } else { Cycle::Empty }
 }
@@ -37,7 +37,7 @@ pub fn settle_fetch(r: Registers, f: Fetched) -> Carried
 {
     Carried {
         registers: set_latch(r, f.word, !f.inside),
-        cycle: mark_of(f.inside),
+        cycle: cycle_of(f.inside),
     }
 }
 
@@ -47,7 +47,7 @@ pub fn settle_store(r: Registers, step: bool, inside: bool) -> Carried
 {
     Carried {
         registers: step_if(step, set_latch(r, r.latch, false)),
-        cycle: mark_of(inside),
+        cycle: cycle_of(inside),
     }
 }
 
@@ -60,15 +60,15 @@ pub fn carry(r: Registers, due: Due, memory: &mut [u16]) -> Carried
             registers: r,
             cycle: Cycle::None,
         },
-        Due::Fetch(step) => {
-            let q = step_if(step, r);
+        Due::Fetch { with_step } => {
+            let q = step_if(with_step, r);
             let a = q.pointer;
             settle_fetch(q, fetch_word(memory, word_of(a)))
         }
-        Due::Store(step) => {
+        Due::Store { with_step } => {
             let a = r.pointer;
             let inside = store_word(memory, word_of(a), r.latch);
-            settle_store(r, step, inside)
+            settle_store(r, with_step, inside)
         }
     }
 }

@@ -15,7 +15,7 @@ use Rattle.words.proofs.Choices.{either-way}
 use Rattle.control.specs.Control.{lbl, first-lane, last-lane}
 use Rattle.port_spec.specs.Cycle.{carried, memory-after}
 use Rattle.port_spec.specs.Host.{begin-access, refusal, number-for, refused, finished, done}
-use Rattle.port_spec.specs.Runs.{Machine, answer-of, after, Sixteen, load, save, on, opening, closing, between, joined, answers, ends, byte-answers, byte-ends}
+use Rattle.port_spec.specs.Sequences.{Machine, answer-of, after, Sixteen, load, save, on, opening, closing, between, together, answers, ends, byte-answers, byte-ends}
 use Rattle.port_spec.specs.declared.Access.{Access}
 use Rattle.port_spec.specs.declared.Cycle.the-variants.{None}
 use Rattle.port_spec.specs.declared.Begun.{Begun}
@@ -29,7 +29,7 @@ pub record Alike (s : Machine) (a : Sixteen) : Type 0 where
   pub first-number : answer-of s (opening s a) .number ≡ answer-of s (on 3 a) .number
   pub first-hollow : answer-of s (opening s a) .hollow ≡ answer-of s (on 3 a) .hollow
   pub first-cycle : answer-of s (opening s a) .cycle ≡ None
-  pub answer : joined (answer-of s (opening s a)) (answer-of (between s a) (closing s a)) ≡ answer-of s (on 3 a)
+  pub answer : together (answer-of s (opening s a)) (answer-of (between s a) (closing s a)) ≡ answer-of s (on 3 a)
   pub end : after (between s a) (closing s a) ≡ after s (on 3 a)
 
 -- ---- a register is refused alike on either byte and on both

@@ -14,10 +14,10 @@ use Rattle.control.specs.Control.{incr}
 use Rattle.registers.specs.declared.ProcessorWrite.{ProcessorWrite}
 use Rattle.registers.specs.declared.Woken.{Woken}
 use Rattle.port_spec.specs.Host.{access-memory}
-use Rattle.port_spec.specs.Runs.{Machine, machine, answer-of, after, Sixteen, on, opening, closing, answers, ends}
-use Rattle.port_spec.specs.Table.{Memory, loading, loaded, reading, table, Lies, given, held, filler}
+use Rattle.port_spec.specs.Sequences.{Machine, machine, answer-of, after, Sixteen, on, opening, closing, answers, ends}
+use Rattle.port_spec.specs.Table.{Memory, loading, loaded, reading, table, Lies, given, held-word, filler}
 use Rattle.port_spec.specs.Deeds.{Deed, woken, does, ran, Says}
-use Rattle.port_spec.specs.Origin.{unset, told, story, Came}
+use Rattle.port_spec.specs.Origin.{unset, as-content, story, Came}
 use Rattle.port_spec.specs.Calls.{ByWords, no-word, a-word, ByBytes, AddUp, AllAddUp, by-value, control-of, Made}
 use Rattle.port_spec.specs.Calls.{Did, nothing, by-host, by-processor, by-reset, by-others}
 use Rattle.port_spec.specs.declared.Access.{Access}
@@ -123,7 +123,7 @@ module _ {s t u : Machine} (a : BitAddress) (n : ℕ) {xs ys : List Answer}
   -- Every word of a table that lies in memory is handed out, in order, the last included, each held, whatever lies after it; memory and
   -- HSTCTL stay, and the pointer stands just past the table.
   pub calls-hand-out-every-word : Lies (s .memory) a n →
-      (map given ys ≡ map held (table (s .memory) a n))
+      (map given ys ≡ map held-word (table (s .memory) a n))
       × (u .memory ≡ s .memory)
       × (control-of u ≡ control-of s)
       × (u .registers .pointer .0 ≡ a .0 + 16 * n)
@@ -138,7 +138,7 @@ module _ {s t u : Machine} (a : BitAddress) (n : ℕ) {xs ys : List Answer}
 
   -- Past the end of memory, behind the words that are there, they hand out FFFFh, hollow, up to word 2^28, where the pointer comes round.
   pub calls-then-hollow : (before after : ℕ) → n ≡ before + after → word-at a .0 + before ≡ length (s .memory) → word-at a .0 + n ≤ 2 ^ 28 →
-      map given ys ≡ map held (table (s .memory) a before) ++ replicate after filler
+      map given ys ≡ map held-word (table (s .memory) a before) ++ replicate after filler
   calls-then-hollow before after e h q =
       ap (map given) (answered .0 ∙ ap (λ (j : ℕ). answers (loaded s a) (reading j)) e) ∙
       then-hollow s k i a before after h (omega (arith, e))
@@ -168,7 +168,7 @@ module _ {m : List ℕ} {l : List Deed} {lanes : ℕ} {s t : Machine} {x : Answe
   done-so = sym (ap (λ (y : Answer). y .number) there) ∙ z
 
   -- It hands out the word of its story, and says held exactly if the story does.
-  pub call-says-its-story : Says x lanes (told (story (woken m) l unset))
+  pub call-says-its-story : Says x lanes (as-content (story (woken m) l unset))
   call-says-its-story = rw there (since-reset m l lanes done-so)
 
   -- A word that it hands out as held came out of memory, or was written by the host or the processor.

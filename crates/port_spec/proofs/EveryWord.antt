@@ -11,8 +11,8 @@ use Rattle.words.specs.Addresses.{word-at}
 use Rattle.words.specs.declared.BitAddress.{BitAddress}
 use Rattle.control.specs.Control.{incr}
 use Rattle.port_spec.specs.Cycle.{standing}
-use Rattle.port_spec.specs.Runs.{Machine, load, on, answer-of, answers, ends, byte-answers}
-use Rattle.port_spec.specs.Table.{Memory, loading, loaded, byte-loaded, reading, on-by, table, Lies, Given, given, held, filler}
+use Rattle.port_spec.specs.Sequences.{Machine, load, on, answer-of, answers, ends, byte-answers}
+use Rattle.port_spec.specs.Table.{Memory, loading, loaded, byte-loaded, reading, on-by, table, Lies, Given, given, held-word, filler}
 use Rattle.port_spec.specs.declared.Answer.{Answer}
 use Rattle.port_spec.specs.declared.Cycle.the-variants.{Empty}
 use Rattle.port_spec.proofs.Alike.{answers-alike, ends-alike}
@@ -24,8 +24,8 @@ use Rattle.port_spec.proofs.TableWords.{held-here, ahead-empty, table-h
 -- accesses. Memory and the control register stay, and the pointer stands just past the table.
 pub record EveryWord (s : Machine) (a : BitAddress) (n : ℕ) : Type 0 where
   pub count : length (table (s .memory) a n) ≡ n
-  pub words : map given (answers (loaded s a) (reading n)) ≡ map held (table (s .memory) a n)
-  pub bytes : map given (byte-answers (byte-loaded s a) (reading n)) ≡ map held (table (s .memory) a n)
+  pub words : map given (answers (loaded s a) (reading n)) ≡ map held-word (table (s .memory) a n)
+  pub bytes : map given (byte-answers (byte-loaded s a) (reading n)) ≡ map held-word (table (s .memory) a n)
   pub memory : ends (loaded s a) (reading n) .memory ≡ s .memory
   pub control : ends (loaded s a) (reading n) .registers .control ≡ s .registers .control
   pub pointer : ends (loaded s a) (reading n) .registers .pointer .0 ≡ a .0 + 16 * n
@@ -86,7 +86,7 @@ module _ (s : Machine) (k : Memory (s .memory)) (i : incr (s .registers .control
   -- Read on past the end of memory: after its last word every answer is FFFFh, marked hollow, up to word 2^28, where the
   -- pointer comes round.
   pub then-hollow : (n j : ℕ) → word-at a .0 + n ≡ length (s .memory) → word-at a .0 + n + j ≤ 2 ^ 28 →
-      map given (answers (loaded s a) (reading (n + j))) ≡ map held (table (s .memory) a n) ++ replicate j filler
+      map given (answers (loaded s a) (reading (n + j))) ≡ map held-word (table (s .memory) a n) ++ replicate j filler
   then-hollow n j h q =
       let p = just-past n (omega arith) in
       let rest = filler-handed (s .memory) j (on-by n a) (omega arith) (omega arith) in

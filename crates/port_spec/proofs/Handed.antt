@@ -23,7 +23,7 @@ use Rattle.control.proofs.ClosingByte.{both-close}
 use Rattle.registers.specs.Registers.{low-half, high-half, halves, register-word, half-written, written}
 use Rattle.port_spec.specs.Cycle.{stepped, after-fetch, carried, memory-after, shows, standing}
 use Rattle.port_spec.specs.Host.{read-due, write-due, begin-access, refusal, done, access, access-memory}
-use Rattle.port_spec.specs.Runs.{Machine, answer-of, after, answers, ends}
+use Rattle.port_spec.specs.Sequences.{Machine, answer-of, after, answers, ends}
 use Rattle.port_spec.specs.Table.{Memory, loading, loaded, stands, reading, hand, handed, on-by}
 use Rattle.port_spec.specs.declared.Access.the-variants.{Read}
 use Rattle.port_spec.specs.declared.Outcome.{Outcome}

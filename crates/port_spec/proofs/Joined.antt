@@ -6,7 +6,7 @@ use native.Mathlib.Omega.{arith}
 use mathlib.Core.Path.{_≡_, refl, ap, _∙_}
 use mathlib.Core.List.{List, [], _∷_, _++_}
 use lib.ListN.{length, take, length-map}
-use Rattle.port_spec.specs.Runs.{Machine, Sixteen, load, on, answer-of, after, answers, ends, words-in}
+use Rattle.port_spec.specs.Sequences.{Machine, Sixteen, load, on, answer-of, after, answers, ends, words-in}
 use Rattle.port_spec.specs.Table.{reading}
 use Rattle.port_spec.specs.declared.Answer.{Answer}
 use Rattle.port_spec.specs.declared.Access.the-variants.{Read}

@@ -10,7 +10,7 @@ use Rattle.words.proofs.Choices.{either-way, same-or-not}
 use Rattle.control.specs.Control.{lbl, fetches}
 use Rattle.registers.specs.Registers.{low-half, high-half}
 use Rattle.port_spec.specs.Host.{access}
-use Rattle.port_spec.specs.Runs.{Machine, after, ends}
+use Rattle.port_spec.specs.Sequences.{Machine, after, ends}
 use Rattle.port_spec.specs.Table.{loading, loaded}
 use Rattle.port_spec.specs.declared.Access.the-variants.{Write}
 use Rattle.port_spec.proofs.Taken.{number-is, barred-memory}

@@ -20,11 +20,11 @@ use Rattle.words.proofs.MemoryWords.{fetched-beyond}
 use Rattle.control.specs.Control.{closes}
 use Rattle.registers.specs.Registers.{register-word}
 use Rattle.registers.specs.declared.Registers.{Registers}
-use Rattle.port_spec.specs.Cycle.{mark}
+use Rattle.port_spec.specs.Cycle.{cycle-of}
 use Rattle.port_spec.specs.Host.{begin-access, done, access}
-use Rattle.port_spec.specs.Runs.{Machine, answer-of}
+use Rattle.port_spec.specs.Sequences.{Machine, answer-of}
 use Rattle.port_spec.specs.Deeds.{Deed, woken, does, ran, Content, content, Says, writes-data, has-cycle, ahead, word-used, Agree}
-use Rattle.port_spec.specs.Origin.{Origin, unset, missed, memory, by-processor, laid, stored, value, is-held, told, story, Came, from-memory, from-processor, from-host, under-bytes}
+use Rattle.port_spec.specs.Origin.{Origin, unset, missed, memory, by-processor, laid, stored, value, is-held, as-content, story, Came, from-memory, from-processor, from-host, under-bytes}
 use Rattle.port_spec.specs.declared.Access.{Access}
 use Rattle.port_spec.specs.declared.Access.the-variants.{Read}
 use Rattle.port_spec.specs.declared.Cycle.{Cycle}
@@ -37,7 +37,7 @@ use Rattle.port_spec.proofs.Origins.{run-told}
 
 -- ---- an access that is done
 cycle-done : (r : Registers) (m : List ℕ) (a : Access) → access r m a .answer .number ≡ 0 →
-    access r m a .answer .cycle ≡ cond (has-cycle r a) (mark (in-memory m (word-used r a))) None
+    access r m a .answer .cycle ≡ cond (has-cycle r a) (cycle-of (in-memory m (word-used r a))) None
 unfolding done
 cycle-done r m a n = ap (λ (o : Outcome). o .answer .cycle) (as-done r m a n) ∙ leaves r m a .cycle
 
@@ -47,7 +47,7 @@ cycle-done r m a n = ap (λ (o : Outcome). o .answer .cycle) (as-done r m a n) �
 pub record Rule (r : Registers) (m : List ℕ) (lanes : ℕ) : Type 0 where
   pub word : access r m (Read 2 lanes) .answer .word ≡ shown lanes (r .latch)
   pub hollow : access r m (Read 2 lanes) .answer .hollow ≡ r .hollow
-  pub cycle : access r m (Read 2 lanes) .answer .cycle ≡ cond (closes (r .control) lanes) (mark (in-memory m (word-at (ahead r)))) None
+  pub cycle : access r m (Read 2 lanes) .answer .cycle ≡ cond (closes (r .control) lanes) (cycle-of (in-memory m (word-at (ahead r)))) None
 
 -- A read of HSTDATA that is done answers the word that was there, hollow if that was, whatever memory holds; its cycle, if the closing
 -- byte is among its lanes, is marked by whether memory has the word ahead.
@@ -75,8 +75,8 @@ pub record TrueMark (x : Cycle) (called there : Bool) : Type 0 where
   pub empty : x ≡ Empty ↔ (called ≡ true) × (there ≡ false)
   pub none : x ≡ None ↔ called ≡ false
 
-marked : (called there : Bool) → TrueMark (cond called (mark there) None) called there
-unfolding mark
+marked : (called there : Bool) → TrueMark (cond called (cycle-of there) None) called there
+unfolding cycle-of
 marked true true =
     record {
       inside = (λ _. (refl, refl), λ _. refl);
@@ -145,15 +145,15 @@ no-miss-looks-good s (d ∷ rest) =
 -- Whatever is done and in whatever order, whole or by bytes, a read of HSTDATA that is done hands out the word of its story, and says
 -- held exactly if the story does: if a fetch inside memory, the processor's word or the host's store came last, and not a reset or
 -- a fetch that missed.
-pub held-has-a-story : (s : Machine) (o : Origin) → content (s .registers) ≡ told o → (l : List Deed) (lanes : ℕ) →
-    answer-of (ran s l) (Read 2 lanes) .number ≡ 0 → Says (answer-of (ran s l) (Read 2 lanes)) lanes (told (story s l o))
+pub held-has-a-story : (s : Machine) (o : Origin) → content (s .registers) ≡ as-content o → (l : List Deed) (lanes : ℕ) →
+    answer-of (ran s l) (Read 2 lanes) .number ≡ 0 → Says (answer-of (ran s l) (Read 2 lanes)) lanes (as-content (story s l o))
 unfolding answer-of
 held-has-a-story s o k l lanes n = says (ran s l .registers) (ran s l .memory) lanes n (run-told s l o k)
 
 -- So from reset on, where nothing was fetched yet.
 pub since-reset : (m : List ℕ) (l : List Deed) (lanes : ℕ) →
     answer-of (ran (woken m) l) (Read 2 lanes) .number ≡ 0 →
-    Says (answer-of (ran (woken m) l) (Read 2 lanes)) lanes (told (story (woken m) l unset))
+    Says (answer-of (ran (woken m) l) (Read 2 lanes)) lanes (as-content (story (woken m) l unset))
 unfolding value is-held
 since-reset m l lanes n = held-has-a-story (woken m) unset refl l lanes n
 

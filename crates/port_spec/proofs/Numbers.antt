@@ -23,7 +23,7 @@ abbrev pub NoLanes : ℕ → Type 0
 NoLanes lanes = (lanes ≢ 1) × (lanes ≢ 2) × (lanes ≢ 3)
 
 -- v is the number for a memory of so many words, a register and lanes
-pub record When (words register lanes v : ℕ) : Type 0 where
+pub record AccessWhen (words register lanes v : ℕ) : Type 0 where
   pub listed : v ≤ 3
   pub over : v ≡ 1 ↔ 32768 < words
   pub unlisted : v ≡ 2 ↔ (words ≤ 32768) × (3 < register)
@@ -31,11 +31,11 @@ pub record When (words register lanes v : ℕ) : Type 0 where
   pub done : v ≡ 0 ↔ (words ≤ 32768) × (register ≤ 3) × (1 ≤ lanes) × (lanes ≤ 3)
 
 -- The number that applies is one of 0 to 3, each when, and only then.
-pub when : (words register lanes : ℕ) → When words register lanes (refusal words register lanes)
+pub when : (words register lanes : ℕ) → AccessWhen words register lanes (refusal words register lanes)
 unfolding refusal
 when n r l = go (ltb 32768 n) (ltb 3 r) (are-lanes l) refl refl refl
   where
-    go : (a b c : Bool) → ltb 32768 n ≡ a → ltb 3 r ≡ b → are-lanes l ≡ c → When n r l (cond a 1 (cond b 2 (cond c 0 3)))
+    go : (a b c : Bool) → ltb 32768 n ≡ a → ltb 3 r ≡ b → are-lanes l ≡ c → AccessWhen n r l (cond a 1 (cond b 2 (cond c 0 3)))
     go true b c p q e = omega (arith, ltb-true 32768 n p)
     go false true c p q e = omega (arith, ltb-false 32768 n p, ltb-true 3 r q)
     go false false true p q e = omega (arith, ltb-false 32768 n p, ltb-false 3 r q, lanes-named l .0 e)
@@ -51,7 +51,7 @@ pub record Refused (r : Registers) (m : List ℕ) (a : Access) : Type 0 where
 
 module _ (r : Registers) (m : List ℕ) (a : Access) where
   -- The number of an access by the host is one of 0 to 3, each when, and only then.
-  pub numbered : When (length m) (register-of a) (lanes-of a) (access r m a .answer .number)
+  pub numbered : AccessWhen (length m) (register-of a) (lanes-of a) (access r m a .answer .number)
   numbered = rw (number-is r m a) (when (length m) (register-of a) (lanes-of a))
 
   -- Every access that answers another number than 0 is refused so.

@@ -4,7 +4,7 @@ use mathlib.Core.Path.{_≡_, ap}
 use mathlib.Core.List.{List}
 use Rattle.registers.specs.declared.Registers.{Registers}
 use Rattle.port_spec.specs.Host.{Accessed}
-use Rattle.port_spec.specs.Runs.{machine, answer-of, after}
+use Rattle.port_spec.specs.Sequences.{machine, answer-of, after}
 use Rattle.port_spec.specs.declared.Access.{Access}
 use Rattle.port_spec.specs.declared.Outcome.{Outcome}
 

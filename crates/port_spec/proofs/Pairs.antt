@@ -16,7 +16,7 @@ use Rattle.registers.specs.Registers.{low-half, high-half, with-pointer, with-c
 use Rattle.registers.specs.declared.Registers.{Registers}
 use Rattle.registers.proofs.RegisterWords.{low-of-halves, high-of-halves}
 use Rattle.port_spec.specs.Host.{read-due, write-due, begin-access}
-use Rattle.port_spec.specs.Runs.{Sixteen, load, save, on}
+use Rattle.port_spec.specs.Sequences.{Sixteen, load, save, on}
 use Rattle.port_spec.specs.declared.Due.{Due}
 use Rattle.port_spec.specs.declared.Due.the-variants.{Nothing}
 use Rattle.port_spec.specs.declared.Begun.{Begun}

@@ -14,7 +14,7 @@ use Rattle.words.specs.Memory.{in-memory, fetch-at, store-at}
 use Rattle.control.specs.Control.{incw, closes, fetches, host-low, control-laid}
 use Rattle.registers.specs.Registers.{with-latch, with-control, register-word, written}
 use Rattle.registers.specs.declared.Registers.{Registers}
-use Rattle.port_spec.specs.Cycle.{stepped, mark, after-fetch, after-store, carried, memory-after, Cycled, standing}
+use Rattle.port_spec.specs.Cycle.{stepped, cycle-of, after-fetch, after-store, carried, memory-after, Cycled, standing}
 use Rattle.port_spec.specs.Host.{register-of, lanes-of, access, Accessed}
 use Rattle.port_spec.specs.Deeds.{content, Says, writes-data, has-cycle, ahead, word-used}
 use Rattle.port_spec.specs.declared.Access.{Access}
@@ -23,7 +23,7 @@ use Rattle.port_spec.specs.declared.Carried.{Carried}
 use Rattle.port_spec.specs.declared.Cycle.the-variants.{None, Inside, Empty}
 use Rattle.port_spec.specs.declared.Due.the-variants.{Nothing, Fetch, Store}
 use Rattle.port_spec.specs.declared.Outcome.{Outcome}
-use Rattle.port_spec.proofs.Numbers.{When, numbered, refuses}
+use Rattle.port_spec.proofs.Numbers.{AccessWhen, numbered, refuses}
 use Rattle.port_spec.proofs.HostTold.{read-answers, write-is-silent}
 use Rattle.port_spec.proofs.OpenByte.{open-has-no-cycle, open-keeps-memory}
 use Rattle.port_spec.proofs.Leaves.{after-storing, fetch-leaves, store-leaves}
@@ -34,7 +34,7 @@ use Rattle.port_spec.proofs.NoMiss.{TrueMark, true-mark, rule, hollow-f
 -- ---- any access
 module _ {r : Registers} {m : List ℕ} {a : Access} {o : Outcome} {m′ : List ℕ} (k : Accessed r m a o m′) where
   -- The number is one of 0 to 3, each when, and only then.
-  pub returns-number : When (length m) (register-of a) (lanes-of a) (o .answer .number)
+  pub returns-number : AccessWhen (length m) (register-of a) (lanes-of a) (o .answer .number)
   returns-number = rw (k .outcome) (numbered r m a)
 
   -- Refused, it answers zeros, and leaves the registers and the memory.
@@ -159,7 +159,7 @@ module _ {r : Registers} {m : List ℕ} {c : Carried} {m′ : List ℕ} where
       (c .registers ≡ standing m (r .control) (stepped-from s (r .pointer)))
       × (c .cycle ≡ cond (in-memory m (word-at (stepped-from s (r .pointer)))) Inside Empty)
       × (m′ ≡ m)
-  unfolding carried memory-after after-fetch stepped fetch-at mark
+  unfolding carried memory-after after-fetch stepped fetch-at cycle-of
   fetch-done {s} k =
       (ap (λ (x : Carried). x .registers) (k .outcome) ∙ fetch-leaves r m s, ap (λ (x : Carried). x .cycle) (k .outcome), k .memory)
 
@@ -168,6 +168,6 @@ module _ {r : Registers} {m : List ℕ} {c : Carried} {m′ : List ℕ} where
       (c .registers ≡ after-storing r (r .latch) s)
       × (c .cycle ≡ cond (in-memory m (word-at (r .pointer))) Inside Empty)
       × (m′ ≡ store-at m (word-at (r .pointer)) (r .latch))
-  unfolding carried memory-after after-store mark
+  unfolding carried memory-after after-store cycle-of
   store-done {s} k =
       (ap (λ (x : Carried). x .registers) (k .outcome) ∙ store-leaves r m s, ap (λ (x : Carried). x .cycle) (k .outcome), k .memory)

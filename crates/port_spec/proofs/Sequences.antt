@@ -4,7 +4,7 @@ use Prim.Native.Nat.{ℕ}
 use mathlib.Core.Path.{_≡_, refl, sym, ap, subst, _∙_}
 use mathlib.Core.List.{List, [], _∷_}
 use Rattle.control.specs.Control.{first-lane, last-lane}
-use Rattle.port_spec.specs.Runs.{Sixteen, on}
+use Rattle.port_spec.specs.Sequences.{Sixteen, on}
 use Rattle.port_spec.specs.Calls.{Call, ByWords, no-word, a-word, ByBytes, no-byte, two-bytes, AddUp, AllAddUp, no-pair, a-pair}
 use Rattle.port_spec.specs.declared.Access.{Access}
 use Rattle.port_spec.specs.declared.Answer.{Answer}

@@ -13,14 +13,14 @@ use Rattle.words.specs.Addresses.{word-at, step}
 use Rattle.words.specs.Memory.{fetch-at}
 use Rattle.words.specs.declared.BitAddress.{BitAddress}
 use Rattle.words.proofs.Addresses.{step-next}
-use Rattle.port_spec.specs.Cycle.{mark}
-use Rattle.port_spec.specs.Table.{hand, handed, on-by, table, Lies, Given, given, held, filler}
+use Rattle.port_spec.specs.Cycle.{cycle-of}
+use Rattle.port_spec.specs.Table.{hand, handed, on-by, table, Lies, Given, given, held-word, filler}
 use Rattle.port_spec.specs.declared.Cycle.the-variants.{Empty}
 
 module _ (m : List ℕ) where
   -- ---- one answer
   -- A word that is in memory is handed out held, one that is not as filler.
-  pub held-here : (a : BitAddress) → word-at a .0 < length m → given (hand m a) ≡ held (getD m (word-at a .0) 0)
+  pub held-here : (a : BitAddress) → word-at a .0 < length m → given (hand m a) ≡ held-word (getD m (word-at a .0) 0)
   unfolding hand fetch-at
   held-here a h = rw (lt-ltb (word-at a .0) (length m) h)
 
@@ -30,13 +30,13 @@ module _ (m : List ℕ) where
 
   -- The cycle is marked empty where memory has no word one on.
   pub ahead-empty : (a : BitAddress) → length m ≤ word-at (step a) .0 → hand m a .cycle ≡ Empty
-  unfolding hand mark
+  unfolding hand cycle-of
   ahead-empty a h = rw (le-ltb (word-at (step a) .0) (length m) h)
 
   -- ---- n answers
   -- A table that lies in memory is handed out word for word, all held.
   pub table-handed : length m ≤ 32768 → (n : ℕ) (a : BitAddress) → Lies m a n →
-      map given (handed m a n) ≡ map held (table m a n)
+      map given (handed m a n) ≡ map held-word (table m a n)
   unfolding handed
   table-handed k zero a h = refl
   table-handed k (suc n) a h =

@@ -14,9 +14,9 @@ use Rattle.words.specs.declared.WordNumber.{WordNumber}
 use Rattle.words.proofs.Lanes.{replaced-whole}
 use Rattle.control.specs.Control.{closes, fetches}
 use Rattle.registers.specs.Registers.{register-word, half-written, written}
-use Rattle.port_spec.specs.Cycle.{stepped, mark, after-fetch, after-store, carried, memory-after}
+use Rattle.port_spec.specs.Cycle.{stepped, cycle-of, after-fetch, after-store, carried, memory-after}
 use Rattle.port_spec.specs.Host.{read-due, write-due, begin-access, refusal, number-for, done, access, access-memory}
-use Rattle.port_spec.specs.Runs.{Machine, answer-of, after}
+use Rattle.port_spec.specs.Sequences.{Machine, answer-of, after}
 use Rattle.port_spec.specs.Deeds.{Deed, host, processor, reset, elsewhere, woken, does, ran, writes-data, has-cycle, word-used}
 use Rattle.port_spec.specs.Origin.{Origin, unset, missed, memory, by-processor, laid, stored, value, is-held, landed, looked, story-after, story, real, BothReal, Real, Whole, All-whole}
 use Rattle.port_spec.specs.declared.Access.{Access}
@@ -102,6 +102,6 @@ lone-byte = host (Write 2 2 0x1200)
 pub lone-closing-byte : HalfReal (host (Write 1 3 0) ∷ lone-byte ∷ []) 0x12ff × HalfReal (lone-byte ∷ []) 0x1200
 unfolding
     answer-of ran does after access access-memory refusal are-lanes done begin-access register-word half-written written read-due
-    write-due closes fetches carried memory-after after-fetch after-store stepped mark fetch-at store-at bit lay takes-low takes-high
+    write-due closes fetches carried memory-after after-fetch after-store stepped cycle-of fetch-at store-at bit lay takes-low takes-high
     story story-after landed looked has-cycle word-used real
 lone-closing-byte = (record { answer = refl; low-byte = refl }, record { answer = refl; low-byte = refl })

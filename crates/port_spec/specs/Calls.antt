@@ -17,7 +17,7 @@ use Rattle.registers.specs.Processor.{processor-writes, at-reset}
 use Rattle.registers.specs.declared.ProcessorWrite.{ProcessorWrite}
 use Rattle.registers.specs.declared.Woken.{Woken}
 use Rattle.port_spec.specs.Host.{Accessed}
-use Rattle.port_spec.specs.Runs.{Machine, machine, Sixteen, on}
+use Rattle.port_spec.specs.Sequences.{Machine, machine, Sixteen, on}
 use Rattle.port_spec.specs.Deeds.{Deed, host, processor, reset, elsewhere}
 use Rattle.port_spec.specs.declared.Access.{Access}
 use Rattle.port_spec.specs.declared.Answer.{Answer}

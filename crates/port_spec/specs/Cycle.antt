@@ -1,8 +1,8 @@
 -- The memory cycle that an access calls for: document 01, 'Memory and addresses' and 'The four host registers'.
 --   stepped s r         the registers with the pointer stepped, where s says so
---   mark inside         what the answer says of a cycle that was called for
---   after-fetch r f     the registers and the mark after a fetch that found f
---   after-store r s i   the registers and the mark after a store
+--   cycle-of inside     what the answer says of a cycle that was called for
+--   after-fetch r f     the registers and the cycle after a fetch that found f
+--   after-store r s i   the registers and the cycle after a store
 --   carried, memory-after   the cycle that is due, done on a memory
 --   shows m a           the word that a fetch at bit address a brings, or the filler
 --   standing m c a      the registers after a fetch at a
@@ -27,16 +27,16 @@ unfoldable pub stepped : Bool → Registers → Registers
 stepped s r = with-pointer r (stepped-from s (r .pointer))
 
 -- "A cycle whose word is not in the lent memory is empty"
-unfoldable pub mark : Bool → Cycle
-mark inside = cond inside Inside Empty
+unfoldable pub cycle-of : Bool → Cycle
+cycle-of inside = cond inside Inside Empty
 
 -- "An empty fetch puts FFFFh in HSTDATA and makes it hollow" (house); "A fetch inside memory clears the hollow mark"
 unfoldable pub after-fetch : Registers → Fetched → Carried
-after-fetch r f = record { registers = with-latch r (f .word) (not (f .inside)); cycle = mark (f .inside) }
+after-fetch r f = record { registers = with-latch r (f .word) (not (f .inside)); cycle = cycle-of (f .inside) }
 
 -- "the hollow mark clears, then with INCW 1 the pointer gains 16", also where the store was dropped
 unfoldable pub after-store : Registers → Bool → Bool → Carried
-after-store r s inside = record { registers = stepped s (with-latch r (r .latch) false); cycle = mark inside }
+after-store r s inside = record { registers = stepped s (with-latch r (r .latch) false); cycle = cycle-of inside }
 
 -- a fetch: "the pointer gains 16; then a fetch"; a store: "the whole of HSTDATA is stored at the pointer"
 unfoldable pub carried : Registers → Due → List ℕ → Carried
@@ -49,7 +49,7 @@ memory-after r Nothing m = m
 memory-after r (Fetch s) m = m
 memory-after r (Store s) m = store-at m (word-at (r .pointer)) (r .latch)
 
--- what a cycle leaves: the registers with its mark, and the memory
+-- what a cycle leaves: the registers with what the answer says of it, and the memory
 pub record Cycled (r : Registers) (due : Due) (m : List ℕ) (c : Carried) (m′ : List ℕ) : Type 0 where
   pub outcome : c ≡ carried r due m
   pub memory : m′ ≡ memory-after r due m

@@ -1,4 +1,4 @@
--- Whatever is done to the port or its memory, in any order, and the onlooker who judges HSTDATA from the marks of the cycles alone: the words of
+-- Whatever is done to the port or its memory, in any order, and the onlooker who judges HSTDATA from what is said of the cycles alone: the words of
 -- the keeper's law. Document 01, 'Memory and addresses', 'The four host registers' and 'The processor's side'.
 --   Deed, does, ran           what is done, and the machine after one deed and after a run of them
 --   woken m                   the machine that a reset leaves
@@ -21,7 +21,7 @@ use Rattle.control.specs.Control.{incr, closes, fetches}
 use Rattle.registers.specs.Registers.{written}
 use Rattle.registers.specs.Processor.{processor-writes, at-reset}
 use Rattle.registers.specs.declared.Registers.{Registers}
-use Rattle.port_spec.specs.Runs.{Machine, answer-of, after}
+use Rattle.port_spec.specs.Sequences.{Machine, answer-of, after}
 use Rattle.port_spec.specs.declared.Access.{Access}
 use Rattle.port_spec.specs.declared.Access.the-variants.{Read, Write}
 use Rattle.port_spec.specs.declared.Answer.{Answer}
@@ -89,7 +89,7 @@ unfoldable pub word-used : Registers → Access → WordNumber
 word-used r (Read register lanes) = word-at (ahead r)
 word-used r (Write register lanes w) = word-at (written r register lanes w .pointer)
 
--- ---- the onlooker: knows what is done and the mark of each cycle
+-- ---- the onlooker: knows what is done and what is said of each cycle
 
 -- no cycle, no news; a word that memory has is good; beyond memory a fetch brings filler, and a store leaves the host's word
 unfoldable pub judged : Bool → Access → Cycle → Bool

@@ -2,7 +2,7 @@
 pub mod Cycle
 pub mod Host
 -- ---- the words of the laws: demand 3, the tuner's law, the keeper's law
-pub mod Runs
+pub mod Sequences
 pub mod Table
 pub mod Deeds
 pub mod Origin

@@ -2,7 +2,7 @@
 -- processor's side'.
 --   Origin             what happened to the word, the latest event outermost
 --   value, is-held     the word that it comes to, and whether that is held
---   told               both, as HSTDATA has them
+--   as-content         both, as HSTDATA has them
 --   story-after        the story after one deed
 --   story              the story after a run of deeds
 --   real, Real         a byte is no filler: memory, the processor or the host gave it; so are both, if the word is held
@@ -18,7 +18,7 @@ use Rattle.words.specs.Bytes.{takes-low, takes-high, replaced}
 use Rattle.words.specs.Memory.{in-memory}
 use Rattle.words.specs.declared.WordNumber.{WordNumber}
 use Rattle.port_spec.specs.Host.{number-for}
-use Rattle.port_spec.specs.Runs.{Machine}
+use Rattle.port_spec.specs.Sequences.{Machine}
 use Rattle.port_spec.specs.Deeds.{Deed, host, processor, reset, elsewhere, does, Content, writes-data, has-cycle, word-used}
 use Rattle.port_spec.specs.declared.Access.{Access}
 use Rattle.port_spec.specs.declared.Access.the-variants.{Read, Write}
@@ -53,8 +53,8 @@ is-held (by-processor w) = true
 is-held (laid lanes w o) = is-held o
 is-held (stored o) = true
 
-abbrev pub told : Origin → Content
-told o = record { word = value o; hollow = not (is-held o) }
+abbrev pub as-content : Origin → Content
+as-content o = record { word = value o; hollow = not (is-held o) }
 
 -- ---- what a deed adds to the story
 

@@ -11,7 +11,7 @@
 --   table m a n      the n words from a on
 --   Lies m a n       all of them are in memory
 --   Given, given     what an answer says of the word that it hands out
---   held w, filler   the word w, handed out as held; FFFFh, handed out as hollow
+--   held-word w, filler  the word w, handed out as held; FFFFh, handed out as hollow
 use Prim.Native.Nat.{ℕ, zero, suc, _+_, _≤_}
 use mathlib.Core.Bool.{Bool, true, false, cond, not}
 use mathlib.Core.List.{List, [], _∷_}
@@ -21,8 +21,8 @@ use Rattle.words.specs.Memory.{AreWords, in-memory}
 use Rattle.words.specs.declared.BitAddress.{BitAddress}
 use Rattle.control.specs.Control.{lbl}
 use Rattle.registers.specs.Registers.{low-half, high-half}
-use Rattle.port_spec.specs.Cycle.{mark, shows, standing}
-use Rattle.port_spec.specs.Runs.{Machine, Sixteen, load, save, ends, byte-ends}
+use Rattle.port_spec.specs.Cycle.{cycle-of, shows, standing}
+use Rattle.port_spec.specs.Sequences.{Machine, Sixteen, load, save, ends, byte-ends}
 use Rattle.port_spec.specs.declared.Answer.{Answer}
 
 -- "a lent slice of 16-bit words, at most 32,768"
@@ -61,7 +61,7 @@ hand m a =
       number = 0;
       word = shows m a;
       hollow = not (in-memory m (word-at a));
-      cycle = mark (in-memory m (word-at (step a)));
+      cycle = cycle-of (in-memory m (word-at (step a)));
     }
 
 unfoldable pub handed : List ℕ → BitAddress → ℕ → List Answer
@@ -80,7 +80,7 @@ table m a n = take n (drop (word-at a .0) m)
 abbrev pub Lies : List ℕ → BitAddress → ℕ → Type 0
 Lies m a n = word-at a .0 + n ≤ length m
 
--- all that an answer says but the mark of its own cycle, which is the fetch ahead
+-- all that an answer says but what it says of its own cycle, which is the fetch ahead
 pub record Given : Type 0 where
   pub number : ℕ
   pub word : ℕ
@@ -89,8 +89,8 @@ pub record Given : Type 0 where
 abbrev pub given : Answer → Given
 given x = record { number = x .number; word = x .word; hollow = x .hollow }
 
-abbrev pub held : ℕ → Given
-held w = record { number = 0; word = w; hollow = false }
+abbrev pub held-word : ℕ → Given
+held-word w = record { number = 0; word = w; hollow = false }
 
 abbrev pub filler : Given
 filler = record { number = 0; word = 0xffff; hollow = true }

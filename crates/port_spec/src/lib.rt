@@ -15,11 +15,11 @@ pub enum Access {
     },
 }
 
-// The memory cycle that an access calls for. The flag: with a step of the pointer, before a fetch or after a store.
+// The memory cycle that an access calls for. The pointer steps before a fetch, or after a store, where `with_step` says so.
 pub enum Due {
     Nothing,
-    Fetch(bool),
-    Store(bool),
+    Fetch { with_step: bool },
+    Store { with_step: bool },
 }
 
 // The memory cycle that an access had: none, one at a word of the lent memory, or one at a word that isn't there.

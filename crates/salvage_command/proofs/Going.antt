@@ -9,7 +9,7 @@ use lib.Seq.{length-take-le}
 use Rattle.salvage_spec.specs.Pieces.{beginning, piece-taken, pieces-taken}
 use Rattle.salvage_spec.specs.Pieces.{Progress as Salvage·Progress}
 use Rattle.salvage_spec.proofs.InPieces.{taken-on}
-use Rattle.salvage_command.specs.Turning.{Room, TookTurn, SoFar, Tells}
+use Rattle.salvage_command.specs.Turning.{Room, SalvagedTurn, SoFar, Tells}
 use Rattle.salvage_command.specs.declared.Turn.{Turn}
 use Rattle.salvage_command.specs.declared.pieces.Progress.{Progress}
 
@@ -39,7 +39,7 @@ module _ {piece sound : List ℕ} {p : Progress} {turns : ℕ} (g : Going piece 
         gone = omega (arith, g .piece-long, g .gone);
       }
 
-  module _ {t : Turn} {piece′ sound′ : List ℕ} (x : TookTurn p piece t piece′ sound′) where
+  module _ {t : Turn} {piece′ sound′ : List ℕ} (x : SalvagedTurn p piece t piece′ sound′) where
     -- one piece more came
     so-far-on : SoFar (t .progress) piece′
     so-far-on =

@@ -8,7 +8,7 @@ use lib.Dec.{ltb}
 use lib.ListN.{length, take, drop, length-drop}
 use lib.Seq.{length-take-le, take-take}
 use Rattle.salvage_spec.specs.Pieces.{piece-taken, piece-written}
-use Rattle.salvage_command.specs.Turning.{Took, TookTurn}
+use Rattle.salvage_command.specs.Turning.{Took, SalvagedTurn}
 use Rattle.salvage_command.specs.declared.pieces.Progress.{Progress}
 use Rattle.salvage_command.specs.declared.pieces.Taken.{Taken}
 use Rattle.salvage_command.proofs.OnePiece.{by-parts}
@@ -17,7 +17,7 @@ use Rattle.salvage_command.proofs.OnePiece.{by-parts}
 pub turn-taken : (p : Progress) (piece filled : List ℕ) (all : ℕ) {t : Taken} {piece′ sound′ : List ℕ} {more failed : Bool} →
     p .held ≤ all → all ≤ length filled → length filled ≡ length piece → take (p .held) filled ≡ take (p .held) piece →
     Took p (take all filled) t piece′ sound′ → more ≡ ltb 0 (all - p .held) →
-    TookTurn p piece (record { progress = t .progress; wrote = t .wrote; more = more; failed = failed }) piece′ sound′
+    SalvagedTurn p piece (record { progress = t .progress; wrote = t .wrote; more = more; failed = failed }) piece′ sound′
 turn-taken p piece filled all h k same front x m =
     let long = length-take-le all filled k in
     let behind = length-drop (p .held) (take all filled) in

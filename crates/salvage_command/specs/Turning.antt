@@ -5,7 +5,7 @@
 --   Room                   what a turn begins with: buffers, and counts that can grow by a piece
 --   Ready                  the same, when so many bytes are at hand: those that are held, and those that came behind them
 --   Took                   what is made of the bytes at hand
---   TookTurn               a whole turn: some bytes came behind those that are held
+--   SalvagedTurn           a whole turn: some bytes came behind those that are held
 --   SoFar                  between two turns: some pieces came one after another, and the progress is theirs
 --   Tells                  a report of an input that came in pieces, what is held at the end being left too: `in-pieces` of crate
 --                          `salvage_spec` says that it is that of the whole
@@ -53,7 +53,7 @@ pub record Took (p : Progress) (bytes : List ℕ) (t : Taken) (piece′ sound′
   pub gone : t .progress .gone ≤ p .gone + length bytes
 
 -- what came is `came`; no contract says which bytes that is
-pub record TookTurn (p : Progress) (piece : List ℕ) (t : Turn) (piece′ sound′ : List ℕ) : Type 0 where
+pub record SalvagedTurn (p : Progress) (piece : List ℕ) (t : Turn) (piece′ sound′ : List ℕ) : Type 0 where
   pub came : List ℕ
   pub progress : progress-of (t .progress) piece′ ≡ piece-taken (progress-of p piece) came
   pub written : take (t .wrote) sound′ ≡ piece-written (progress-of p piece) came

@@ -9,7 +9,7 @@ mod report;
 ghost use mathlib.Core.Path.{_≡_};
 ghost use Prim.Native.Nat.{_<_, _≤_};
 ghost use lib.ListN.{length, take};
-ghost use Rattle.salvage_command.specs.Turning.{Room, TookTurn};
+ghost use Rattle.salvage_command.specs.Turning.{Room, SalvagedTurn};
 use pieces::Progress;
 use pieces::take_piece;
 use report::Report;
@@ -52,7 +52,7 @@ fn fill(piece: &mut [u8], held: usize) -> Filled
 // One turn: a piece comes, and what is kept of it is laid out to be written.
 fn take_turn(p: Progress, piece: &mut [u8], sound: &mut [u8]) -> Turn
     requires { ⌜ Room p (now piece) (now sound) ⌝ }
-    ensures { λ t. ⌜ TookTurn p (now (piece .entry)) t (now (piece .exit)) (now (sound .exit)) ⌝ }
+    ensures { λ t. ⌜ SalvagedTurn p (now (piece .entry)) t (now (piece .exit)) (now (sound .exit)) ⌝ }
 {
     let held = p.held;
     let filled = fill(piece, held);

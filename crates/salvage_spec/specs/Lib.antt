@@ -4,4 +4,4 @@ pub mod Salvage
 pub mod Pieces
 -- ---- the words of the laws
 pub mod InPlainWords
-pub mod Table
+pub mod Examples

@@ -9,7 +9,7 @@ use Rattle.words.specs.Lent.{given-back}
 use Rattle.words.proofs.Lent.{lent-is, back-is}
 use Rattle.salvage_spec.specs.Salvage.{salvage-answer, bytes-after, SalvagedTranscript}
 use Rattle.salvage_spec.specs.declared.Salvaged.{Salvaged}
-use Rattle.salvage_trial.specs.Carried.{answer-from, bytes-from, Carried}
+use Rattle.salvage_trial.specs.CarriedOut.{answer-from, bytes-from, CarriedOut}
 
 -- No more are lent than there are.
 pub smaller-of : (k m : ℕ) {n : ℕ} → n ≡ min k m → n ≤ m
@@ -17,7 +17,7 @@ smaller-of k m e = omega arith
 
 -- The call on the lent parts is what the record asks for.
 pub carried : {k m given room : ℕ} {s out : List ℕ} {o : Salvaged} {part : List ℕ} → given ≡ min k (length s) → room ≡ min m (length out) →
-    SalvagedTranscript (take given s) (take (room - 0) out) o part → Carried k m s out o (putMid 0 (room - 0) out part)
+    SalvagedTranscript (take given s) (take (room - 0) out) o part → CarriedOut k m s out o (putMid 0 (room - 0) out part)
 unfolding answer-from bytes-from
 carried {k} {m} {given} {room} {s} {out} {o} {part} e f x =
     let lent-s = ap (λ (n : ℕ). take n s) e in

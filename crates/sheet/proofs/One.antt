@@ -7,7 +7,7 @@ use lib.Ieee.{Float}
 use Rattle.words.specs.declared.BitAddress.{BitAddress}
 use Rattle.words.proofs.One.{one-value}
 use Rattle.registers.specs.declared.Registers.{Registers}
-use Rattle.port_spec.specs.Runs.{Machine}
+use Rattle.port_spec.specs.Sequences.{Machine}
 use Rattle.sheet_spec.specs.declared.Sheet.{Sheet}
 use Rattle.sheet.specs.Parts.{ReadTicks, TookTicks, ReadTable}
 use Rattle.sheet.specs.declared.TicksRead.{TicksRead}

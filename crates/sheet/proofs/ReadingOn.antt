@@ -5,7 +5,7 @@ use mathlib.Core.Bool.{Bool, _||_, or-assoc, or-false}
 use mathlib.Core.List.{List, [], _∷_, _++_, map-append}
 use lib.ListN.{length}
 use Rattle.port_spec.specs.Host.{Accessed}
-use Rattle.port_spec.specs.Runs.{Machine, words-in, answer-of, after, answers, ends}
+use Rattle.port_spec.specs.Sequences.{Machine, words-in, answer-of, after, answers, ends}
 use Rattle.port_spec.specs.Table.{reading}
 use Rattle.port_spec.specs.declared.Access.the-variants.{Read}
 use Rattle.port_spec.specs.declared.Answer.{Answer}

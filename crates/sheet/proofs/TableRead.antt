@@ -11,14 +11,14 @@ use borrow.Author.Tests.{eq-eqb, ne-eqb}
 use Rattle.words.specs.declared.BitAddress.{BitAddress}
 use Rattle.registers.specs.declared.Registers.{Registers}
 use Rattle.port_spec.specs.Host.{Accessed}
-use Rattle.port_spec.specs.Runs.{Machine, machine, answer-of, after, answers, ends}
+use Rattle.port_spec.specs.Sequences.{Machine, machine, answer-of, after, answers, ends}
 use Rattle.port_spec.specs.Table.{loading, loaded, reading}
 use Rattle.port_spec.specs.declared.Access.the-variants.{Read}
 use Rattle.port_spec.specs.declared.Answer.{Answer}
 use Rattle.port_spec.specs.declared.Outcome.{Outcome}
 use Rattle.port_spec.proofs.DataRegister.{read-keeps-memory}
 use Rattle.port_spec.proofs.Joined.{ends-join}
-use Rattle.sheet_spec.specs.Reading.{whole, told}
+use Rattle.sheet_spec.specs.Reading.{whole, table-read}
 use Rattle.sheet_spec.specs.Sheet.{count-refusal, or-else, count-number, read-number, made, read-sheet, read-list, refused-sheet}
 use Rattle.sheet_spec.specs.declared.Sheet.{Sheet}
 use Rattle.sheet_spec.proofs.CountWord.{count-is}
@@ -32,7 +32,7 @@ module _ (s : Machine) (a : BitAddress) (n : ℕ) where
   next = after (loaded s a) (Read 2 3)
 
   number-is : read-number whole s a n ≡ or-else (count-number whole s a n) (ticks-number next n)
-  unfolding told answers reading read-number ticks-number
+  unfolding table-read answers reading read-number ticks-number
   number-is = refl
 
   -- the accesses, where the count is wrong and where it is right
@@ -76,7 +76,7 @@ module _ (s : Machine) (a : BitAddress) (n : ℕ) where
     -- A count that is right: what the ticks leave.
     pub count-right : number ≡ 0 → {rule : ℕ} {l : List Float} {p : Sheet} {m″ : List ℕ} {l′ : List Float} →
         TookTicks (machine (o .registers) m′) rule n l p m″ l′ → ReadTable s a rule n l p m″ l′
-    unfolding told answers reading read-sheet read-list ticks-sheet ticks-list
+    unfolding table-read answers reading read-sheet read-list ticks-sheet ticks-list
     count-right h {rule} {l} t =
         let yes = eq-eqb (count-number whole s a n) 0 (sym judged ∙ h) in
         let same : read-number whole s a n ≡ ticks-number next n = number-is ∙ rw yes in

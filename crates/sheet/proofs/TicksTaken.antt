@@ -7,7 +7,7 @@ use mathlib.Core.Logic.{_≢_}
 use lib.Ieee.{Float}
 use lib.ListN.{length, getD}
 use borrow.Author.Tests.{eq-eqb, ne-eqb}
-use Rattle.port_spec.specs.Runs.{Machine}
+use Rattle.port_spec.specs.Sequences.{Machine}
 use Rattle.tempo_spec.specs.Tempo.{with-times}
 use Rattle.sheet_spec.specs.Sheet.{ticks-refusal, refused-sheet}
 use Rattle.sheet_spec.proofs.Rising.{rises, none-before-first}

@@ -11,7 +11,7 @@ use lib.Dec.{eqb}
 use lib.Ieee.{Float}
 use lib.ListN.{getD}
 use Rattle.words.specs.declared.BitAddress.{BitAddress}
-use Rattle.port_spec.specs.Runs.{Machine, machine, answers, ends, words-in}
+use Rattle.port_spec.specs.Sequences.{Machine, machine, answers, ends, words-in}
 use Rattle.port_spec.specs.Table.{reading}
 use Rattle.tempo_spec.specs.Tempo.{with-times}
 use Rattle.sheet_spec.specs.Reading.{whole, any-hollow}

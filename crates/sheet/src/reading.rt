@@ -2,7 +2,7 @@
 ghost use mathlib.Core.Path.{_≡_};
 ghost use lib.ListN.{length};
 ghost use Rattle.port_spec.specs.declared.Access.the-variants.{Write};
-ghost use Rattle.port_spec.specs.Runs.{machine, after};
+ghost use Rattle.port_spec.specs.Sequences.{machine, after};
 ghost use Rattle.port_spec.specs.Table.{loaded};
 ghost use Rattle.sheet.specs.Parts.{ReadTicks};
 use crate::TicksRead;

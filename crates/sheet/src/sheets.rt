@@ -2,7 +2,7 @@
 ghost use mathlib.Core.Path.{_≡_};
 ghost use Prim.Native.Nat.{_≤_};
 ghost use lib.ListN.{length};
-ghost use Rattle.port_spec.specs.Runs.{machine};
+ghost use Rattle.port_spec.specs.Sequences.{machine};
 ghost use Rattle.sheet_spec.specs.Sheet.{refused-sheet, Struck};
 ghost use Rattle.sheet.specs.Parts.{TookTicks, ReadTable};
 use crate::judging::count_strokes;

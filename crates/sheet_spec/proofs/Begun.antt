@@ -10,7 +10,7 @@ use borrow.Author.Tests.{ltb-false, le-ltb}
 use Rattle.words.specs.Bytes.{bit}
 use Rattle.words.specs.Memory.{over-limit}
 use Rattle.control.specs.Control.{incr}
-use Rattle.port_spec.specs.Runs.{Machine}
+use Rattle.port_spec.specs.Sequences.{Machine}
 use Rattle.sheet_spec.specs.InPlainWords.{time, Begins}
 use Rattle.sheet_spec.specs.Sheet.{unknown-rule, out-of-range, strokes-of, refusal-before, number-before}
 use Rattle.sheet_spec.specs.declared.TimeStruck.{TimeStruck}

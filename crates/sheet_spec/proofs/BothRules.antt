@@ -12,7 +12,7 @@ use borrow.Author.Tests.{eq-eqb, ne-eqb, lt-ltb, le-ltb}
 use Rattle.words.specs.declared.BitAddress.{BitAddress}
 use Rattle.words.proofs.Choices.{same-or-not}
 use Rattle.registers.specs.declared.Registers.{Registers}
-use Rattle.port_spec.specs.Runs.{Machine}
+use Rattle.port_spec.specs.Sequences.{Machine}
 use Rattle.sheet_spec.specs.InPlainWords.{Begins}
 use Rattle.sheet_spec.specs.Reading.{Way, whole}
 use Rattle.sheet_spec.specs.Sheet.{unknown-rule, strokes-of, refusal-before, number-before, read-number, read-sheet, refused-sheet}

@@ -6,17 +6,17 @@ use mathlib.Core.Path.{_≡_}
 use mathlib.Core.List.{List}
 use lib.Ieee.{Float}
 use Rattle.words.specs.declared.BitAddress.{BitAddress}
-use Rattle.port_spec.specs.Runs.{Machine}
+use Rattle.port_spec.specs.Sequences.{Machine}
 use Rattle.port_spec.specs.Table.{loading}
 use Rattle.port_spec.proofs.Alike.{answers-alike, ends-alike}
-use Rattle.sheet_spec.specs.Reading.{whole, by-bytes, told}
+use Rattle.sheet_spec.specs.Reading.{whole, by-bytes, table-read}
 use Rattle.sheet_spec.specs.Sheet.{strokes-of, made, read-number, read-sheet, read-list, sheet-of, list-after}
 use Rattle.sheet_spec.specs.declared.TimeStruck.{TimeStruck}
 
 module _ (s : Machine) (a : BitAddress) (n : ℕ) where
   -- The reader is told the same.
-  pub told-alike : told by-bytes s a n ≡ told whole s a n
-  unfolding told
+  pub told-alike : table-read by-bytes s a n ≡ table-read whole s a n
+  unfolding table-read
   told-alike = rw (ends-alike s (loading (s .registers .control) a), answers-alike _ _)
 
   -- It makes the same accesses, each of them in its way.

@@ -7,11 +7,11 @@ use mathlib.Core.Logic.{⊎-elim, _≢_}
 use borrow.Author.Tests.{ne-eqb}
 use Rattle.words.specs.declared.BitAddress.{BitAddress}
 use Rattle.words.proofs.Choices.{same-or-not}
-use Rattle.port_spec.specs.Runs.{Machine, answer-of, answers}
+use Rattle.port_spec.specs.Sequences.{Machine, answer-of, answers}
 use Rattle.port_spec.specs.Table.{loaded, reading}
 use Rattle.port_spec.specs.declared.Access.the-variants.{Read}
 use Rattle.port_spec.specs.declared.Answer.{Answer}
-use Rattle.sheet_spec.specs.Reading.{whole, told, any-hollow}
+use Rattle.sheet_spec.specs.Reading.{whole, table-read, any-hollow}
 use Rattle.sheet_spec.specs.Sheet.{count-refusal, count-number, read-number}
 
 one-count : (hollow : Bool) (word m n : ℕ) → count-refusal m hollow word ≡ 0 → m ≢ n → count-refusal n hollow word ≡ 43
@@ -30,7 +30,7 @@ module _ (s : Machine) (a : BitAddress) where
 
   -- That answer is judged.
   pub count-is : (n : ℕ) → count-number whole s a n ≡ count-refusal n (counted .hollow) (counted .word)
-  unfolding told answers reading any-hollow
+  unfolding table-read answers reading any-hollow
   count-is n = ap (λ (b : Bool). count-refusal n b (counted .word)) (or-false (counted .hollow))
 
   -- A count that is right for m strokes is wrong for any other number of them, whatever the ticks are.

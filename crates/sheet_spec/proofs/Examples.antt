@@ -10,13 +10,13 @@ use Rattle.words.specs.Memory.{fetch-at}
 use Rattle.control.specs.Control.{bare, closes, fetches}
 use Rattle.registers.specs.declared.Registers.{Registers}
 use Rattle.registers.specs.Registers.{register-word, half-written, written}
-use Rattle.port_spec.specs.Cycle.{stepped, mark, after-fetch, carried, memory-after}
+use Rattle.port_spec.specs.Cycle.{stepped, cycle-of, after-fetch, carried, memory-after}
 use Rattle.port_spec.specs.Host.{read-due, write-due, begin-access, refusal, done, access, access-memory}
-use Rattle.port_spec.specs.Runs.{Machine, answer-of, after, answers, ends}
+use Rattle.port_spec.specs.Sequences.{Machine, answer-of, after, answers, ends}
 use Rattle.port_spec.specs.Table.{loading, reading}
 use Rattle.tempo_spec.specs.Tempo.{double, even-time, even-times}
 use Rattle.sheet_spec.specs.InPlainWords.{time}
-use Rattle.sheet_spec.specs.Reading.{whole, told, any-hollow, rising}
+use Rattle.sheet_spec.specs.Reading.{whole, table-read, any-hollow, rising}
 use Rattle.sheet_spec.specs.Sheet.{unknown-rule, out-of-range, strokes-of, refusal-before, count-refusal, ticks-refusal}
 use Rattle.sheet_spec.specs.Sheet.{read-number, made, read-sheet, read-list, refused-sheet, sheet-of, list-after}
 use Rattle.sheet_spec.specs.declared.TimeStruck.{TimeStruck}
@@ -62,9 +62,9 @@ pub record Sheets : Type 0 where
 -- These eight come out so.
 pub eight-sheets : Sheets
 unfolding
-    bit takes-low takes-high are-lanes lay fetch-at bare closes fetches register-word half-written written stepped mark after-fetch
+    bit takes-low takes-high are-lanes lay fetch-at bare closes fetches register-word half-written written stepped cycle-of after-fetch
     carried memory-after read-due write-due begin-access refusal done access access-memory answer-of after answers ends loading reading
-    even-time even-times ofInt add mul div told any-hollow rising unknown-rule out-of-range strokes-of refusal-before count-refusal
+    even-time even-times ofInt add mul div table-read any-hollow rising unknown-rule out-of-range strokes-of refusal-before count-refusal
     ticks-refusal read-number made read-sheet read-list sheet-of list-after
 eight-sheets =
     record {

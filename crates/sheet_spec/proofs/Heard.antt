@@ -15,11 +15,11 @@ use Rattle.words.specs.declared.BitAddress.{BitAddress}
 use Rattle.words.proofs.Addresses.{step-next}
 use Rattle.words.proofs.Choices.{less-or-not}
 use Rattle.control.specs.Control.{incr}
-use Rattle.port_spec.specs.Runs.{Machine, words-in}
+use Rattle.port_spec.specs.Sequences.{Machine, words-in}
 use Rattle.port_spec.specs.Table.{Memory, hand, handed, table, Lies}
 use Rattle.port_spec.proofs.Handed.{reads-hand}
 use Rattle.sheet_spec.specs.InPlainWords.{count-word, tick}
-use Rattle.sheet_spec.specs.Reading.{whole, told, any-hollow}
+use Rattle.sheet_spec.specs.Reading.{whole, table-read, any-hollow}
 use Rattle.sheet_spec.specs.Sheet.{count-refusal, heard, ticks-heard, count-number}
 
 -- ---- answers that hand memory out from b on
@@ -72,7 +72,7 @@ module _ (m : List ℕ) (k : length m ≤ 32768) where
 module _ (s : Machine) (k : Memory (s .memory)) (i : incr (s .registers .control) ≡ true) (a : BitAddress) (h : a .0 < 2 ^ 32) (n : ℕ) where
   -- The reader is told what memory has from the table's address on.
   pub heard-is : heard whole s a n ≡ handed (s .memory) a (suc n)
-  unfolding told
+  unfolding table-read
   heard-is = reads-hand s k i a h (suc n)
 
   -- A count word that is not in memory is refused.

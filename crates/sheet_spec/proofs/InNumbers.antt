@@ -7,7 +7,7 @@ use mathlib.Core.Logic.{inl, inr, _↔_}
 use lib.ListN.{length, getD}
 use Rattle.words.specs.declared.BitAddress.{BitAddress}
 use Rattle.control.specs.Control.{incr}
-use Rattle.port_spec.specs.Runs.{Machine}
+use Rattle.port_spec.specs.Sequences.{Machine}
 use Rattle.sheet_spec.specs.InPlainWords.{KnownRule, time, Begins, Rises, Complete}
 use Rattle.sheet_spec.specs.Reading.{whole}
 use Rattle.sheet_spec.specs.Sheet.{strokes-of, sheet-of}

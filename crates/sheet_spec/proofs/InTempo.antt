@@ -10,7 +10,7 @@ use lib.Dec.{T}
 use lib.Ieee.{Float, le}
 use lib.ListN.{length, getD}
 use Rattle.words.specs.declared.BitAddress.{BitAddress}
-use Rattle.port_spec.specs.Runs.{Machine}
+use Rattle.port_spec.specs.Sequences.{Machine}
 use Rattle.tempo_spec.specs.Tempo.{double, even-time}
 use Rattle.tempo_spec.proofs.EvenTempo.{EvenTempo, even-tempo}
 use Rattle.tempo_spec.proofs.Times.{struck-place, rest-stays, struck-length}

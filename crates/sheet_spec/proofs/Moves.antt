@@ -14,13 +14,13 @@ use Rattle.words.specs.declared.BitAddress.{BitAddress}
 use Rattle.words.proofs.Choices.{either-way, same-or-not}
 use Rattle.registers.specs.declared.Registers.{Registers}
 use Rattle.port_spec.specs.Cycle.{standing}
-use Rattle.port_spec.specs.Runs.{Machine, answers, ends}
+use Rattle.port_spec.specs.Sequences.{Machine, answers, ends}
 use Rattle.port_spec.specs.declared.Answer.{Answer}
 use Rattle.port_spec.specs.Table.{loading, loaded, stands, reading, on-by}
 use Rattle.port_spec.proofs.Handed.{on-by-gains, reads-leave}
 use Rattle.port_spec.proofs.Joined.{ends-join, answers-join, reads-front}
 use Rattle.sheet_spec.specs.InPlainWords.{Passed-in, Begins, count-word}
-use Rattle.sheet_spec.specs.Reading.{Way, whole, told, rising}
+use Rattle.sheet_spec.specs.Reading.{Way, whole, table-read, rising}
 use Rattle.sheet_spec.specs.Sheet.{strokes-of, count-refusal, ticks-refusal, number-before, count-number}
 use Rattle.sheet_spec.specs.Sheet.{heard, words-read, made, read-number, read-sheet, sheet-of}
 use Rattle.sheet_spec.specs.declared.Sheet.{Sheet}
@@ -81,7 +81,7 @@ no-more s a n = ⊎-elim (λ e. rw e (omega arith)) (λ e. rw e (omega arith)) (
 pub answers-judged : (s : Machine) (a : BitAddress) (n : ℕ) →
     answers s (made whole s a n) ≡
     answers s (loading (s .registers .control) a) ++ take (words-read whole s a n) (heard whole s a n)
-unfolding made told
+unfolding made table-read
 answers-judged s a n =
     answers-join s (loading (s .registers .control) a) (reading (words-read whole s a n)) ∙
     ap (λ (l : List Answer). answers s (loading (s .registers .control) a) ++ l)

@@ -13,7 +13,7 @@ use Rattle.words.specs.Addresses.{word-at}
 use Rattle.words.specs.declared.BitAddress.{BitAddress}
 use Rattle.words.proofs.Choices.{either-way, less-or-not, same-or-not}
 use Rattle.control.specs.Control.{incr}
-use Rattle.port_spec.specs.Runs.{Machine}
+use Rattle.port_spec.specs.Sequences.{Machine}
 use Rattle.port_spec.specs.Table.{Memory, Lies}
 use Rattle.sheet_spec.specs.InPlainWords.{Passed-in, KnownRule, InRange, Begins, count-word, Rises, Falls, Complete}
 use Rattle.sheet_spec.specs.InPlainWords.{Verdict, too-long, no-such-rule, no-such-time, list-short, not-stepping}

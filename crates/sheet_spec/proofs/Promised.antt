@@ -9,7 +9,7 @@ use Rattle.words.specs.Addresses.{word-at}
 use Rattle.words.specs.declared.BitAddress.{BitAddress}
 use Rattle.registers.specs.declared.Registers.{Registers}
 use Rattle.port_spec.specs.Cycle.{standing}
-use Rattle.port_spec.specs.Runs.{machine, ends}
+use Rattle.port_spec.specs.Sequences.{machine, ends}
 use Rattle.port_spec.specs.Table.{on-by}
 use Rattle.sheet_spec.specs.InPlainWords.{Passed-in, KnownRule, Begins, count-word, Rises, Complete, Verdict}
 use Rattle.sheet_spec.specs.Reading.{whole, by-bytes}

@@ -14,7 +14,7 @@ use Rattle.words.specs.Addresses.{word-at}
 use Rattle.words.specs.Memory.{AreWords}
 use Rattle.words.specs.declared.BitAddress.{BitAddress}
 use Rattle.port_spec.specs.Cycle.{standing}
-use Rattle.port_spec.specs.Runs.{Machine, machine}
+use Rattle.port_spec.specs.Sequences.{Machine, machine}
 use Rattle.registers.specs.declared.Registers.{Registers}
 use Rattle.tempo_spec.specs.Tempo.{with-times}
 use Rattle.sheet_spec.specs.InPlainWords.{Passed-in, Begins, count-word, tick, Rises, Complete}

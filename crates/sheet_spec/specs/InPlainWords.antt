@@ -22,7 +22,7 @@ use Rattle.words.specs.Addresses.{word-at}
 use Rattle.words.specs.Memory.{AreWords}
 use Rattle.words.specs.declared.BitAddress.{BitAddress}
 use Rattle.control.specs.Control.{incr}
-use Rattle.port_spec.specs.Runs.{Machine}
+use Rattle.port_spec.specs.Sequences.{Machine}
 use Rattle.port_spec.specs.Table.{Lies}
 use Rattle.sheet_spec.specs.Sheet.{strokes-of}
 use Rattle.sheet_spec.specs.declared.TimeStruck.{TimeStruck}

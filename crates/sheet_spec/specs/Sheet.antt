@@ -26,11 +26,11 @@ use Rattle.words.specs.Memory.{over-limit}
 use Rattle.words.specs.declared.BitAddress.{BitAddress}
 use Rattle.control.specs.Control.{incr}
 use Rattle.registers.specs.declared.Registers.{Registers}
-use Rattle.port_spec.specs.Runs.{Machine, machine, Sixteen, words-in}
+use Rattle.port_spec.specs.Sequences.{Machine, machine, Sixteen, words-in}
 use Rattle.port_spec.specs.Table.{loading, reading}
 use Rattle.port_spec.specs.declared.Answer.{Answer}
 use Rattle.tempo_spec.specs.Tempo.{with-times}
-use Rattle.sheet_spec.specs.Reading.{Way, whole, told, any-hollow, rising}
+use Rattle.sheet_spec.specs.Reading.{Way, whole, table-read, any-hollow, rising}
 use Rattle.sheet_spec.specs.declared.Sheet.{Sheet}
 use Rattle.sheet_spec.specs.declared.TimeStruck.{TimeStruck}
 
@@ -75,7 +75,7 @@ or-else n m = cond (eqb n 0) m n
 module _ (w : Way) (s : Machine) (a : BitAddress) (n : ℕ) where
   -- as if every tick were read: of a count that is refused only the first answer is looked at
   abbrev pub heard : List Answer
-  heard = told w s a n
+  heard = table-read w s a n
 
   abbrev pub ticks-heard : List ℕ
   ticks-heard = drop 1 (words-in heard)

@@ -8,7 +8,7 @@ use Rattle.words.specs.Addresses.{address}
 use Rattle.words.specs.Memory.{store-at}
 use Rattle.sheet_spec.specs.InPlainWords.{time}
 use Rattle.sheet_trial.specs.Record.{number, registers-in, table-in, rule-in, time-in}
-use Rattle.sheet_trial.specs.Carried.{laid}
+use Rattle.sheet_trial.specs.CarriedOut.{laid}
 
 -- n numbers from k on
 abbrev counting : ℕ → ℕ → List ℕ

@@ -9,13 +9,13 @@ use Rattle.words.specs.Lent.{lent, given-back}
 use Rattle.words.specs.declared.BitAddress.{BitAddress}
 use Rattle.words.proofs.Lent.{lent-is, back-is, unchanged}
 use Rattle.registers.specs.declared.Registers.{Registers}
-use Rattle.port_spec.specs.Runs.{machine}
+use Rattle.port_spec.specs.Sequences.{machine}
 use Rattle.sheet_spec.specs.Reading.{whole}
 use Rattle.sheet_spec.specs.Sheet.{sheet-of, list-after, Struck}
 use Rattle.sheet_spec.specs.declared.Sheet.{Sheet}
 use Rattle.sheet_spec.specs.declared.TimeStruck.{TimeStruck}
 use Rattle.sheet_trial.specs.Record.{number, registers-in, table-in, rule-in, time-in}
-use Rattle.sheet_trial.specs.Carried.{laid, list-lent, sheet-from, list-from, Carried}
+use Rattle.sheet_trial.specs.CarriedOut.{laid, list-lent, sheet-from, list-from, CarriedOut}
 
 -- What the code has in hand for the record b: the room with its words, how much of it and of the list it lends, and what it calls with.
 pub record Ready (b room room₁ : List ℕ) (list : List Float) (m n : ℕ)
@@ -39,7 +39,7 @@ module _ {b room room₁ : List ℕ} {list : List Float} {m n : ℕ} {r : Regist
   -- The sheet of the lent parts, which then come back, is what the record asks for.
   pub carried : {o : Sheet} {m′ : List ℕ} {l′ : List Float} →
       Struck r (take (m - 0) room₁) a rule t (take (n - 0) list) o m′ l′ →
-      Carried b room list o (putMid 0 (m - 0) room₁ m′) (putMid 0 (n - 0) list l′)
+      CarriedOut b room list o (putMid 0 (m - 0) room₁ m′) (putMid 0 (n - 0) list l′)
   unfolding sheet-from list-from
   carried {o} {m′} {l′} s =
       let lent-list =

@@ -1,5 +1,5 @@
 -- ---- one record
 pub mod Record
-pub mod Carried
+pub mod CarriedOut
 -- ---- one after another
-pub mod Runs
+pub mod Records

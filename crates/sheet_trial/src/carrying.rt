@@ -1,6 +1,6 @@
 // A record of a script, carried out.
 ghost use mathlib.Core.Path.{_≡_};
-ghost use Rattle.sheet_trial.specs.Carried.{laid, Carried};
+ghost use Rattle.sheet_trial.specs.CarriedOut.{laid, CarriedOut};
 use crate::reading::number_at;
 use crate::reading::registers_of;
 use crate::reading::rule_of;
@@ -27,7 +27,7 @@ fn lay_words(room: &mut [u16], bytes: &[u8; 108])
 
 // One record. What is lent of the room and of the list is their first places, as many as the record says.
 pub(crate) fn carry_out(room: &mut [u16], list: &mut [f64], bytes: &[u8; 108]) -> Sheet
-    ensures { λ o. ⌜ Carried (now (bytes .entry)) (now (room .entry)) (now (list .entry)) o (now (room .exit)) (now (list .exit)) ⌝ }
+    ensures { λ o. ⌜ CarriedOut (now (bytes .entry)) (now (room .entry)) (now (list .entry)) o (now (room .exit)) (now (list .exit)) ⌝ }
 {
     lay_words(room, bytes);
     let start = 0;

@@ -1,11 +1,11 @@
 // Reading the script, a record at a time.
-ghost use Rattle.sheet_trial.specs.Runs.{TookTurn, Ran};
+ghost use Rattle.sheet_trial.specs.Records.{StruckTurn, Ran};
 use crate::carrying::carry_out;
 use crate::printing::print_sheet;
 
 // Reads a record, carries it out and prints its line. Answers whether there may be more.
 fn take_turn(room: &mut [u16], list: &mut [f64]) -> bool
-    ensures { λ more. ⌜ TookTurn (now (room .entry)) (now (list .entry)) more (now (room .exit)) (now (list .exit)) ⌝ }
+    ensures { λ more. ⌜ StruckTurn (now (room .entry)) (now (list .entry)) more (now (room .exit)) (now (list .exit)) ⌝ }
 {
     let mut bytes = [0u8; 108];
     let got = io::read_full(0, &mut bytes);

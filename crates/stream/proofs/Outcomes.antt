@@ -14,7 +14,7 @@ use Rattle.transcript_spec.proofs.HowFar.{goes-further}
 use Rattle.transcript_scan.specs.Scan.{read-on, scanned-on}
 use Rattle.transcript_scan.specs.declared.scanning.ScannedOn.{ScannedOn}
 use Rattle.stream_spec.specs.InPlainWords.{ended-before, too-long, too-small}
-use Rattle.stream_spec.specs.Stream.{heard, streamed, told, end-told, end-answer, TookDelivery}
+use Rattle.stream_spec.specs.Stream.{heard, streamed, answered, end-answered, end-answer, TookDelivery}
 use Rattle.stream_spec.specs.declared.Stream.{Stream}
 use Rattle.stream_spec.specs.declared.Streamed.{Streamed}
 use Rattle.stream_spec.proofs.Outcomes.{takes-in, comes-exactly}
@@ -59,7 +59,7 @@ module _ (st : Stream) (s : List ℕ) where
       taken-in h p e =
           let fits : length (heard st s .got) ≤ size l = omega (arith, entries-found) in
           alike (takes-in st s l still short fits)
-          (e ∙ ap (told-of st) found ∙ ap told (sym heard-found))
+          (e ∙ ap (told-of st) found ∙ ap answered (sym heard-found))
           (p ∙ ap (λ (r : Reading). with-each l 0 (r .got)) (sym heard-found) ∙ each-fits (heard st s .got) l fits)
 
 -- ---- the end
@@ -69,5 +69,5 @@ module _ (st : Stream) {o : Streamed} where
   end-refused z e = e ∙ sym (ends-by st z)
 
   -- Any other ends, with the refusal of its part.
-  pub end-taken : st .ended ≡ false → o ≡ end-told st → o ≡ end-answer st
+  pub end-taken : st .ended ≡ false → o ≡ end-answered st → o ≡ end-answer st
   end-taken z e = e ∙ sym (ends-by st z)

@@ -12,7 +12,7 @@ use Rattle.transcript_spec.specs.Format.{transcript-of}
 use Rattle.transcript_spec.specs.InPlainWords.{first-places, AllGood, Sound}
 use Rattle.transcript_spec.specs.Lists.{Lists, size, columns}
 use Rattle.transcript_spec.specs.Reading.{Reading, ended, entries-read, place-read, refusal-read, read-answer, ReadTranscript}
-use Rattle.transcript_spec.specs.Writing.{refused, accepted, fitting}
+use Rattle.transcript_spec.specs.Writing.{refused, accepted, accepted-if-fits}
 use Rattle.transcript_spec.specs.declared.Entry.{Entry}
 use Rattle.transcript_spec.specs.declared.Transcribed.{Transcribed}
 use Rattle.transcript_spec.proofs.Divided.{Divided, all-good, then-bad, divided}
@@ -65,8 +65,8 @@ unfolding read-answer
 number-and-place s room fits = either (eqb (refusal-read s) 0) refl
   where
     either : (t : Bool) → eqb (refusal-read s) 0 ≡ t →
-        (cond t (fitting (length (entries-read s)) room) (refused (refusal-read s) (place-read s)) .number ≡ refusal-read s)
-        × (cond t (fitting (length (entries-read s)) room) (refused (refusal-read s) (place-read s)) .place ≡ cond t 0 (place-read s))
+        (cond t (accepted-if-fits (length (entries-read s)) room) (refused (refusal-read s) (place-read s)) .number ≡ refusal-read s)
+        × (cond t (accepted-if-fits (length (entries-read s)) room) (refused (refusal-read s) (place-read s)) .place ≡ cond t 0 (place-read s))
     either true e =
         let few = le-ltb room (length (entries-read s)) (fits (eqb-true (refusal-read s) 0 e)) in
         let a = ap (λ (b : Bool). cond b (refused 24 0) (accepted (length (entries-read s)))) few in

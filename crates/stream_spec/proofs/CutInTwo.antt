@@ -17,7 +17,7 @@ use Rattle.transcript_spec.proofs.HowFar.{EarlyRefusal, early-refusal, goes-fur
 use Rattle.transcript_spec.proofs.ReadingOn.{only-adds, stays-refused}
 use Rattle.stream_spec.specs.InPlainWords.{answer, Came, ended-before, too-long, too-small, taken-in, then-bad}
 use Rattle.stream_spec.specs.InPlainWords.{handed, sent-back, verdict-of, CutAlike}
-use Rattle.stream_spec.specs.Stream.{resumed, heard, standing, told, TookDelivery}
+use Rattle.stream_spec.specs.Stream.{resumed, heard, standing, answered, TookDelivery}
 use Rattle.stream_spec.specs.declared.Stream.{Stream}
 use Rattle.stream_spec.specs.declared.Streamed.{Streamed}
 use Rattle.stream_spec.proofs.One.{one-delivery}
@@ -48,7 +48,7 @@ module _ (st : Stream) (v w : List ℕ) where
 
   -- the first part has a bad record: the second is refused, and of the whole nothing more is read
   stops-in-the-first : heard st v .refusal ≢ 0 → (l k₁ k₂ : Lists) →
-      CutAlike (told (heard st (v ++ w))) (with-entries (heard st (v ++ w) .got) l) (told (heard st v)) (with-entries (heard st v .got) k₁)
+      CutAlike (answered (heard st (v ++ w))) (with-entries (heard st (v ++ w) .got) l) (answered (heard st v)) (with-entries (heard st v .got) k₁)
       (answer 25 0 0 (standing (heard st v))) k₂
   unfolding verdict-of
   stops-in-the-first d l k₁ k₂ =
@@ -71,8 +71,8 @@ module _ (st : Stream) (v w : List ℕ) where
 
   -- the first part has none: the second is read on from there
   goes-on-in-the-second : heard st v .refusal ≡ 0 → (l k₁ k₂ : Lists) →
-      CutAlike (told (heard st (v ++ w))) (with-entries (heard st (v ++ w) .got) l) (told (heard st v)) (with-entries (heard st v .got) k₁)
-      (told (heard (standing (heard st v)) w)) (with-entries (heard (standing (heard st v)) w .got) k₂)
+      CutAlike (answered (heard st (v ++ w))) (with-entries (heard st (v ++ w) .got) l) (answered (heard st v)) (with-entries (heard st v .got) k₁)
+      (answered (heard (standing (heard st v)) w)) (with-entries (heard (standing (heard st v)) w .got) k₂)
   goes-on-in-the-second z l k₁ k₂ =
       let first = heard st v in
       let second = heard (standing first) w in
@@ -81,13 +81,13 @@ module _ (st : Stream) (v w : List ℕ) where
       record {
         stream = ap standing (sym more);
         entries =
-            ap (λ (es : List Entry). es ++ handed (told second) (with-entries (second .got) k₂)) (handed-all first k₁) ∙
+            ap (λ (es : List Entry). es ++ handed (answered second) (with-entries (second .got) k₂)) (handed-all first k₁) ∙
             ap (λ (es : List Entry). first .got ++ es) (handed-all second k₂) ∙
             sym (ap (λ (r : Reading). r .got) more) ∙
             sym (handed-all (heard st (v ++ w)) l);
         refusal =
-            early-verdict first first-early (told second ∷ []) ∙
-            ap (λ (b : Bool). cond b (verdict-of (told second ∷ [])) (verdict (first .refusal) (first .from))) (eq-eqb (first .refusal) 0 z) ∙
+            early-verdict first first-early (answered second ∷ []) ∙
+            ap (λ (b : Bool). cond b (verdict-of (answered second ∷ [])) (verdict (first .refusal) (first .from))) (eq-eqb (first .refusal) 0 z) ∙
             early-verdict second second-early [] ∙
             ap (λ (r : Reading). or-else (verdict (r .refusal) (r .from)) (verdict-of [])) (sym more) ∙
             sym (early-verdict (heard st (v ++ w)) whole-early []);
@@ -141,10 +141,10 @@ module _ {st : Stream} {v w : List ℕ} {l l′ k₁ k₁′ k₂ k₂′ : List
 
   -- a stream that goes on: each of the three is read, but the second part not behind a bad record in the first
   module _ (z : st .ended ≡ false) (x : Read st (v ++ w) l) (y : Read st v k₁) where
-    whole-told : (told (heard st (v ++ w)) ≡ o) × (with-entries (heard st (v ++ w) .got) l ≡ l′)
+    whole-told : (answered (heard st (v ++ w)) ≡ o) × (with-entries (heard st (v ++ w) .got) l ≡ l′)
     whole-told = one-delivery (takes-in st (v ++ w) l z (x .short) (x .fits)) p
 
-    first-told : (told (heard st v) ≡ o₁) × (with-entries (heard st v .got) k₁ ≡ k₁′)
+    first-told : (answered (heard st v) ≡ o₁) × (with-entries (heard st v .got) k₁ ≡ k₁′)
     first-told = one-delivery (takes-in st v k₁ z (y .short) (y .fits)) p₁
 
     then-second : TookDelivery (standing (heard st v)) w k₂ o₂ k₂′

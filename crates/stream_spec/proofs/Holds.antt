@@ -2,12 +2,12 @@
 use mathlib.Core.Path.{_≡_, refl}
 use mathlib.Core.List.{map}
 use Rattle.transcript_spec.specs.Lists.{entries-from}
-use Rattle.transcript_spec.specs.Reading.{with-group, head-read, word-read, step, feed, feeds}
+use Rattle.transcript_spec.specs.Reading.{with-group, head-read, word-read, byte-taken, feed, feeds}
 use Rattle.stream_spec.specs.Stream.{barred, delivery-answer, lists-after, end-answer}
-use Rattle.stream_spec.specs.Table.{worked, cuts, bad, small, ended, limit, made, table}
+use Rattle.stream_spec.specs.Examples.{worked, cuts, bad, small, after-the-end, limit, made-up, examples}
 
-pub table-holds : map worked table ≡ table
+pub examples-hold : map worked examples ≡ examples
 unfolding
-    table cuts bad small ended limit made entries-from with-group head-read word-read step feed feeds barred delivery-answer lists-after
+    examples cuts bad small after-the-end limit made-up entries-from with-group head-read word-read byte-taken feed feeds barred delivery-answer lists-after
     end-answer
-table-holds = refl
+examples-hold = refl

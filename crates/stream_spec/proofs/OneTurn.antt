@@ -14,7 +14,7 @@ use Rattle.transcript_spec.proofs.HowFar.{EarlyRefusal, early-refusal}
 use Rattle.transcript_spec.proofs.ReadingOn.{stays-refused}
 use Rattle.stream_spec.specs.InPlainWords.{answer, Came, ended-before, too-long, too-small, taken-in, then-bad, handed}
 use Rattle.stream_spec.specs.InPlainWords.{sent-back, kept, Verdict, of-a-record, verdict-of}
-use Rattle.stream_spec.specs.Stream.{resumed, heard, standing, told}
+use Rattle.stream_spec.specs.Stream.{resumed, heard, standing, answered}
 use Rattle.stream_spec.specs.declared.Stream.{Stream}
 use Rattle.stream_spec.specs.declared.Streamed.{Streamed}
 use Rattle.stream_spec.proofs.Outcomes.{told-good, told-bad}
@@ -68,17 +68,17 @@ module _ (w s : List ℕ) where
 
   -- any other delivery is read on
   reads-on : (l : Lists) → read w .refusal ≡ 0 →
-      OneTurn w s (told (heard (stands-for w) s)) (with-entries (heard (stands-for w) s .got) l)
+      OneTurn w s (answered (heard (stands-for w) s)) (with-entries (heard (stands-for w) s .got) l)
   reads-on l z =
       let h = heard (stands-for w) s in
       let early : EarlyRefusal (h .refusal) = early-refusal (resumed (stands-for w)) s (inl refl) in
-      let same : w ++ kept (told h) s ≡ w ++ s = ap (λ (t : Bool). w ++ cond t [] s) (early-kept (h .refusal) early) in
-      let more : read (w ++ kept (told h) s) ≡ behind (read w .got) h = ap read same ∙ feeds-joined start w s ∙ resumes (read w) s z in
+      let same : w ++ kept (answered h) s ≡ w ++ s = ap (λ (t : Bool). w ++ cond t [] s) (early-kept (h .refusal) early) in
+      let more : read (w ++ kept (answered h) s) ≡ behind (read w .got) h = ap read same ∙ feeds-joined start w s ∙ resumes (read w) s z in
       record {
         stream = ap standing (sym more);
         entries = ap (λ (r : Reading). r .got) more ∙ ap (λ (es : List Entry). entries-read w ++ es) (sym (handed-all h l));
         refusal = λ later.
-            ap (λ (t : Bool). cond t (verdict-of (told h ∷ later)) (so-far w)) (eq-eqb (read w .refusal) 0 z) ∙
+            ap (λ (t : Bool). cond t (verdict-of (answered h ∷ later)) (so-far w)) (eq-eqb (read w .refusal) 0 z) ∙
             early-verdict h early later ∙
             ap (λ (r : Reading). or-else (verdict (r .refusal) (r .from)) (verdict-of later)) (sym more);
       }

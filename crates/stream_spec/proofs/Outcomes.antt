@@ -11,8 +11,8 @@ use borrow.Author.Tests.{lt-ltb, le-ltb, ne-eqb}
 use Rattle.words.proofs.Choices.{either-way, less-or-not}
 use Rattle.transcript_spec.specs.Lists.{Lists, size, with-entries}
 use Rattle.transcript_spec.proofs.HowFar.{EarlyRefusal, early-refusal, goes-further}
-use Rattle.stream_spec.specs.InPlainWords.{answer, after, Came, ended-before, too-long, too-small, taken-in, then-bad}
-use Rattle.stream_spec.specs.Stream.{resumed, heard, barred, told-as, told, delivery-answer, lists-after, TookDelivery}
+use Rattle.stream_spec.specs.InPlainWords.{answer, stream-after, Came, ended-before, too-long, too-small, taken-in, then-bad}
+use Rattle.stream_spec.specs.Stream.{resumed, heard, barred, answered-as, answered, delivery-answer, lists-after, TookDelivery}
 use Rattle.stream_spec.specs.declared.Stream.{Stream}
 use Rattle.stream_spec.specs.declared.Streamed.{Streamed}
 use Rattle.stream_spec.proofs.One.{one-delivery}
@@ -24,11 +24,11 @@ not-none n h = ne-eqb n 0 (λ z. omega arith)
 module _ (st : Stream) (s : List ℕ) where
   -- ---- what is told of a delivery that is looked through
 
-  pub told-good : heard st s .refusal ≡ 0 → told (heard st s) ≡ answer 0 (length (heard st s .got)) 0 (after st s false)
-  told-good z = ap (λ (k : ℕ). told-as k (heard st s)) z
+  pub told-good : heard st s .refusal ≡ 0 → answered (heard st s) ≡ answer 0 (length (heard st s .got)) 0 (stream-after st s false)
+  told-good z = ap (λ (k : ℕ). answered-as k (heard st s)) z
 
   pub told-bad : {n : ℕ} → heard st s .refusal ≡ n → 21 ≤ n →
-      told (heard st s) ≡ answer n (length (heard st s .got)) (heard st s .from) (after st s true)
+      answered (heard st s) ≡ answer n (length (heard st s .got)) (heard st s .from) (stream-after st s true)
   told-bad {n} e h = rw (e, not-none n h)
 
   module _ (l : Lists) where
@@ -37,7 +37,7 @@ module _ (st : Stream) (s : List ℕ) where
     unfolding delivery-answer lists-after
     barred-by n d b = record { answer = rw (b, d); lists = rw (b, d) }
 
-    not-barred : {o : Streamed} → barred st s (size l) ≡ 0 → told (heard st s) ≡ o →
+    not-barred : {o : Streamed} → barred st s (size l) ≡ 0 → answered (heard st s) ≡ o →
         TookDelivery st s l o (with-entries (heard st s .got) l)
     unfolding delivery-answer lists-after
     not-barred b e = record { answer = rw b (sym e); lists = rw b }
@@ -49,7 +49,7 @@ module _ (st : Stream) (s : List ℕ) where
 
     -- A delivery that no bar refuses is read, and what it hands out is put into the lists.
     pub takes-in : st .ended ≡ false → st .taken + length s ≤ 4294967295 → length (heard st s .got) ≤ size l →
-        TookDelivery st s l (told (heard st s)) (with-entries (heard st s .got) l)
+        TookDelivery st s l (answered (heard st s)) (with-entries (heard st s .got) l)
     takes-in still short fits = not-barred (passes still short fits) refl
 
     -- ---- each row of the table decides the outcome

@@ -12,7 +12,7 @@ use Rattle.transcript_spec.specs.declared.Part.{Part}
 use Rattle.transcript_spec.specs.declared.Part.the-variants.{Head, Word}
 use Rattle.transcript_spec.proofs.HowFar.{ends-good, ends-bad}
 use Rattle.stream_spec.specs.InPlainWords.{answer, shut, EndCame, already-ended, nothing-missing, number-missing, verdict-of}
-use Rattle.stream_spec.specs.Stream.{streamed, standing, place-of, end-told, end-answer}
+use Rattle.stream_spec.specs.Stream.{streamed, standing, place-of, end-answered, end-answer}
 use Rattle.stream_spec.specs.declared.Stream.{Stream}
 use Rattle.stream_spec.specs.declared.Streamed.{Streamed}
 use Rattle.stream_spec.proofs.Resumed.{open-if-good}
@@ -29,11 +29,11 @@ zero-or-20 (Word h n) = inr refl
 
 module _ (st : Stream) where
   -- By whether the stream has ended already.
-  pub ends-by : {b : Bool} → st .ended ≡ b → end-answer st ≡ cond b (streamed 25 0 0 st) (end-told st)
+  pub ends-by : {b : Bool} → st .ended ≡ b → end-answer st ≡ cond b (streamed 25 0 0 st) (end-answered st)
   unfolding end-answer
-  ends-by z = ap (λ (t : Bool). cond t (streamed 25 0 0 st) (end-told st)) z
+  ends-by z = ap (λ (t : Bool). cond t (streamed 25 0 0 st) (end-answered st)) z
 
-  told-by : {n : ℕ} → cut-off (st .part) ≡ n → end-told st ≡ answer n 0 (place-of n (st .from)) (shut st)
+  told-by : {n : ℕ} → cut-off (st .part) ≡ n → end-answered st ≡ answer n 0 (place-of n (st .from)) (shut st)
   told-by e = ap (λ (k : ℕ). answer k 0 (place-of k (st .from)) (shut st)) e
 
   row-holds : {o : Streamed} → EndCame st o → end-answer st ≡ o

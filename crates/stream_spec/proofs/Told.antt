@@ -12,7 +12,7 @@ use Rattle.transcript_spec.specs.Reading.{Reading}
 use Rattle.transcript_spec.proofs.Columns.{entries-columns, first-are-columns}
 use Rattle.transcript_spec.proofs.HowFar.{EarlyRefusal}
 use Rattle.stream_spec.specs.InPlainWords.{answer, handed, sent-back, Verdict, of-a-record, verdict-of}
-use Rattle.stream_spec.specs.Stream.{place-of, told}
+use Rattle.stream_spec.specs.Stream.{place-of, answered}
 use Rattle.stream_spec.specs.declared.Stream.{Stream}
 use Rattle.stream_spec.specs.declared.Streamed.{Streamed}
 
@@ -22,7 +22,7 @@ unfolding entries-from
 handed-none n place st l = refl
 
 -- and all entries that are counted stand in the lists.
-pub handed-all : (r : Reading) (l : Lists) → handed (told r) (with-entries (r .got) l) ≡ r .got
+pub handed-all : (r : Reading) (l : Lists) → handed (answered r) (with-entries (r .got) l) ≡ r .got
 handed-all r l = ap entries-in (first-are-columns (r .got) l) ∙ entries-columns (r .got)
 
 -- ---- a reading's refusal, which is none, or 21, 22 or 23
@@ -41,7 +41,7 @@ or-else v later = cond (eqb (v .number) 0) later v
 
 -- it is the verdict, unless it is none
 pub early-verdict : (r : Reading) → EarlyRefusal (r .refusal) → (later : List Streamed) →
-    verdict-of (told r ∷ later) ≡ or-else (verdict (r .refusal) (r .from)) (verdict-of later)
+    verdict-of (answered r ∷ later) ≡ or-else (verdict (r .refusal) (r .from)) (verdict-of later)
 unfolding verdict-of
 early-verdict r (inl z) later =
     ap

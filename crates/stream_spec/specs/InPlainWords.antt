@@ -1,7 +1,7 @@
 -- The reader of deliveries in plain words: what the laws say of it. Document 02, request (vii). Answers and ended streams are made here anew
 -- (`answer`, `shut`), so that a lie about those of the definitions is seen.
 --   answer n count place st   an answer, by its parts
---   after st s b              the stream when a delivery is read, ended or not
+--   stream-after st s b       the stream when a delivery is read, ended or not
 --   Came st s l o l′          what a delivery comes to, whatever the stream: each answer, when and only then, and the lists
 --   handed o l′               the accesses that a delivery handed out: those in the first places of its lists, as many as it says
 --   shut st                   the stream when the sender has said that nothing follows
@@ -39,8 +39,8 @@ answer n count place st = record { number = n; count = count; place = place; str
 
 -- ---- one delivery, to any stream
 
-abbrev pub after : Stream → List ℕ → Bool → Stream
-after st s ended = record { part = heard st s .part; from = heard st s .from; taken = heard st s .next; ended = ended }
+abbrev pub stream-after : Stream → List ℕ → Bool → Stream
+stream-after st s ended = record { part = heard st s .part; from = heard st s .from; taken = heard st s .next; ended = ended }
 
 pub data Came (st : Stream) (s : List ℕ) (l : Lists) : Streamed → Lists → Type 0 where
   -- "25 stream already ended"
@@ -51,11 +51,11 @@ pub data Came (st : Stream) (s : List ℕ) (l : Lists) : Streamed → Lists → 
   too-small : st .ended ≡ false → st .taken + length s ≤ 4294967295 → size l < length (heard st s .got) → Came st s l (answer 24 0 0 st) l
   -- its good records are handed out, and no record of it is bad
   taken-in : st .ended ≡ false → st .taken + length s ≤ 4294967295 → length (heard st s .got) ≤ size l → heard st s .refusal ≡ 0 →
-      Came st s l (answer 0 (length (heard st s .got)) 0 (after st s false)) (with-entries (heard st s .got) l)
+      Came st s l (answer 0 (length (heard st s .got)) 0 (stream-after st s false)) (with-entries (heard st s .got) l)
   -- "A refusal 20 to 23 still hands out the good records before it"; a delivery is never refused with 20
   then-bad : {n : ℕ} → st .ended ≡ false → st .taken + length s ≤ 4294967295 → length (heard st s .got) ≤ size l →
       heard st s .refusal ≡ n → 21 ≤ n → n ≤ 23 →
-      Came st s l (answer n (length (heard st s .got)) (heard st s .from) (after st s true)) (with-entries (heard st s .got) l)
+      Came st s l (answer n (length (heard st s .got)) (heard st s .from) (stream-after st s true)) (with-entries (heard st s .got) l)
 
 abbrev pub handed : Streamed → Lists → List Entry
 handed o l′ = entries-in (first-places (o .count) l′)

@@ -4,4 +4,4 @@ pub mod Stream
 pub mod InPlainWords
 pub mod AnyCalls
 pub mod OpenStreams
-pub mod Table
+pub mod Examples

@@ -7,10 +7,10 @@
 --   streamed n count place st  an answer, by its parts
 --   place-of n from            the place that a refusal names; without one 0
 --   standing-as n r, standing r   the stream that a reading has come to, refused with n; with its own refusal
---   told-as n r, told r        what is answered of a delivery that has come to the reading r, refused with n; with its own refusal
+--   answered-as n r, answered r  what is answered of a delivery that has come to the reading r, refused with n; with its own refusal
 --   delivery-answer st s room  what a delivery answers
 --   lists-after st s l         the lists given with it, afterwards
---   end-told st                what is answered when the sender says that nothing follows
+--   end-answered st            what is answered when the sender says that nothing follows
 --   end-answer st              what the end answers
 --   TookDelivery               these, as the contract of a delivery
 use Prim.Native.Nat.{ℕ, _+_}
@@ -63,25 +63,25 @@ abbrev pub standing : Reading → Stream
 standing r = standing-as (r .refusal) r
 
 -- "A refusal 20 to 23 still hands out the good records before it"
-abbrev pub told-as : ℕ → Reading → Streamed
-told-as n r = streamed n (length (r .got)) (place-of n (r .from)) (standing-as n r)
+abbrev pub answered-as : ℕ → Reading → Streamed
+answered-as n r = streamed n (length (r .got)) (place-of n (r .from)) (standing-as n r)
 
-abbrev pub told : Reading → Streamed
-told r = told-as (r .refusal) r
+abbrev pub answered : Reading → Streamed
+answered r = answered-as (r .refusal) r
 
 -- a delivery that is refused with 25, 26 or 24 "changes nothing"
 unfoldable pub delivery-answer : Stream → List ℕ → ℕ → Streamed
-delivery-answer st s room = cond (eqb (barred st s room) 0) (told (heard st s)) (streamed (barred st s room) 0 0 st)
+delivery-answer st s room = cond (eqb (barred st s room) 0) (answered (heard st s)) (streamed (barred st s room) 0 0 st)
 
 unfoldable pub lists-after : Stream → List ℕ → Lists → Lists
 lists-after st s l = cond (eqb (barred st s (size l)) 0) (with-entries (heard st s .got) l) l
 
 -- "A number cut off is refused only when the sender says that nothing follows"
-abbrev pub end-told : Stream → Streamed
-end-told st = streamed (cut-off (st .part)) 0 (place-of (cut-off (st .part)) (st .from)) (closed st)
+abbrev pub end-answered : Stream → Streamed
+end-answered st = streamed (cut-off (st .part)) 0 (place-of (cut-off (st .part)) (st .from)) (closed st)
 
 unfoldable pub end-answer : Stream → Streamed
-end-answer st = cond (st .ended) (streamed 25 0 0 st) (end-told st)
+end-answer st = cond (st .ended) (streamed 25 0 0 st) (end-answered st)
 
 -- what a delivery leaves: its answer, with the stream, and the lists that it was lent
 pub record TookDelivery (st : Stream) (s : List ℕ) (l : Lists) (o : Streamed) (l′ : Lists) : Type 0 where

@@ -5,12 +5,12 @@ use mathlib.Core.Path.{_≡_, refl}
 use mathlib.Core.Bool.{true, false}
 use mathlib.Core.List.{List, [], _∷_}
 use Rattle.transcript_spec.specs.Lists.{Lists, lists}
-use Rattle.transcript_spec.specs.Reading.{with-group, head-read, word-read, step, feed, feeds}
+use Rattle.transcript_spec.specs.Reading.{with-group, head-read, word-read, byte-taken, feed, feeds}
 use Rattle.transcript_spec.specs.declared.Part.the-variants.{Word}
 use Rattle.stream_spec.specs.Stream.{fresh-stream, closed, barred, streamed, delivery-answer, lists-after, end-answer}
 use Rattle.stream_spec.specs.declared.Stream.{Stream}
-use Rattle.stream_trial.specs.Record.{starts, delivers, number, started-at, string-lent, blank, lists-lent, lists-returned}
-use Rattle.stream_trial.specs.Carried.{delivered-answer, delivered-lists, answer-from, lists-from, Carried}
+use Rattle.stream_trial.specs.Record.{is-start, delivers, number, started-at, string-lent, blank, lists-lent, lists-returned}
+use Rattle.stream_trial.specs.CarriedOut.{delivered-answer, delivered-lists, answer-from, lists-from, CarriedOut}
 
 -- n numbers from k on
 abbrev counting : ℕ → ℕ → List ℕ
@@ -26,9 +26,9 @@ apart = lists (counting 10 6) (counting 20 6) (counting 30 6) (counting 40 6)
 
 pub record Says : Type 0 where
   -- "what is done, modulo 3: 0 a fresh start, 1 a delivery, 2 the end"
-  pub started : (starts own-places ≡ true) × (starts (255 ∷ []) ≡ true) × (delivers (255 ∷ []) ≡ false)
-  pub delivering : (starts (1 ∷ []) ≡ false) × (delivers (1 ∷ []) ≡ true) × (delivers (253 ∷ []) ≡ true)
-  pub ending : (starts (2 ∷ []) ≡ false) × (delivers (2 ∷ []) ≡ false) × (delivers (254 ∷ []) ≡ false)
+  pub started : (is-start own-places ≡ true) × (is-start (255 ∷ []) ≡ true) × (delivers (255 ∷ []) ≡ false)
+  pub delivering : (is-start (1 ∷ []) ≡ false) × (delivers (1 ∷ []) ≡ true) × (delivers (253 ∷ []) ≡ true)
+  pub ending : (is-start (2 ∷ []) ≡ false) × (delivers (2 ∷ []) ≡ false) × (delivers (254 ∷ []) ≡ false)
   -- "32 bits, low byte first", from byte 8 on
   pub number-held : number own-places ≡ 0x0b0a0908
   -- one byte of the string is delivered, two kinds are lent, three registers, four lanes, five words
@@ -82,23 +82,23 @@ with-first k r l w = lists (k ∷ behind) (r ∷ behind) (l ∷ behind) (w ∷ b
 
 pub record Leaves : Type 0 where
   -- a fresh start, as if five bytes had come, of a fresh stream and of one that has ended
-  pub begins : Carried fresh-stream (asking 0 0 0 0 0 0 []) blank (streamed 0 0 0 (started-at 5)) blank
-  pub begins-again : Carried (closed half-way) (asking 3 1 6 6 6 6 (0x34 ∷ [])) blank (streamed 0 0 0 (started-at 5)) blank
+  pub begins : CarriedOut fresh-stream (asking 0 0 0 0 0 0 []) blank (streamed 0 0 0 (started-at 5)) blank
+  pub begins-again : CarriedOut (closed half-way) (asking 3 1 6 6 6 6 (0x34 ∷ [])) blank (streamed 0 0 0 (started-at 5)) blank
   -- three bytes of four: the first makes an entry
   pub first-part :
-      Carried (started-at 5) (asking 1 3 1 2 3 6 (0x1E ∷ 0x1D ∷ 0xA4 ∷ 0x34 ∷ [])) blank (streamed 0 1 0 half-way) (with-first 0 3 3 0)
+      CarriedOut (started-at 5) (asking 1 3 1 2 3 6 (0x1E ∷ 0x1D ∷ 0xA4 ∷ 0x34 ∷ [])) blank (streamed 0 1 0 half-way) (with-first 0 3 3 0)
   -- the fourth, while no word can be taken: 24, and nothing moves
-  pub no-room : Carried half-way (asking 4 1 6 6 6 0 (0x34 ∷ [])) blank (streamed 24 0 0 half-way) blank
+  pub no-room : CarriedOut half-way (asking 4 1 6 6 6 0 (0x34 ∷ [])) blank (streamed 24 0 0 half-way) blank
   -- the fourth again, with room
-  pub last-part : Carried half-way (asking 4 1 6 6 6 1 (0x34 ∷ [])) blank (streamed 0 1 0 (started-at 9)) (with-first 1 2 3 0x1234)
+  pub last-part : CarriedOut half-way (asking 4 1 6 6 6 1 (0x34 ∷ [])) blank (streamed 0 1 0 (started-at 9)) (with-first 1 2 3 0x1234)
   -- the end, of all four bytes and of three
-  pub ends : Carried (started-at 9) (asking 2 1 6 6 6 6 (0x1E ∷ [])) blank (streamed 0 0 0 (closed (started-at 9))) blank
-  pub ends-half-way : Carried half-way (asking 5 1 6 6 6 6 (0x34 ∷ [])) blank (streamed 20 0 6 (closed half-way)) blank
+  pub ends : CarriedOut (started-at 9) (asking 2 1 6 6 6 6 (0x1E ∷ [])) blank (streamed 0 0 0 (closed (started-at 9))) blank
+  pub ends-half-way : CarriedOut half-way (asking 5 1 6 6 6 6 (0x34 ∷ [])) blank (streamed 20 0 6 (closed half-way)) blank
 
 -- They leave so.
 pub they-leave : Leaves
 unfolding
-    answer-from lists-from delivered-answer delivered-lists barred delivery-answer lists-after end-answer with-group head-read word-read step
+    answer-from lists-from delivered-answer delivered-lists barred delivery-answer lists-after end-answer with-group head-read word-read byte-taken
     feed feeds
 they-leave =
     record {

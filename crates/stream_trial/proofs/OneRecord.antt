@@ -11,8 +11,8 @@ use Rattle.transcript_spec.proofs.LentLists.{Lends}
 use Rattle.stream_spec.specs.Stream.{streamed, delivery-answer, lists-after, end-answer, TookDelivery}
 use Rattle.stream_spec.specs.declared.Stream.{Stream}
 use Rattle.stream_spec.specs.declared.Streamed.{Streamed}
-use Rattle.stream_trial.specs.Record.{byte, starts, delivers, number, started-at, string-lent, lists-lent, lists-returned}
-use Rattle.stream_trial.specs.Carried.{delivered-answer, delivered-lists, Delivered, answer-from, lists-from, Carried}
+use Rattle.stream_trial.specs.Record.{byte, is-start, delivers, number, started-at, string-lent, lists-lent, lists-returned}
+use Rattle.stream_trial.specs.CarriedOut.{delivered-answer, delivered-lists, Delivered, answer-from, lists-from, CarriedOut}
 
 -- ---- a delivery
 
@@ -54,16 +54,16 @@ delivered {st} {b} {s} {l} {k} {r} {n} {w} {o} {part} e y t =
 -- ---- a record, whichever of the three it is
 module _ {st : Stream} {b : List ℕ} {l : Lists} {o : Streamed} {l′ : Lists} where
   -- A fresh start leaves the lists.
-  pub by-start : starts b ≡ true → o ≡ streamed 0 0 0 (started-at (number b)) → l′ ≡ l → Carried st b l o l′
+  pub by-start : is-start b ≡ true → o ≡ streamed 0 0 0 (started-at (number b)) → l′ ≡ l → CarriedOut st b l o l′
   unfolding answer-from lists-from
   by-start s a x = record { answer = rw s a; lists = rw s x }
 
   -- A delivery carries its record out.
-  pub by-delivery : starts b ≡ false → delivers b ≡ true → Delivered st b l o l′ → Carried st b l o l′
+  pub by-delivery : is-start b ≡ false → delivers b ≡ true → Delivered st b l o l′ → CarriedOut st b l o l′
   unfolding answer-from lists-from
   by-delivery s d x = record { answer = rw (s, d) (x .answer); lists = rw (s, d) (x .lists) }
 
   -- The end leaves the lists.
-  pub by-end : starts b ≡ false → delivers b ≡ false → o ≡ end-answer st → l′ ≡ l → Carried st b l o l′
+  pub by-end : is-start b ≡ false → delivers b ≡ false → o ≡ end-answer st → l′ ≡ l → CarriedOut st b l o l′
   unfolding answer-from lists-from
   by-end s d a x = record { answer = rw (s, d) a; lists = rw (s, d) x }

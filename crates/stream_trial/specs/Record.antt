@@ -1,6 +1,6 @@
 -- What a record of a script says: crates/stream_trial/src/main.rt, the table of 'A script'. Here it is the list of its bytes.
 --   byte b k           byte k of the record b
---   starts b           it is a fresh start
+--   is-start b         it is a fresh start
 --   delivers b         it is a delivery
 --   number b           how many bytes the stream had already
 --   started-at n       a stream that had so many, of whole good records
@@ -21,8 +21,8 @@ abbrev pub byte : List ℕ → ℕ → ℕ
 byte b k = getD b k 0
 
 -- "what is done, modulo 3: 0 a fresh start, 1 a delivery"
-abbrev pub starts : List ℕ → Bool
-starts b = eqb (byte b 0 % 3) 0
+abbrev pub is-start : List ℕ → Bool
+is-start b = eqb (byte b 0 % 3) 0
 
 abbrev pub delivers : List ℕ → Bool
 delivers b = eqb (byte b 0 % 3) 1

@@ -3,7 +3,7 @@ ghost use mathlib.Core.Path.{_≡_};
 ghost use Rattle.transcript_spec.specs.Lists.{lists};
 ghost use Rattle.stream_spec.specs.Stream.{streamed};
 ghost use Rattle.stream_trial.specs.Record.{started-at, blank};
-ghost use Rattle.stream_trial.specs.Carried.{Delivered, Carried};
+ghost use Rattle.stream_trial.specs.CarriedOut.{Delivered, CarriedOut};
 use crate::reading::number_in;
 use crate::reading::places_lent;
 use crate::reading::string_lent;
@@ -96,7 +96,7 @@ fn leave_lists(answer: Streamed) -> Left
 
 // The record's call, whichever of the three it is.
 pub(crate) fn carry_record(st: Stream, bytes: &[u8; 36]) -> Left
-    ensures { λ d. ⌜ Carried st (now (bytes .entry)) blank (d .answer) (lists (d .kinds) (d .registers) (d .lanes) (d .words)) ⌝ }
+    ensures { λ d. ⌜ CarriedOut st (now (bytes .entry)) blank (d .answer) (lists (d .kinds) (d .registers) (d .lanes) (d .words)) ⌝ }
 {
     let done = bytes[0] % 3;
     if done == 0 {

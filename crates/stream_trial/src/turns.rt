@@ -1,7 +1,7 @@
 // Reading the script, a record at a time.
 ghost use mathlib.Core.Path.{_≡_};
 ghost use Rattle.stream_trial.specs.Record.{blank};
-ghost use Rattle.stream_trial.specs.Carried.{answer-from};
+ghost use Rattle.stream_trial.specs.CarriedOut.{answer-from};
 use crate::carrying::carry_record;
 use crate::printing::print_record;
 use stream::start_stream;

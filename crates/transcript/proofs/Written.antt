@@ -9,7 +9,7 @@ use lib.ListN.{length}
 use borrow.Author.Tests.{ne-eqb, lt-ltb, le-ltb}
 use Rattle.transcript_spec.specs.Format.{transcript-of}
 use Rattle.transcript_spec.specs.Lists.{Lists, size, entries-in, over}
-use Rattle.transcript_spec.specs.Writing.{refused, accepted, fitting, write-answer, bytes-after, WroteTranscript}
+use Rattle.transcript_spec.specs.Writing.{refused, accepted, accepted-if-fits, write-answer, bytes-after, WroteTranscript}
 use Rattle.transcript_spec.specs.declared.Transcribed.{Transcribed}
 use Rattle.transcript.specs.WriterParts.{judged, Writable}
 use Rattle.transcript.specs.declared.writing.Judged.{Judged}
@@ -34,7 +34,7 @@ module _ (l : Lists) (out : List ℕ) {o : Judged} (e : o ≡ judged 0 0 (entrie
   pub bad-entry : o .number ≢ 0 → WroteTranscript l out (refused (o .number) (o .place)) out
   unfolding write-answer
   bad-entry d =
-      let named = barred 0 0 (entries-in l) (λ z. d (number-is ∙ z)) (fitting (length text) (length out)) in
+      let named = barred 0 0 (entries-in l) (λ z. d (number-is ∙ z)) (accepted-if-fits (length text) (length out)) in
       left-as-it-was l out (o .number) (o .place) d (ap (λ (x : Judged). refused (x .number) (x .place)) e ∙ sym named)
 
   -- None is.
@@ -45,9 +45,9 @@ module _ (l : Lists) (out : List ℕ) {o : Judged} (e : o ≡ judged 0 0 (entrie
     wanted-is : o .wanted ≡ length text
     wanted-is = ap (λ (x : Judged). x .wanted) e ∙ all .wants ∙ zero-add (length text)
 
-    answer-is : write-answer (entries-in l) (length out) ≡ fitting (length text) (length out)
+    answer-is : write-answer (entries-in l) (length out) ≡ accepted-if-fits (length text) (length out)
     unfolding write-answer
-    answer-is = all .answer (fitting (length text) (length out))
+    answer-is = all .answer (accepted-if-fits (length text) (length out))
 
     -- The records want more bytes than there are.
     pub too-small : length out < o .wanted → WroteTranscript l out (refused 24 0) out

@@ -21,7 +21,7 @@ use Rattle.transcript_lines.specs.Lines.{entry-of}
 use Rattle.transcript_lines.specs.Taking.{Taking, taking}
 use Rattle.transcript_lines.proofs.FirstLine.{whole, begins}
 use Rattle.transcript_lines.proofs.Turns.{NotGood, Come, at-start, front, one-more, no-more}
-use Rattle.transcript_exchange.specs.Turning.{written, fitting}
+use Rattle.transcript_exchange.specs.Turning.{entries-written, done-if-fits}
 use Rattle.transcript_exchange.specs.declared.Turned.the-variants.{Refused}
 use Rattle.transcript_exchange.proofs.Entries.{all-good-more, transcript-more, all-written, bad-written}
 
@@ -75,19 +75,19 @@ module _ {t : List ℕ} {used count wanted : ℕ} (k : Judged t used count wante
 
       -- One that has none is refused.
       pub judged-refused : {number : ℕ} → number ≡ entry-refusal e → number ≢ 0 → (room : ℕ) →
-          Refused number count ≡ written (taking t .entries) room
+          Refused number count ≡ entries-written (taking t .entries) room
       judged-refused {number} h d room =
           ⊎-elim
           (λ g. absurd (d (h ∙ good-passes e g)))
           (λ b.
           let bad : BadEntry e number = subst (BadEntry e) (sym (bad-refused e (b .0) (b .1)) ∙ sym h) (b .1) in
           ap (Refused number) (k .come .count)
-          ∙ sym (ap (λ (es : List Entry). written es room) all-are ∙ bad-written (k .come .got) later e number room (k .good) bad))
+          ∙ sym (ap (λ (es : List Entry). entries-written es room) all-are ∙ bad-written (k .come .got) later e number room (k .good) bad))
           (good-or-bad e)
 
     -- Where no good line follows, the records fit the output or do not.
-    pub judged-all : NotGood x → (room : ℕ) → fitting wanted room ≡ written (taking t .entries) room
+    pub judged-all : NotGood x → (room : ℕ) → done-if-fits wanted room ≡ entries-written (taking t .entries) room
     judged-all tag room =
-        ap (λ (n : ℕ). fitting n room) (k .wants)
+        ap (λ (n : ℕ). done-if-fits n room) (k .wants)
         ∙ sym
-        (ap (λ (y : Taking). written (y .entries) room) (no-more (k .come) lent tag) ∙ all-written (k .come .got) room (k .good))
+        (ap (λ (y : Taking). entries-written (y .entries) room) (no-more (k .come) lent tag) ∙ all-written (k .come .got) room (k .good))

@@ -28,7 +28,7 @@ use Rattle.transcript_lines.specs.declared.LinesTaken.{LinesTaken}
 use Rattle.transcript_lines.specs.declared.LinesTaken.the-variants as taken
 use Rattle.transcript_lines.proofs.GoodEntries.{all-sayable}
 use Rattle.transcript_lines.proofs.PutAnswers.{put-answers}
-use Rattle.transcript_exchange.specs.Turning.{by-answer, by-taken, written, fitting, bytes-turned, lines-turned, is-done}
+use Rattle.transcript_exchange.specs.Turning.{by-answer, by-taken, entries-written, done-if-fits, bytes-turned, lines-turned, is-done}
 use Rattle.transcript_exchange.specs.declared.Turned.{Turned}
 use Rattle.transcript_exchange.specs.declared.Turned.the-variants.{Done, Refused, TooMany}
 
@@ -81,7 +81,7 @@ unfolding bytes-turned
 bytes-are-done {t} {room} {out} {k} e =
     let es = taking t .entries in
     let a = write-answer es out in
-    let x = of-taken (take-answer t room) (written es out) k e in
+    let x = of-taken (take-answer t room) (entries-written es out) k e in
     let y = none-refused a (Done (a .count)) k (x .1) in
     let z = accepted-all es out (writes-exactly es out a .0 refl) (y .0) in
     let c : a .count ≡ k = cc in
@@ -106,7 +106,7 @@ read-all s room (plain.ReadAs.too-small q h) z = absurd (omega arith)
 read-all s room (plain.ReadAs.bad-record {es} {t} {u} {n} e q b) z = absurd (bad-record-number u n b z)
 
 -- What fits has its bytes, and room for them.
-pub fitted : (n room k : ℕ) → fitting n room ≡ Done k → (n ≡ k) × (n ≤ room)
+pub fitted : (n room k : ℕ) → done-if-fits n room ≡ Done k → (n ≡ k) × (n ≤ room)
 fitted n room k e =
     ⊎-elim
     (λ h. let over : TooMany ≡ Done k = rw (lt-ltb room n h) at e in let no : _≡_ {A = ℕ} 0 1 = cc in absurd (omega arith))
@@ -120,7 +120,7 @@ pub lines-are-done : {s : List ℕ} {room out k : ℕ} → lines-turned s room o
 unfolding lines-turned
 lines-are-done {s} {room} {out} {k} e =
     let es = entries-read s in
-    let x = none-refused (read-answer s room) (fitting (length (text-of es)) out) k e in
+    let x = none-refused (read-answer s room) (done-if-fits (length (text-of es)) out) k e in
     let f = fitted (length (text-of es)) out k (x .1) in
     let a = read-all s room (reads-exactly s room (read-answer s room) .0 refl) (x .0) in
     record {

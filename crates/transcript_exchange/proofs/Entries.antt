@@ -18,10 +18,10 @@ use Rattle.transcript_spec.specs.declared.Entry.{Entry}
 use Rattle.transcript_spec.specs.declared.Transcribed.{Transcribed}
 use Rattle.transcript_spec.proofs.BadNumbers.{entry-number}
 use Rattle.transcript_spec.proofs.WrittenExactly.{none-bad, finds-bad}
-use Rattle.transcript_lines.specs.InPlainWords.{Says}
-use Rattle.transcript_lines.specs.Lines.{unsayable, AllSayable}
+use Rattle.transcript_lines.specs.InPlainWords.{HasLine}
+use Rattle.transcript_lines.specs.Lines.{unsayable, AllHaveLines}
 use Rattle.transcript_lines.proofs.Sayable.{sayable-when}
-use Rattle.transcript_exchange.specs.Turning.{by-answer, written, fitting}
+use Rattle.transcript_exchange.specs.Turning.{by-answer, entries-written, done-if-fits}
 use Rattle.transcript_exchange.specs.declared.Turned.the-variants.{Done, Refused, TooMany}
 
 -- ---- one entry behind others
@@ -41,10 +41,10 @@ transcript-more (x ∷ es) e =
 -- ---- what becomes of them
 module _ (es : List Entry) (room : ℕ) where
   -- All are good.
-  pub all-written : AllGood es → written es room ≡ fitting (length (transcript-of es)) room
+  pub all-written : AllGood es → entries-written es room ≡ done-if-fits (length (transcript-of es)) room
   unfolding by-answer write-answer
   all-written g =
-      ap (λ (a : Transcribed). by-answer a (Done (a .count))) (none-bad 0 es (writer.fitting n room) g) ∙ either (ltb room n)
+      ap (λ (a : Transcribed). by-answer a (Done (a .count))) (none-bad 0 es (writer.accepted-if-fits n room) g) ∙ either (ltb room n)
     where
       n : ℕ
       n = length (transcript-of es)
@@ -65,7 +65,7 @@ entry-range b = go (entry-number b)
 
 -- One is bad.
 pub bad-written : (xs ys : List Entry) (e : Entry) (n room : ℕ) → AllGood xs → BadEntry e n →
-    written (xs ++ (e ∷ ys)) room ≡ Refused n (length xs)
+    entries-written (xs ++ (e ∷ ys)) room ≡ Refused n (length xs)
 unfolding by-answer write-answer
 bad-written xs ys e n room g b =
     let r = entry-range b in
@@ -73,11 +73,11 @@ bad-written xs ys e n room g b =
     ∙ rw (ne-eqb n 0 (λ z. omega (arith, z, r .0)), ne-eqb n 24 (λ z. omega (arith, z, r .1))) (ap (Refused n) (omega arith))
 
 -- ---- entries that lines say
-one-of-them : (xs ys : List Entry) (e : Entry) → AllSayable (xs ++ (e ∷ ys)) → unsayable e ≡ false
+one-of-them : (xs ys : List Entry) (e : Entry) → AllHaveLines (xs ++ (e ∷ ys)) → unsayable e ≡ false
 one-of-them [] ys e h = h .0
 one-of-them (x ∷ xs) ys e h = one-of-them xs ys e (h .1)
 
-of-says : {e : Entry} {n : ℕ} → Says e → BadEntry e n → (n ≡ 2) ⊎ (n ≡ 3)
+of-says : {e : Entry} {n : ℕ} → HasLine e → BadEntry e n → (n ≡ 2) ⊎ (n ≡ 3)
 of-says s (plain.BadEntry.no-register h) = inl refl
 of-says s (plain.BadEntry.no-lanes r o) = inr refl
 of-says s (plain.BadEntry.long-word r a l h) = absurd (omega (arith, h, s .word))
@@ -85,5 +85,5 @@ of-says s (plain.BadEntry.no-kind r a l h) = absurd (omega (arith, h, s .kind))
 of-says s (plain.BadEntry.read-with-word r a l z d) = absurd (d (s .of-read z))
 
 -- A bad one among them is refused with 2 or 3: a line has a kind, and no word that is too long.
-pub line-refusal : (xs ys : List Entry) {e : Entry} {n : ℕ} → AllSayable (xs ++ (e ∷ ys)) → BadEntry e n → (n ≡ 2) ⊎ (n ≡ 3)
+pub line-refusal : (xs ys : List Entry) {e : Entry} {n : ℕ} → AllHaveLines (xs ++ (e ∷ ys)) → BadEntry e n → (n ≡ 2) ⊎ (n ≡ 3)
 line-refusal xs ys {e} h b = of-says (sayable-when e .0 (one-of-them xs ys e h)) b

@@ -27,16 +27,16 @@ use Rattle.transcript_lines.proofs.TakenLines.{taken-back}
 use Rattle.transcript_exchange.specs.InNumbers.{turned-numbers, case-of}
 use Rattle.transcript_exchange.specs.InPlainWords.{LinesOf, BytesAs, LinesAs}
 use Rattle.transcript_exchange.specs.InPlainWords as plain
-use Rattle.transcript_exchange.specs.Turning.{by-answer, by-taken, written, fitting, bytes-turned, lines-turned}
+use Rattle.transcript_exchange.specs.Turning.{by-answer, by-taken, entries-written, done-if-fits, bytes-turned, lines-turned}
 use Rattle.transcript_exchange.specs.declared.Turned.{Turned}
 use Rattle.transcript_exchange.specs.declared.Turned.the-variants.{Done, BadLine, Refused, TooMany}
 use Rattle.transcript_exchange.proofs.Done.{answer-done}
 use Rattle.transcript_exchange.proofs.Entries.{entry-range, all-written, bad-written}
 
-fits : (n room : ℕ) → n ≤ room → fitting n room ≡ Done n
+fits : (n room : ℕ) → n ≤ room → done-if-fits n room ≡ Done n
 fits n room h = rw (le-ltb room n h)
 
-does-not-fit : (n room : ℕ) → room < n → fitting n room ≡ TooMany
+does-not-fit : (n room : ℕ) → room < n → done-if-fits n room ≡ TooMany
 does-not-fit n room h = rw (lt-ltb room n h)
 
 -- ---- an answer and its numbers
@@ -64,19 +64,19 @@ told-too-many = record { numbers = refl; case = refl }
 -- ---- lines to bytes
 module _ (t : List ℕ) (room out : ℕ) where
   -- by what taking the lines answers
-  by-lines : (x : LinesTaken) → TakeMeans t room x → bytes-turned t room out ≡ by-taken x (written (taking t .entries) out)
+  by-lines : (x : LinesTaken) → TakeMeans t room x → bytes-turned t room out ≡ by-taken x (entries-written (taking t .entries) out)
   unfolding bytes-turned
-  by-lines x m = ap (λ (y : LinesTaken). by-taken y (written (taking t .entries) out)) (take-answers t room x .1 m)
+  by-lines x m = ap (λ (y : LinesTaken). by-taken y (entries-written (taking t .entries) out)) (take-answers t room x .1 m)
 
   module _ {es : List Entry} (all : LinesOf t es) where
     lines : taking t ≡ record { entries = es; left = [] }
     lines = ap taking (all .is) ∙ taken-back es (all .says)
 
-    by-entries : length es ≤ room → bytes-turned t room out ≡ written es out
+    by-entries : length es ≤ room → bytes-turned t room out ≡ entries-written es out
     by-entries h =
         by-lines (taken.Taken (length es))
         (record { entries = es; is = all .is ∙ sym (append-nil (text-of es)); says = all .says; count = refl }, h)
-        ∙ ap (λ (y : Taking). written (y .entries) out) lines
+        ∙ ap (λ (y : Taking). entries-written (y .entries) out) lines
 
     too-many-lines : room < length es → bytes-turned t room out ≡ TooMany
     too-many-lines h =
@@ -88,7 +88,7 @@ module _ (t : List ℕ) (room out : ℕ) where
   bytes-told _ (plain.BytesAs.no-places all h) = tell (too-many-lines all h) told-too-many
   bytes-told _ (plain.BytesAs.no-record xs ys {e} {n} all h is g b) =
       let r = entry-range b in
-      tell (by-entries all h ∙ ap (λ (y : List Entry). written y out) is ∙ bad-written xs ys e n out g b)
+      tell (by-entries all h ∙ ap (λ (y : List Entry). entries-written y out) is ∙ bad-written xs ys e n out g b)
       (told-refused n (length xs) (r .0) (omega (arith, r .1)))
   bytes-told _ (plain.BytesAs.no-room {es} all h g k) =
       tell (by-entries all h ∙ all-written es out g ∙ does-not-fit (length (transcript-of es)) out k) told-too-many
@@ -130,15 +130,15 @@ module _ (t : List ℕ) (room out : ℕ) where
 
 -- ---- bytes to lines
 module _ (s : List ℕ) (room out : ℕ) where
-  by-reader : {b : Transcribed} → ReadAs s room b → lines-turned s room out ≡ by-answer b (fitting (length (text-of (entries-read s))) out)
+  by-reader : {b : Transcribed} → ReadAs s room b → lines-turned s room out ≡ by-answer b (done-if-fits (length (text-of (entries-read s))) out)
   unfolding lines-turned
-  by-reader {b} r = ap (λ (y : Transcribed). by-answer y (fitting (length (text-of (entries-read s))) out)) (reads-exactly s room b .1 r)
+  by-reader {b} r = ap (λ (y : Transcribed). by-answer y (done-if-fits (length (text-of (entries-read s))) out)) (reads-exactly s room b .1 r)
 
-  by-records : {es : List Entry} → Sound s es → length es ≤ room → lines-turned s room out ≡ fitting (length (text-of es)) out
+  by-records : {es : List Entry} → Sound s es → length es ≤ room → lines-turned s room out ≡ done-if-fits (length (text-of es)) out
   by-records {es} q h =
       by-reader (bytes.ReadAs.done q h)
       ∙ answer-done (accepted (length es)) _ refl
-      ∙ ap (λ (y : List Entry). fitting (length (text-of y)) out) (sound-exactly s es .0 q .1)
+      ∙ ap (λ (y : List Entry). done-if-fits (length (text-of y)) out) (sound-exactly s es .0 q .1)
 
   refused-is : (n k : ℕ) (x : Turned) → 2 ≤ n → n ≤ 23 → by-answer (refused n k) x ≡ Refused n k
   unfolding by-answer

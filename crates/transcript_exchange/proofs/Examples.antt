@@ -7,7 +7,7 @@ use Rattle.digits.specs.Digits.{is-decimal, value-of}
 use Rattle.listing.specs.Line.{headed, tailed, line-of, before-feed, has-feed, front-line}
 use Rattle.listing.specs.Spelled.{lines-of}
 use Rattle.transcript_spec.specs.Format.{groups, record-of, transcript-of}
-use Rattle.transcript_spec.specs.Reading.{with-group, head-read, word-read, step, feed, feeds, read-answer}
+use Rattle.transcript_spec.specs.Reading.{with-group, head-read, word-read, byte-taken, feed, feeds, read-answer}
 use Rattle.transcript_spec.specs.Writing.{no-record, entry-refusal, first-bad, write-answer}
 use Rattle.transcript_lines.specs.Lines.{access-of}
 use Rattle.transcript_lines.specs.Taking.{takes, take-answer}
@@ -58,5 +58,5 @@ pub record Strings : Type 0 where
 -- These come out so.
 pub four-strings : Strings
 unfolding
-    lines-turned by-answer read-answer feeds feed step head-read word-read with-group lines-of access-of
+    lines-turned by-answer read-answer feeds feed byte-taken head-read word-read with-group lines-of access-of
 four-strings = record { two = refl; no-place = refl; no-byte = refl; bad = refl }

@@ -17,7 +17,7 @@ use Rattle.transcript_spec.specs.declared.Transcribed.{Transcribed}
 use Rattle.transcript_spec.proofs.BadNumbers.{record-number}
 use Rattle.transcript_spec.proofs.Filled.{SameLengths}
 use Rattle.transcript_spec.proofs.ReadExactly.{sound-exactly}
-use Rattle.transcript_lines.specs.Lines.{text-of, AllSayable}
+use Rattle.transcript_lines.specs.Lines.{text-of, AllHaveLines}
 use Rattle.transcript_lines.specs.Taking.{Taking, taking}
 use Rattle.transcript_lines.proofs.TakenLines.{taken-back}
 use Rattle.transcript_exchange.specs.InNumbers.{turned-numbers, case-of}
@@ -63,7 +63,7 @@ module _ {t : List ℕ} {l l′ : Lists} {out out′ : List ℕ} {o : Turned} (p
           (n ≡ 0) ⊎ ((n ≡ 2) ⊎ ((n ≡ 3) ⊎ ((n ≡ 24) ⊎ (n ≡ 27))))
       go (plain.BytesAs.bad-line b) = inr (inr (inr (inr refl)))
       go (plain.BytesAs.no-places x h) = inr (inr (inr (inl refl)))
-      go (plain.BytesAs.no-record xs ys x h is g b) = of-entry (line-refusal xs ys (subst AllSayable is (x .says)) b)
+      go (plain.BytesAs.no-record xs ys x h is g b) = of-entry (line-refusal xs ys (subst AllHaveLines is (x .says)) b)
       go (plain.BytesAs.no-room x h g k) = inr (inr (inr (inl refl)))
       go (plain.BytesAs.done x h g k) = inl refl
 

@@ -6,7 +6,7 @@ use mathlib.Core.List.{List, [], _∷_, _++_}
 use lib.ListN.{length, drop, getD, length-append}
 use borrow.Author.Tests.{lt-ltb, le-ltb}
 use Rattle.listing.specs.Spelled.{lines-of}
-use Rattle.transcript_spec.specs.Reading.{Reading, fresh, step, entries-read}
+use Rattle.transcript_spec.specs.Reading.{Reading, fresh, byte-taken, entries-read}
 use Rattle.transcript_spec.specs.declared.Entry.{Entry}
 use Rattle.transcript_spec.specs.declared.Part.{Part}
 use Rattle.transcript_spec.specs.declared.Step.the-variants.{Goes, Whole, Bad}
@@ -15,7 +15,7 @@ use Rattle.transcript_spec.proofs.ReadingOn.{at-end}
 use Rattle.transcript_lines.specs.Lines.{line, text-of}
 use Rattle.transcript_scan.specs.Scan.{read-on}
 use Rattle.transcript_scan.proofs.Counting.{Counting, begun, goes-on, counted, stopped}
-use Rattle.transcript_exchange.specs.Turning.{fitting}
+use Rattle.transcript_exchange.specs.Turning.{done-if-fits}
 use Rattle.transcript_exchange.specs.declared.Turned.the-variants.{Done, TooMany}
 
 abbrev bytes : List Entry → ℕ
@@ -50,26 +50,26 @@ module _ {s : List ℕ} {room : ℕ} {p : Part} {left i : ℕ} (k : Measured s r
   measured-less = omega (arith, k .come)
 
   -- the lines of all are measured
-  fits-all : entries-read s ≡ k .reads .got → Done (room - left) ≡ fitting (bytes (entries-read s)) room
+  fits-all : entries-read s ≡ k .reads .got → Done (room - left) ≡ done-if-fits (bytes (entries-read s)) room
   fits-all e =
       let all : room - left ≡ bytes (entries-read s) = omega (arith, k .come, ap bytes e) in
       rw (le-ltb room (bytes (entries-read s)) (omega (arith, all))) (ap Done all)
 
   -- The end of the string.
-  pub measured-all : length s ≤ i → Done (room - left) ≡ fitting (bytes (entries-read s)) room
+  pub measured-all : length s ≤ i → Done (room - left) ≡ done-if-fits (bytes (entries-read s)) room
   measured-all h = fits-all (ap (λ (r : Reading). r .got) (at-end (k .reads .here) h))
 
   module _ (more : i < length s) where
     -- The record goes on.
-    pub measured-on : {q : Part} → step p (getD s i 0) ≡ Goes q → Measured s room q left (i + 1)
+    pub measured-on : {q : Part} → byte-taken p (getD s i 0) ≡ Goes q → Measured s room q left (i + 1)
     measured-on e = record { entries = k .entries; place = k .place; reads = goes-on (k .reads) more e; come = k .come }
 
     -- It is bad, and ends it.
-    pub measured-bad : {n : ℕ} → step p (getD s i 0) ≡ Bad n → Done (room - left) ≡ fitting (bytes (entries-read s)) room
+    pub measured-bad : {n : ℕ} → byte-taken p (getD s i 0) ≡ Bad n → Done (room - left) ≡ done-if-fits (bytes (entries-read s)) room
     measured-bad b = fits-all (ap (λ (r : Reading). r .got) (stopped (k .reads) more b))
 
     -- It is whole and good,
-    module _ {e : Entry} (w : step p (getD s i 0) ≡ Whole e) {size : ℕ} (long : size ≡ length (line e)) where
+    module _ {e : Entry} (w : byte-taken p (getD s i 0) ≡ Whole e) {size : ℕ} (long : size ≡ length (line e)) where
       got-more : bytes (k .reads .got ++ (e ∷ [])) ≡ bytes (k .reads .got) + size
       got-more = omega (arith, text-behind (k .reads .got) (e ∷ []), one-line e, long)
 
@@ -84,7 +84,7 @@ module _ {s : List ℕ} {room : ℕ} {p : Part} {left i : ℕ} (k : Measured s r
           }
 
       -- or does not.
-      pub measured-out : left < size → TooMany ≡ fitting (bytes (entries-read s)) room
+      pub measured-out : left < size → TooMany ≡ done-if-fits (bytes (entries-read s)) room
       measured-out short =
           let next = counted (k .reads) more w in
           let rest = read-on fresh (drop (i + 1) s) .got in

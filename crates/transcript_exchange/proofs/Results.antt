@@ -26,7 +26,7 @@ use Rattle.transcript_lines.specs.declared.LinesPut.{LinesPut}
 use Rattle.transcript_lines.specs.declared.LinesTaken.{LinesTaken}
 use Rattle.transcript_lines.specs.declared.LinesTaken.the-variants as taken
 use Rattle.transcript_lines.proofs.ThereAndBack.{took-entries}
-use Rattle.transcript_exchange.specs.Turning.{by-answer, by-taken, written, fitting, bytes-turned, lines-turned, is-done, ToBytes, ToLines}
+use Rattle.transcript_exchange.specs.Turning.{by-answer, by-taken, entries-written, done-if-fits, bytes-turned, lines-turned, is-done, ToBytes, ToLines}
 use Rattle.transcript_exchange.specs.declared.Turned.{Turned}
 use Rattle.transcript_exchange.specs.declared.Turned.the-variants.{Done, BadLine, Refused, TooMany}
 use Rattle.transcript_exchange.proofs.Turned.{the-type}
@@ -51,21 +51,21 @@ module _ (t : List ℕ) (l : Lists) (out : List ℕ) where
 
   -- x: what taking the lines will answer
   module _ {room : ℕ} {x : LinesTaken} (r : room ≡ size l) (a : x ≡ take-answer t room) where
-    turned-is : bytes-turned t (size l) (length out) ≡ by-taken x (written (taking t .entries) (length out))
+    turned-is : bytes-turned t (size l) (length out) ≡ by-taken x (entries-written (taking t .entries) (length out))
     unfolding bytes-turned
-    turned-is = ap (λ (y : LinesTaken). by-taken y (written (taking t .entries) (length out))) (sym (a ∙ ap (take-answer t) r))
+    turned-is = ap (λ (y : LinesTaken). by-taken y (entries-written (taking t .entries) (length out))) (sym (a ∙ ap (take-answer t) r))
 
     -- A bad line changes nothing,
     pub bad-line : {k : ℕ} → x ≡ taken.BadLine k → ToBytes t l out (BadLine k) l out
-    bad-line e = left-alone (sym (turned-is ∙ ap (λ (y : LinesTaken). by-taken y (written (taking t .entries) (length out))) e)) refl
+    bad-line e = left-alone (sym (turned-is ∙ ap (λ (y : LinesTaken). by-taken y (entries-written (taking t .entries) (length out))) e)) refl
 
     -- nor do more lines than have places,
     pub no-places : x ≡ taken.NoPlaces → ToBytes t l out TooMany l out
-    no-places e = left-alone (sym (turned-is ∙ ap (λ (y : LinesTaken). by-taken y (written (taking t .entries) (length out))) e)) refl
+    no-places e = left-alone (sym (turned-is ∙ ap (λ (y : LinesTaken). by-taken y (entries-written (taking t .entries) (length out))) e)) refl
 
-    module _ {n : ℕ} {o : Turned} (e : x ≡ taken.Taken n) (w : o ≡ written (taking t .entries) (length out)) where
+    module _ {n : ℕ} {o : Turned} (e : x ≡ taken.Taken n) (w : o ≡ entries-written (taking t .entries) (length out)) where
       answer-is : o ≡ bytes-turned t (size l) (length out)
-      answer-is = w ∙ sym (turned-is ∙ ap (λ (y : LinesTaken). by-taken y (written (taking t .entries) (length out))) e)
+      answer-is = w ∙ sym (turned-is ∙ ap (λ (y : LinesTaken). by-taken y (entries-written (taking t .entries) (length out))) e)
 
       -- nor does an access without a record, or a transcript that does not fit.
       pub accesses-refused : NotDone o → ToBytes t l out o l out
@@ -98,7 +98,7 @@ module _ (t : List ℕ) (l : Lists) (out : List ℕ) where
 
 -- ---- bytes to lines
 module _ (s : List ℕ) (l : Lists) (out : List ℕ) {room : ℕ} {a : Transcribed} {x o : Turned}
-    (r : room ≡ size l) (b : a ≡ read-answer s room) (f : x ≡ fitting (length (text-of (entries-read s))) (length out))
+    (r : room ≡ size l) (b : a ≡ read-answer s room) (f : x ≡ done-if-fits (length (text-of (entries-read s))) (length out))
     (w : o ≡ by-answer a x) where
   lines-answer : o ≡ lines-turned s (size l) (length out)
   unfolding lines-turned

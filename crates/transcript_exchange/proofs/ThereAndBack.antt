@@ -24,7 +24,7 @@ use Rattle.transcript_lines.specs.declared.LinesTaken.the-variants as taken
 use Rattle.transcript_lines.proofs.GoodEntries.{all-sayable}
 use Rattle.transcript_lines.proofs.TakeAnswers.{take-answers, then-taken}
 use Rattle.transcript_lines.proofs.TakenLines.{taken-back, nothing-there}
-use Rattle.transcript_exchange.specs.Turning.{by-answer, by-taken, written, fitting, bytes-turned, lines-turned, output-left, ToBytes, ToLines}
+use Rattle.transcript_exchange.specs.Turning.{by-answer, by-taken, entries-written, done-if-fits, bytes-turned, lines-turned, output-left, ToBytes, ToLines}
 use Rattle.transcript_exchange.specs.declared.Turned.{Turned}
 use Rattle.transcript_exchange.specs.declared.Turned.the-variants.{Done}
 use Rattle.transcript_exchange.proofs.Done.{bytes-are-done, lines-are-done}
@@ -55,8 +55,8 @@ module _ {t out out′ : List ℕ} {l l′ : Lists} {n : ℕ} (p : ToBytes t l o
       let accept = reads-exactly (take n out′) (size k) (accepted (length es)) .1 (plain.ReadAs.done sound few) in
       let answer : o ≡ Done (length t) =
       q .answer
-      ∙ ap (λ (a : Transcribed). by-answer a (fitting (length (text-of (entries-read (take n out′)))) (length text))) accept
-      ∙ ap (λ (u : List ℕ). fitting (length u) (length text)) text-is
+      ∙ ap (λ (a : Transcribed). by-answer a (done-if-fits (length (text-of (entries-read (take n out′)))) (length text))) accept
+      ∙ ap (λ (u : List ℕ). done-if-fits (length u) (length text)) text-is
       ∙ rw (le-ltb (length text) (length t) room) refl in
       (answer, first-bytes (length t) o (text-of (entries-read (take n out′))) text (q .output) answer (ap length text-is) ∙ text-is)
 
@@ -79,8 +79,8 @@ module _ {s out out′ : List ℕ} {l l′ : Lists} {n : ℕ} (b : AreBytes s) (
       let accept = writes-exactly es (length bytes) (accepted (length (transcript-of es))) .1 (plain.Written.done (whole .0) room-there) in
       let answer : o ≡ Done (length s) =
       q .answer
-      ∙ ap (λ (x : Taking). by-taken (take-answer (take n out′) (size k)) (written (x .entries) (length bytes))) all
-      ∙ ap (λ (x : LinesTaken). by-taken x (written es (length bytes))) lines
+      ∙ ap (λ (x : Taking). by-taken (take-answer (take n out′) (size k)) (entries-written (x .entries) (length bytes))) all
+      ∙ ap (λ (x : LinesTaken). by-taken x (entries-written es (length bytes))) lines
       ∙ ap (λ (a : Transcribed). by-answer a (Done (a .count))) accept
       ∙ ap (λ (x : List ℕ). Done (length x)) (sym (whole .1)) in
       let bytes-are : transcript-of (taking (take n out′) .entries) ≡ s =

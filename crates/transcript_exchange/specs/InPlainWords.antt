@@ -15,11 +15,11 @@ use Rattle.transcript_spec.specs.Lists.{Lists, size, columns}
 use Rattle.transcript_spec.specs.declared.Entry.{Entry}
 use Rattle.transcript_spec.specs.declared.Transcribed.{Transcribed}
 use Rattle.transcript_lines.specs.InPlainWords.{BadLineAt}
-use Rattle.transcript_lines.specs.Lines.{text-of, AllSayable}
+use Rattle.transcript_lines.specs.Lines.{text-of, AllHaveLines}
 
 pub record LinesOf (t : List ℕ) (es : List Entry) : Type 0 where
   pub is : t ≡ text-of es
-  pub says : AllSayable es
+  pub says : AllHaveLines es
 
 -- a bad line comes first, then too many lines for the lists, then the first access without a record, then too many bytes
 pub data BytesAs (t : List ℕ) (room out : ℕ) : Transcribed → Type 0 where

@@ -1,8 +1,8 @@
 -- What becomes of an input: document 02, request (ii), and the lines of `portlist`.
 --   by-answer o done           what a writer's or a reader's answer means; `done` where it refuses nothing
---   by-taken x written         what the answer of taking lines means; `written` where all are taken
---   written es room            what becomes of a list of entries, with so many bytes of output
---   fitting n room             what becomes of lines of n bytes, with so many bytes of output
+--   by-taken x entries-written  what the answer of taking lines means; `entries-written` where all are taken
+--   entries-written es room    what becomes of a list of entries, with so many bytes of output
+--   done-if-fits n room        what becomes of lines of n bytes, with so many bytes of output
 --   bytes-turned t room out    what becomes of a text, with lists for so many entries and so many bytes of output
 --   lines-turned s room out    what becomes of a string, likewise
 --   is-done                    it is turned
@@ -39,19 +39,19 @@ by-taken (Taken n) written = written
 by-taken (BadLine k) written = turned.BadLine k
 by-taken NoPlaces written = turned.TooMany
 
-abbrev pub written : List Entry → ℕ → Turned
-written es room = by-answer (write-answer es room) (turned.Done (write-answer es room .count))
+abbrev pub entries-written : List Entry → ℕ → Turned
+entries-written es room = by-answer (write-answer es room) (turned.Done (write-answer es room .count))
 
 unfoldable pub bytes-turned : List ℕ → ℕ → ℕ → Turned
-bytes-turned t room out = by-taken (take-answer t room) (written (taking t .entries) out)
+bytes-turned t room out = by-taken (take-answer t room) (entries-written (taking t .entries) out)
 
 -- ---- bytes to lines: the records are read, and their entries put as lines; each entry of a good record has one
 
-abbrev pub fitting : ℕ → ℕ → Turned
-fitting n room = cond (ltb room n) turned.TooMany (turned.Done n)
+abbrev pub done-if-fits : ℕ → ℕ → Turned
+done-if-fits n room = cond (ltb room n) turned.TooMany (turned.Done n)
 
 unfoldable pub lines-turned : List ℕ → ℕ → ℕ → Turned
-lines-turned s room out = by-answer (read-answer s room) (fitting (length (text-of (entries-read s))) out)
+lines-turned s room out = by-answer (read-answer s room) (done-if-fits (length (text-of (entries-read s))) out)
 
 -- ---- what is left: "A refusal returns zeros ..; nothing lent or passed on changes"
 

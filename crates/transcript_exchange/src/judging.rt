@@ -4,7 +4,7 @@ ghost use lib.ListN.{length};
 ghost use Rattle.transcript_spec.specs.Reading.{entries-read};
 ghost use Rattle.transcript_lines.specs.Lines.{text-of};
 ghost use Rattle.transcript_lines.specs.Taking.{taking};
-ghost use Rattle.transcript_exchange.specs.Turning.{by-answer, written, fitting};
+ghost use Rattle.transcript_exchange.specs.Turning.{by-answer, entries-written, done-if-fits};
 use crate::Turned;
 use listing::Front;
 use listing::front_line;
@@ -31,7 +31,7 @@ pub(crate) fn judge(o: Transcribed, done: Turned) -> Turned
 
 // What becomes of n bytes, where there is room for so many.
 fn fit(n: usize, room: usize) -> Turned
-    ensures { λ t. ⌜ t ≡ fitting n room ⌝ }
+    ensures { λ t. ⌜ t ≡ done-if-fits n room ⌝ }
 {
     if room < n {
         return Turned::TooMany;
@@ -42,7 +42,7 @@ fn fit(n: usize, room: usize) -> Turned
 // What becomes of the accesses of a text's good lines, up to its first bad one, with so many bytes of output: the first that has no
 // record is refused, or the records are counted. A line is longer than its record, so that no sum can wrap.
 pub(crate) fn judge_accesses(text: &[u8], room: usize) -> Turned
-    ensures { λ t. ⌜ t ≡ written (taking (now (text .entry)) .entries) room ⌝ }
+    ensures { λ t. ⌜ t ≡ entries-written (taking (now (text .entry)) .entries) room ⌝ }
 {
     let mut used = 0;
     let mut count: usize = 0;
@@ -65,7 +65,7 @@ pub(crate) fn judge_accesses(text: &[u8], room: usize) -> Turned
 // What becomes of the lines of a string's good records, up to its first bad one, with so many bytes of output. What is left of the room
 // is counted, and not the bytes: no sum can wrap.
 pub(crate) fn judge_room(bytes: &[u8], room: usize) -> Turned
-    ensures { λ t. ⌜ t ≡ fitting (length (text-of (entries-read (now (bytes .entry))))) room ⌝ }
+    ensures { λ t. ⌜ t ≡ done-if-fits (length (text-of (entries-read (now (bytes .entry))))) room ⌝ }
 {
     let mut part = fresh_part();
     let mut left = room;

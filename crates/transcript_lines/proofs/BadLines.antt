@@ -14,14 +14,14 @@ use Rattle.listing.proofs.Feeds.{has-laid}
 use Rattle.listing.proofs.FrontLine.{whole-line}
 use Rattle.transcript_spec.specs.declared.Entry.{Entry}
 use Rattle.transcript_lines.specs.InPlainWords.{NoGoodLine}
-use Rattle.transcript_lines.specs.Lines.{access-of, text-of, AllSayable}
+use Rattle.transcript_lines.specs.Lines.{access-of, text-of, AllHaveLines}
 use Rattle.transcript_lines.specs.Taking.{take-answer}
 use Rattle.transcript_lines.specs.declared.LinesTaken.the-variants.{BadLine}
 use Rattle.transcript_lines.proofs.LineAfterLine.{is-good}
 use Rattle.transcript_lines.proofs.TakenLines.{front-none}
 use Rattle.transcript_lines.proofs.TakeAnswers.{take-answers}
 
-module _ (es : List Entry) (h : AllSayable es) (room : ℕ) where
+module _ (es : List Entry) (h : AllHaveLines es) (room : ℕ) where
   bad-behind : (left : List ℕ) → left ≢ [] → NoGoodLine left → take-answer (text-of es ++ left) room ≡ BadLine (length es)
   bad-behind left some none =
       take-answers (text-of es ++ left) room (BadLine (length es)) .1

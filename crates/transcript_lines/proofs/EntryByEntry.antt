@@ -14,8 +14,8 @@ use Rattle.transcript_spec.specs.Lists.{Lists, size, entry-at, entries-in, over
 use Rattle.transcript_spec.specs.declared.Entry.{Entry}
 use Rattle.transcript_spec.proofs.EntriesLeft.{left, all-left, next-left, none-left}
 use Rattle.transcript_spec.proofs.Filled.{over-length}
-use Rattle.transcript_lines.specs.Lines.{unsayable, line, text-of, AllSayable}
-use Rattle.transcript_lines.specs.Putting.{first-unsayable, fitting}
+use Rattle.transcript_lines.specs.Lines.{unsayable, line, text-of, AllHaveLines}
+use Rattle.transcript_lines.specs.Putting.{first-unsayable, written-if-fits}
 use Rattle.transcript_lines.specs.declared.LinesPut.{LinesPut}
 use Rattle.transcript_lines.specs.declared.LinesPut.the-variants.{Written, Unsayable, NoBytes}
 
@@ -95,10 +95,10 @@ module _ {l : Lists} {room left i : ℕ} (k : Measured l room left i) where
           come = omega (arith, k .come, one-line l s h is, long, fits);
         }
 
-    pub measured-out : left < bytes-here → NoBytes ≡ fitting (bytes (entries-in l)) room
+    pub measured-out : left < bytes-here → NoBytes ≡ written-if-fits (bytes (entries-in l)) room
     measured-out more = rw (lt-ltb room (bytes (entries-in l)) (omega (arith, k .come, k .less, one-line l s h is, long, more))) refl
 
-  pub measured-all : {n : ℕ} → n ≡ size l → n ≤ i → Written (room - left) ≡ fitting (bytes (entries-in l)) room
+  pub measured-all : {n : ℕ} → n ≡ size l → n ≤ i → Written (room - left) ≡ written-if-fits (bytes (entries-in l)) room
   unfolding lines-of
   measured-all s h =
       let none : bytes (following l i) ≡ 0 = ap bytes (none-follows l s h) in
@@ -114,9 +114,9 @@ pub record Laid (l : Lists) (out₀ out : List ℕ) (at i : ℕ) : Type 0 where
   pub come : text-of (entries-in l) ≡ text ++ text-of (following l i)
   pub there : out ≡ over text out₀
   pub end : at ≡ length text
-  pub says : AllSayable (following l i)
+  pub says : AllHaveLines (following l i)
 
-pub laid-start : (l : Lists) (out : List ℕ) → AllSayable (entries-in l) → Laid l out out 0 0
+pub laid-start : (l : Lists) (out : List ℕ) → AllHaveLines (entries-in l) → Laid l out out 0 0
 laid-start l out says =
     record {
       most = omega arith;
@@ -124,7 +124,7 @@ laid-start l out says =
       come = ap text-of (sym (all-follow l));
       there = refl;
       end = refl;
-      says = subst AllSayable (sym (all-follow l)) says;
+      says = subst AllHaveLines (sym (all-follow l)) says;
     }
 
 module _ {l : Lists} {out₀ out : List ℕ} {at i : ℕ} (k : Laid l out₀ out at i) (room : bytes (entries-in l) ≤ length out₀) where
@@ -141,7 +141,7 @@ module _ {l : Lists} {out₀ out : List ℕ} {at i : ℕ} (k : Laid l out₀ out
     room-there = omega (arith, whole, room, one-line l s h is)
 
     pub laid-room : (at + length (line e) ≤ length out) × (unsayable e ≡ false)
-    laid-room = (omega (arith, room-there, k .end, laid-length), subst AllSayable (one-follows l s h is) (k .says) .0)
+    laid-room = (omega (arith, room-there, k .end, laid-length), subst AllHaveLines (one-follows l s h is) (k .says) .0)
 
     -- and stands there.
     pub laid-next : {end : ℕ} {out′ : List ℕ} → Put out at (line e) end out′ → Laid l out₀ out′ end (i + 1)
@@ -160,7 +160,7 @@ module _ {l : Lists} {out₀ out : List ℕ} {at i : ℕ} (k : Laid l out₀ out
               ap (λ (n : ℕ). laid (over (k .text) out₀) n (line e)) (k .end) ∙
               with-more out₀ (k .text) (line e) room-there;
           end = x .end ∙ ap (λ (n : ℕ). n + length (line e)) (k .end) ∙ sym (length-append (k .text) (line e));
-          says = subst AllSayable (one-follows l s h is) (k .says) .1;
+          says = subst AllHaveLines (one-follows l s h is) (k .says) .1;
         }
 
   pub laid-all : {n : ℕ} → n ≡ size l → n ≤ i → out ≡ over (text-of (entries-in l)) out₀

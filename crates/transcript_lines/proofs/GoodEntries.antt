@@ -5,7 +5,7 @@ use mathlib.Core.Bool.{false}
 use mathlib.Core.List.{List, [], _∷_}
 use Rattle.transcript_spec.specs.InPlainWords.{Good, AllGood}
 use Rattle.transcript_spec.specs.declared.Entry.{Entry}
-use Rattle.transcript_lines.specs.Lines.{unsayable, AllSayable}
+use Rattle.transcript_lines.specs.Lines.{unsayable, AllHaveLines}
 use Rattle.transcript_lines.proofs.Sayable.{sayable-when}
 
 -- A line can say a good entry.
@@ -21,6 +21,6 @@ good-sayable e g =
     })
 
 -- So with all of a list.
-pub all-sayable : (es : List Entry) → AllGood es → AllSayable es
+pub all-sayable : (es : List Entry) → AllGood es → AllHaveLines es
 all-sayable [] g = tt
 all-sayable (e ∷ es) g = (good-sayable e (g .0), all-sayable es (g .1))

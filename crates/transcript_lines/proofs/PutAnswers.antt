@@ -14,25 +14,25 @@ use Rattle.transcript_spec.specs.declared.Transcribed.{Transcribed}
 use Rattle.transcript_lines.specs.InNumbers.{put-numbers}
 use Rattle.transcript_lines.specs.InPlainWords.{FirstUnsayable, PutAs}
 use Rattle.transcript_lines.specs.InPlainWords as plain
-use Rattle.transcript_lines.specs.Lines.{unsayable, text-of, AllSayable}
-use Rattle.transcript_lines.specs.Putting.{first-unsayable, fitting, put-answer}
+use Rattle.transcript_lines.specs.Lines.{unsayable, text-of, AllHaveLines}
+use Rattle.transcript_lines.specs.Putting.{first-unsayable, written-if-fits, put-answer}
 use Rattle.transcript_lines.specs.declared.LinesPut.{LinesPut}
 use Rattle.transcript_lines.specs.declared.LinesPut.the-variants.{Written, Unsayable, NoBytes}
 
 -- what an answer says of a list and of the room for its lines, by its case
 abbrev pub PutMeans : List Entry → ℕ → LinesPut → Type 0
-PutMeans es room (Written n) = AllSayable es × (n ≡ length (text-of es)) × (n ≤ room)
+PutMeans es room (Written n) = AllHaveLines es × (n ≡ length (text-of es)) × (n ≤ room)
 PutMeans es room (Unsayable k) = FirstUnsayable es k
-PutMeans es room NoBytes = AllSayable es × (room < length (text-of es))
+PutMeans es room NoBytes = AllHaveLines es × (room < length (text-of es))
 
 -- ---- what is so is answered
 
-none-unsayable : (k : ℕ) (es : List Entry) (done : LinesPut) → AllSayable es → first-unsayable k es done ≡ done
+none-unsayable : (k : ℕ) (es : List Entry) (done : LinesPut) → AllHaveLines es → first-unsayable k es done ≡ done
 unfolding first-unsayable
 none-unsayable k [] done h = refl
 none-unsayable k (e ∷ rest) done h = rw (h .0) (none-unsayable (suc k) rest done (h .1))
 
-one-unsayable : (k : ℕ) (before : List Entry) (e : Entry) (after : List Entry) (done : LinesPut) → AllSayable before → unsayable e ≡ true →
+one-unsayable : (k : ℕ) (before : List Entry) (e : Entry) (after : List Entry) (done : LinesPut) → AllHaveLines before → unsayable e ≡ true →
     first-unsayable k (before ++ e ∷ after) done ≡ Unsayable (k + length before)
 unfolding first-unsayable
 one-unsayable k [] e after done h f = rw f (ap Unsayable (omega arith))
@@ -42,24 +42,24 @@ one-unsayable k (x ∷ before) e after done h f =
 answered : (es : List Entry) (room : ℕ) (o : LinesPut) → PutMeans es room o → put-answer es room ≡ o
 unfolding put-answer
 answered es room (Written n) h =
-    none-unsayable 0 es (fitting (length (text-of es)) room) (h .0) ∙
+    none-unsayable 0 es (written-if-fits (length (text-of es)) room) (h .0) ∙
     rw (sym (h .1), le-ltb room n (h .2)) refl
 answered es room (Unsayable k) h =
-    ap (λ (l : List Entry). first-unsayable 0 l (fitting (length (text-of es)) room)) (h .is) ∙
-    one-unsayable 0 (h .before) (h .entry) (h .after) (fitting (length (text-of es)) room) (h .says) (h .not) ∙
+    ap (λ (l : List Entry). first-unsayable 0 l (written-if-fits (length (text-of es)) room)) (h .is) ∙
+    one-unsayable 0 (h .before) (h .entry) (h .after) (written-if-fits (length (text-of es)) room) (h .says) (h .not) ∙
     ap Unsayable (omega (arith, h .count))
 answered es room NoBytes h =
-    none-unsayable 0 es (fitting (length (text-of es)) room) (h .0) ∙
+    none-unsayable 0 es (written-if-fits (length (text-of es)) room) (h .0) ∙
     rw (lt-ltb room (length (text-of es)) (h .1)) refl
 
 -- ---- one of them is so
 
-all-or-first : (es : List Entry) → AllSayable es ⊎ ((k : ℕ) × FirstUnsayable es k)
+all-or-first : (es : List Entry) → AllHaveLines es ⊎ ((k : ℕ) × FirstUnsayable es k)
 all-or-first [] = inl tt
 all-or-first (e ∷ rest) = go (either-way (unsayable e)) (all-or-first rest)
   where
-    go : (unsayable e ≡ true) ⊎ (unsayable e ≡ false) → AllSayable rest ⊎ ((k : ℕ) × FirstUnsayable rest k) →
-        AllSayable (e ∷ rest) ⊎ ((k : ℕ) × FirstUnsayable (e ∷ rest) k)
+    go : (unsayable e ≡ true) ⊎ (unsayable e ≡ false) → AllHaveLines rest ⊎ ((k : ℕ) × FirstUnsayable rest k) →
+        AllHaveLines (e ∷ rest) ⊎ ((k : ℕ) × FirstUnsayable (e ∷ rest) k)
     go (inl f) r = inr (0, record { before = []; entry = e; after = rest; is = refl; count = refl; says = tt; not = f })
     go (inr f) (inl h) = inl (f, h)
     go (inr f) (inr (k, h)) =
@@ -82,7 +82,7 @@ is-so es room = go (all-or-first es) (less-or-not room (length (text-of es)))
     so : (o : LinesPut) → PutMeans es room o → PutMeans es room (put-answer es room)
     so o h = subst (PutMeans es room) (sym (answered es room o h)) h
 
-    go : AllSayable es ⊎ ((k : ℕ) × FirstUnsayable es k) → (room < length (text-of es)) ⊎ (length (text-of es) ≤ room) →
+    go : AllHaveLines es ⊎ ((k : ℕ) × FirstUnsayable es k) → (room < length (text-of es)) ⊎ (length (text-of es) ≤ room) →
         PutMeans es room (put-answer es room)
     go (inl h) (inl more) = so NoBytes (h, more)
     go (inl h) (inr fits) = so (Written (length (text-of es))) (h, refl, fits)

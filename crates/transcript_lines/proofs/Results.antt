@@ -8,9 +8,9 @@ use mathlib.Core.Logic.{_⊎_, inl, inr}
 use denote.Enum.Declared.{tagOf}
 use lib.ListN.{length}
 use Rattle.transcript_spec.specs.Lists.{Lists, size, entries-in, over, with-entries}
-use Rattle.transcript_lines.specs.Lines.{text-of, AllSayable}
+use Rattle.transcript_lines.specs.Lines.{text-of, AllHaveLines}
 use Rattle.transcript_lines.specs.Taking.{Taking, taking, take-answer, is-taken, lists-after, TookLines}
-use Rattle.transcript_lines.specs.Putting.{first-unsayable, fitting, put-answer, is-written, text-after, PutLines}
+use Rattle.transcript_lines.specs.Putting.{first-unsayable, written-if-fits, put-answer, is-written, text-after, PutLines}
 use Rattle.transcript_lines.specs.declared.LinesTaken.{LinesTaken}
 use Rattle.transcript_lines.specs.declared.LinesTaken.the-variants.{Taken, BadLine, NoPlaces}
 use Rattle.transcript_lines.specs.declared.LinesPut.{LinesPut}
@@ -59,7 +59,7 @@ not-written (Written n) (inr e) = absurd (omega (arith, e))
 not-written (Unsayable k) e = refl
 not-written NoBytes e = refl
 
-module _ (l : Lists) (out : List ℕ) {done o : LinesPut} (f : done ≡ fitting (length (text-of (entries-in l))) (length out))
+module _ (l : Lists) (out : List ℕ) {done o : LinesPut} (f : done ≡ written-if-fits (length (text-of (entries-in l))) (length out))
     (a : o ≡ first-unsayable 0 (entries-in l) done) where
   put-is : o ≡ put-answer (entries-in l) (length out)
   unfolding put-answer
@@ -71,7 +71,7 @@ module _ (l : Lists) (out : List ℕ) {done o : LinesPut} (f : done ≡ fitting 
 
   module _ {n : ℕ} (e : o ≡ Written n) where
     -- The lines can be said and have room,
-    pub written-room : AllSayable (entries-in l) × (length (text-of (entries-in l)) ≤ length out)
+    pub written-room : AllHaveLines (entries-in l) × (length (text-of (entries-in l)) ≤ length out)
     written-room =
         let m = put-answers (entries-in l) (length out) (Written n) .0 (sym put-is ∙ e) in
         (m .0, omega (arith, m .1, m .2))

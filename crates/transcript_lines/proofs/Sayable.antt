@@ -12,7 +12,7 @@ use Rattle.port_spec.specs.declared.Access.the-variants.{Read, Write}
 use Rattle.listing.specs.Spelled.{Sayable}
 use Rattle.transcript_spec.specs.Writing.{no-record}
 use Rattle.transcript_spec.specs.declared.Entry.{Entry}
-use Rattle.transcript_lines.specs.InPlainWords.{Says}
+use Rattle.transcript_lines.specs.InPlainWords.{HasLine}
 use Rattle.transcript_lines.specs.Lines.{entry-of, access-of, unsayable}
 
 of-read-is : (k w : ℕ) → eqb k 0 && not (eqb w 0) ≡ false → k ≡ 0 → w ≡ 0
@@ -30,12 +30,12 @@ of-read-test k w h = go (either-way (eqb k 0))
     go (inr e) = rw e refl
 
 -- A line can say an entry exactly if it has all this.
-pub sayable-when : (e : Entry) → unsayable e ≡ false ↔ Says e
+pub sayable-when : (e : Entry) → unsayable e ≡ false ↔ HasLine e
 unfolding unsayable no-record
 sayable-when e = (to, from)
   where
     to : (ltb 65535 (e .word) || (ltb 1 (e .kind) || (eqb (e .kind) 0 && not (eqb (e .word) 0)))) ||
-        (ltb 9 (e .register) || ltb 9 (e .lanes)) ≡ false → Says e
+        (ltb 9 (e .register) || ltb 9 (e .lanes)) ≡ false → HasLine e
     to h =
         let p = both-false _ _ h in
         let q = both-false _ _ (p .0) in
@@ -49,7 +49,7 @@ sayable-when e = (to, from)
           of-read = of-read-is (e .kind) (e .word) (r .1);
         }
 
-    from : Says e → (ltb 65535 (e .word) || (ltb 1 (e .kind) || (eqb (e .kind) 0 && not (eqb (e .word) 0)))) ||
+    from : HasLine e → (ltb 65535 (e .word) || (ltb 1 (e .kind) || (eqb (e .kind) 0 && not (eqb (e .word) 0)))) ||
         (ltb 9 (e .register) || ltb 9 (e .lanes)) ≡ false
     from s =
         rw (
@@ -62,10 +62,10 @@ sayable-when e = (to, from)
         refl
 
 -- And none can exactly if it has not.
-pub unsayable-when : (e : Entry) → unsayable e ≡ true ↔ (Says e → ⊥)
+pub unsayable-when : (e : Entry) → unsayable e ≡ true ↔ (HasLine e → ⊥)
 unsayable-when e = (λ h s. true≢false (sym h ∙ sayable-when e .1 s), go (either-way (unsayable e)))
   where
-    go : (unsayable e ≡ true) ⊎ (unsayable e ≡ false) → (Says e → ⊥) → unsayable e ≡ true
+    go : (unsayable e ≡ true) ⊎ (unsayable e ≡ false) → (HasLine e → ⊥) → unsayable e ≡ true
     go (inl h) none = h
     go (inr h) none = absurd (none (sayable-when e .0 h))
 
@@ -103,7 +103,7 @@ pub said-entry : (e : Entry) → unsayable e ≡ false → Sayable (access-of e)
 unfolding access-of
 said-entry e h = go (sayable-when e .0 h) (either-way (eqb (e .kind) 0))
   where
-    go : Says e → (eqb (e .kind) 0 ≡ true) ⊎ (eqb (e .kind) 0 ≡ false) →
+    go : HasLine e → (eqb (e .kind) 0 ≡ true) ⊎ (eqb (e .kind) 0 ≡ false) →
         Sayable (cond (eqb (e .kind) 0) (Read (e .register) (e .lanes)) (Write (e .register) (e .lanes) (e .word))) ×
         (entry-of (cond (eqb (e .kind) 0) (Read (e .register) (e .lanes)) (Write (e .register) (e .lanes) (e .word))) ≡ e)
     go s (inl z) =

@@ -15,7 +15,7 @@ use Rattle.transcript_lines.specs.InNumbers.{taken-numbers}
 use Rattle.transcript_lines.specs.InPlainWords.{NoGoodLine, LinesThen, BadLineAt, TookAs}
 use Rattle.transcript_lines.specs.InPlainWords as plain
 use Rattle.transcript_lines.specs.Lines.{text-of}
-use Rattle.transcript_lines.specs.Taking.{Taking, taking, judged, take-answer}
+use Rattle.transcript_lines.specs.Taking.{Taking, taking, taking-judged, take-answer}
 use Rattle.transcript_lines.specs.declared.LinesTaken.{LinesTaken}
 use Rattle.transcript_lines.specs.declared.LinesTaken.the-variants.{Taken, BadLine, NoPlaces}
 use Rattle.transcript_lines.proofs.TakenLines.{nothing-there, text-taken, only-taken}
@@ -36,9 +36,9 @@ then-taken {t} {n} {left} g bad =
     only-taken t x (record { is = g .is; says = g .says; stops = bad })
 
 judged-is : {t : List ℕ} {n : ℕ} {left : List ℕ} (room : ℕ) (g : LinesThen t n left) → NoGoodLine left →
-    take-answer t room ≡ judged (record { entries = g .entries; left = left }) room
+    take-answer t room ≡ taking-judged (record { entries = g .entries; left = left }) room
 unfolding take-answer
-judged-is room g bad = ap (λ (x : Taking). judged x room) (then-taken g bad)
+judged-is room g bad = ap (λ (x : Taking). taking-judged x room) (then-taken g bad)
 
 empty : (u : List ℕ) → length u ≡ 0 → u ≡ []
 empty [] e = refl

@@ -15,7 +15,7 @@ use Rattle.listing.specs.declared.Front.{Front}
 use Rattle.listing.specs.declared.Front.the-variants.{Good, Bad, Open}
 use Rattle.transcript_spec.specs.declared.Entry.{Entry}
 use Rattle.transcript_lines.specs.InPlainWords.{NoGoodLine, TextOf}
-use Rattle.transcript_lines.specs.Lines.{entry-of, access-of, unsayable, line, text-of, AllSayable}
+use Rattle.transcript_lines.specs.Lines.{entry-of, access-of, unsayable, line, text-of, AllHaveLines}
 use Rattle.transcript_lines.specs.Taking.{Taking, nothing, more, by-front, takes, taking}
 use Rattle.transcript_lines.proofs.Sayable.{entry-said, said-entry}
 use Rattle.transcript_lines.proofs.FirstLine.{whole, good-front, begins}
@@ -36,7 +36,7 @@ line-taken e v h =
     ap (λ (u : List ℕ). more e (taking u)) (drop-at (line e) v (length (line e)) refl)
 
 -- Any number of them.
-pub lines-taken : (es : List Entry) (v : List ℕ) → AllSayable es → taking (text-of es ++ v) ≡ behind es (taking v)
+pub lines-taken : (es : List Entry) (v : List ℕ) → AllHaveLines es → taking (text-of es ++ v) ≡ behind es (taking v)
 unfolding lines-of
 lines-taken [] v h = refl
 lines-taken (e ∷ rest) v h =
@@ -45,7 +45,7 @@ lines-taken (e ∷ rest) v h =
     ap (more e) (lines-taken rest v (h .1))
 
 -- The lines of entries, taken, give these entries, and nothing is left.
-pub taken-back : (es : List Entry) → AllSayable es → taking (text-of es) ≡ record { entries = es; left = [] }
+pub taken-back : (es : List Entry) → AllHaveLines es → taking (text-of es) ≡ record { entries = es; left = [] }
 unfolding takes
 taken-back es h =
     ap taking (sym (append-nil (text-of es))) ∙

@@ -10,8 +10,8 @@ use Rattle.transcript_spec.specs.Lists.{Lists, lists, size, entries-in, over, w
 use Rattle.transcript_spec.specs.InPlainWords.{first-places}
 use Rattle.transcript_spec.specs.declared.Entry.{Entry}
 use Rattle.transcript_spec.proofs.Columns.{length-entries, entries-columns, first-are-columns}
-use Rattle.transcript_lines.specs.Lines.{text-of, AllSayable}
-use Rattle.transcript_lines.specs.Taking.{Taking, taking, judged, take-answer, lists-after, TookLines}
+use Rattle.transcript_lines.specs.Lines.{text-of, AllHaveLines}
+use Rattle.transcript_lines.specs.Taking.{Taking, taking, taking-judged, take-answer, lists-after, TookLines}
 use Rattle.transcript_lines.specs.Putting.{text-after, PutLines}
 use Rattle.transcript_lines.specs.declared.LinesTaken.{LinesTaken}
 use Rattle.transcript_lines.specs.declared.LinesTaken.the-variants.{Taken}
@@ -41,7 +41,7 @@ take-after-put {l} {k} {out = out} {out′ = out′} {n = n} {o = o} p q room =
     let m = put-answers es (length out) (Written n) .0 (sym (p .answer)) in
     let all : taking (take n out′) ≡ record { entries = es; left = [] } = ap taking (put-text p) ∙ taken-back es (m .0) in
     let answer : take-answer (take n out′) (size k) ≡ Taken (size l) =
-    ap (λ (x : Taking). judged x (size k)) all ∙ rw (length-entries l 0 (size l), le-ltb (size k) (size l) room) refl
+    ap (λ (x : Taking). taking-judged x (size k)) all ∙ rw (length-entries l 0 (size l), le-ltb (size k) (size l) room) refl
     in
     (q .answer ∙ answer, q .lists ∙ rw answer (ap (λ (x : Taking). with-entries (x .entries) k) all))
 
@@ -65,13 +65,13 @@ took-entries {t} {l} {l′} {n} p =
 
 -- Lines can say these entries, and are the text.
 pub took-text : {t : List ℕ} {l l′ : Lists} {n : ℕ} → TookLines t l (Taken n) l′ →
-    AllSayable (entries-in (first-places n l′)) × (text-of (entries-in (first-places n l′)) ≡ t)
+    AllHaveLines (entries-in (first-places n l′)) × (text-of (entries-in (first-places n l′)) ≡ t)
 took-text {t} {l} {l′} {n} p =
     let m = take-answers t (size l) (Taken n) .0 (sym (p .answer)) in
     let es = m .0 .entries in
     let same : entries-in (first-places n l′) ≡ es =
     took-entries p .1 ∙ ap (λ (x : Taking). x .entries) (then-taken (m .0) nothing-there) in
-    (subst AllSayable (sym same) (m .0 .says), ap text-of same ∙ sym (m .0 .is ∙ append-nil (text-of es)))
+    (subst AllHaveLines (sym same) (m .0 .says), ap text-of same ∙ sym (m .0 .is ∙ append-nil (text-of es)))
 
 -- Put again, they are the text.
 pub put-after-take : {t : List ℕ} {l l′ : Lists} {n : ℕ} {out out′ : List ℕ} {o : LinesPut} →

@@ -17,7 +17,7 @@ use Rattle.listing.proofs.Front.{the-type}
 use Rattle.listing.proofs.Turns.{part-front}
 use Rattle.transcript_spec.specs.declared.Entry.{Entry}
 use Rattle.transcript_lines.specs.Lines.{entry-of}
-use Rattle.transcript_lines.specs.Taking.{Taking, takes, taking, fitting, judged, take-answer}
+use Rattle.transcript_lines.specs.Taking.{Taking, takes, taking, taken-if-fits, taking-judged, take-answer}
 use Rattle.transcript_lines.specs.declared.LinesTaken.the-variants.{BadLine}
 use Rattle.transcript_lines.proofs.FirstLine.{begins}
 use Rattle.transcript_lines.proofs.LineAfterLine.{good-taken, is-good, nothing-taken}
@@ -94,10 +94,10 @@ module _ {t : List ℕ} {used lines : ℕ} (k : Come t used lines) where
     ends-bad room h tag =
         let some : length (drop used t) ≢ 0 = λ z. absurd (omega (arith, z, length-drop used t, h)) in
         ap BadLine (k .count) ∙
-        sym (ap (λ (y : Taking). judged y room) (no-more tag) ∙ rw (ne-eqb (length (drop used t)) 0 some) refl)
+        sym (ap (λ (y : Taking). taking-judged y room) (no-more tag) ∙ rw (ne-eqb (length (drop used t)) 0 some) refl)
 
   -- so does the text's end.
-  pub ends-even : (room : ℕ) → length t ≤ used → fitting lines room ≡ take-answer t room
+  pub ends-even : (room : ℕ) → length t ≤ used → taken-if-fits lines room ≡ take-answer t room
   unfolding take-answer takes
   ends-even room h =
       let none : drop used t ≡ [] = drop-of-length-le t h in
@@ -106,4 +106,4 @@ module _ {t : List ℕ} {used lines : ℕ} (k : Come t used lines) where
       ap (λ (u : List ℕ). behind (k .got) (taking u)) none ∙
       ap (λ (l : List Entry). record { entries = l; left = [] }) (append-nil (k .got))
       in
-      ap (λ (n : ℕ). fitting n room) (k .count) ∙ sym (ap (λ (y : Taking). judged y room) all)
+      ap (λ (n : ℕ). taken-if-fits n room) (k .count) ∙ sym (ap (λ (y : Taking). taking-judged y room) all)

@@ -1,5 +1,5 @@
 -- Lines and entries in plain words: what the laws say of the two calls.
---   Says e                      a line can say the entry
+--   HasLine e                   a line can say the entry
 --   NoGoodLine t                the text t begins with no line that says an entry
 --   TextOf t x                  the text is the lines of the entries taken, and what is left, which begins with no good line
 --   LinesThen t n left          a text of n good lines, and then `left`
@@ -19,11 +19,11 @@ use Rattle.transcript_spec.specs.InPlainWords.{answer, first-places, later-plac
 use Rattle.transcript_spec.specs.Lists.{Lists, size, entries-in, columns}
 use Rattle.transcript_spec.specs.declared.Entry.{Entry}
 use Rattle.transcript_spec.specs.declared.Transcribed.{Transcribed}
-use Rattle.transcript_lines.specs.Lines.{unsayable, line, text-of, AllSayable}
+use Rattle.transcript_lines.specs.Lines.{unsayable, line, text-of, AllHaveLines}
 use Rattle.transcript_lines.specs.Taking.{Taking}
 
 -- kind 0 or 1, one digit for the register and one for the lanes, a word of 16 bits, and none for a read.
-pub record Says (e : Entry) : Type 0 where
+pub record HasLine (e : Entry) : Type 0 where
   pub kind : e .kind ≤ 1
   pub register : e .register ≤ 9
   pub lanes : e .lanes ≤ 9
@@ -37,13 +37,13 @@ NoGoodLine t = (e : Entry) (v : List ℕ) → unsayable e ≡ false → t ≢ li
 
 pub record TextOf (t : List ℕ) (x : Taking) : Type 0 where
   pub is : t ≡ text-of (x .entries) ++ x .left
-  pub says : AllSayable (x .entries)
+  pub says : AllHaveLines (x .entries)
   pub stops : NoGoodLine (x .left)
 
 pub record LinesThen (t : List ℕ) (n : ℕ) (left : List ℕ) : Type 0 where
   pub entries : List Entry
   pub is : t ≡ text-of entries ++ left
-  pub says : AllSayable entries
+  pub says : AllHaveLines entries
   pub count : length entries ≡ n
 
 pub record BadLineAt (t : List ℕ) (n : ℕ) : Type 0 where
@@ -60,7 +60,7 @@ pub data TookAs (t : List ℕ) (room : ℕ) : Transcribed → Type 0 where
 pub record TookAll (t : List ℕ) (l : Lists) (a : Transcribed) (l′ : Lists) : Type 0 where
   pub taken : List Entry
   pub is : t ≡ text-of taken
-  pub says : AllSayable taken
+  pub says : AllHaveLines taken
   pub count : a .count ≡ length taken
   pub place : a .place ≡ 0
   pub fits : a .count ≤ size l
@@ -75,16 +75,16 @@ pub record FirstUnsayable (es : List Entry) (k : ℕ) : Type 0 where
   pub after : List Entry
   pub is : es ≡ before ++ entry ∷ after
   pub count : length before ≡ k
-  pub says : AllSayable before
+  pub says : AllHaveLines before
   pub not : unsayable entry ≡ true
 
 pub data PutAs (es : List Entry) (room : ℕ) : Transcribed → Type 0 where
-  done : AllSayable es → length (text-of es) ≤ room → PutAs es room (answer 0 (length (text-of es)) 0)
-  no-bytes : AllSayable es → room < length (text-of es) → PutAs es room (answer 24 0 0)
+  done : AllHaveLines es → length (text-of es) ≤ room → PutAs es room (answer 0 (length (text-of es)) 0)
+  no-bytes : AllHaveLines es → room < length (text-of es) → PutAs es room (answer 24 0 0)
   no-line : {k : ℕ} → FirstUnsayable es k → PutAs es room (answer 22 0 k)
 
 pub record PutAll (l : Lists) (out : List ℕ) (a : Transcribed) (out′ : List ℕ) : Type 0 where
-  pub says : AllSayable (entries-in l)
+  pub says : AllHaveLines (entries-in l)
   pub count : a .count ≡ length (text-of (entries-in l))
   pub place : a .place ≡ 0
   pub fits : a .count ≤ length out

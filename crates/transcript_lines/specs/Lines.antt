@@ -4,7 +4,7 @@
 --   unsayable e     no line can say the entry
 --   line e          its line, with the line feed
 --   text-of es      the lines of a list
---   AllSayable es   a line can say each of them
+--   AllHaveLines es  a line can say each of them
 use Prim.Native.Nat.{ℕ}
 use mathlib.Core.Path.{_≡_}
 use mathlib.Core.Bool.{Bool, false, cond, _||_}
@@ -34,6 +34,6 @@ line e = line-text (access-of e) ++ (10 ∷ [])
 abbrev pub text-of : List Entry → List ℕ
 text-of es = lines-of (map access-of es)
 
-abbrev pub AllSayable : List Entry → Type 0
-AllSayable [] = Unit
-AllSayable (e ∷ rest) = (unsayable e ≡ false) × AllSayable rest
+abbrev pub AllHaveLines : List Entry → Type 0
+AllHaveLines [] = Unit
+AllHaveLines (e ∷ rest) = (unsayable e ≡ false) × AllHaveLines rest

@@ -1,7 +1,7 @@
 -- The entries of a list, put as the lines of a text.
 --   first-unsayable k es done   the answer to the first one of the entries es that no line can say, the first of them having index k;
 --                               `done` where a line can say each
---   fitting n room              that answer: n bytes, and room for so many
+--   written-if-fits n room      that answer: n bytes, and room for so many
 --   put-answer es room          what the call answers of a list, lent so many bytes
 --   is-written o                the answer of a call that is done
 --   text-after es out           the lent bytes afterwards
@@ -22,11 +22,11 @@ unfoldable pub first-unsayable : ℕ → List Entry → LinesPut → LinesPut
 first-unsayable k [] done = done
 first-unsayable k (e ∷ rest) done = cond (unsayable e) (Unsayable k) (first-unsayable (suc k) rest done)
 
-abbrev pub fitting : ℕ → ℕ → LinesPut
-fitting n room = cond (ltb room n) NoBytes (Written n)
+abbrev pub written-if-fits : ℕ → ℕ → LinesPut
+written-if-fits n room = cond (ltb room n) NoBytes (Written n)
 
 unfoldable pub put-answer : List Entry → ℕ → LinesPut
-put-answer es room = first-unsayable 0 es (fitting (length (text-of es)) room)
+put-answer es room = first-unsayable 0 es (written-if-fits (length (text-of es)) room)
 
 abbrev pub is-written : LinesPut → Bool
 is-written (Written n) = true

@@ -4,8 +4,8 @@
 --   by-front             what is taken of a text that begins so, by what is taken of the rest
 --   takes n t            at most n lines of the text t
 --   taking t             all of them: a text has no more lines than bytes
---   fitting n room       the answer where nothing is left: n entries, and places for so many
---   judged x room        the answer where so much is taken, and there are places for so many entries
+--   taken-if-fits n room  the answer where nothing is left: n entries, and places for so many
+--   taking-judged x room  the answer where so much is taken, and there are places for so many entries
 --   take-answer t room   what the call answers of a text, lent lists for so many entries
 --   is-taken o           the answer of a call that is done
 --   lists-after t l      the lent lists afterwards
@@ -48,15 +48,15 @@ takes (suc n) t = by-front (takes n) t (front-line t)
 abbrev pub taking : List ℕ → Taking
 taking t = takes (length t) t
 
-abbrev pub fitting : ℕ → ℕ → LinesTaken
-fitting n room = cond (ltb room n) NoPlaces (Taken n)
+abbrev pub taken-if-fits : ℕ → ℕ → LinesTaken
+taken-if-fits n room = cond (ltb room n) NoPlaces (Taken n)
 
 -- where something is left, its first line is bad
-abbrev pub judged : Taking → ℕ → LinesTaken
-judged x room = cond (eqb (length (x .left)) 0) (fitting (length (x .entries)) room) (BadLine (length (x .entries)))
+abbrev pub taking-judged : Taking → ℕ → LinesTaken
+taking-judged x room = cond (eqb (length (x .left)) 0) (taken-if-fits (length (x .entries)) room) (BadLine (length (x .entries)))
 
 unfoldable pub take-answer : List ℕ → ℕ → LinesTaken
-take-answer t room = judged (taking t) room
+take-answer t room = taking-judged (taking t) room
 
 abbrev pub is-taken : LinesTaken → Bool
 is-taken (Taken n) = true

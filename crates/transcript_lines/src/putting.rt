@@ -3,8 +3,8 @@ ghost use mathlib.Core.Path.{_≡_};
 ghost use Prim.Native.Nat.{_≤_};
 ghost use lib.ListN.{length};
 ghost use Rattle.transcript_spec.specs.Lists.{lists, entries-in, over};
-ghost use Rattle.transcript_lines.specs.Lines.{text-of, AllSayable};
-ghost use Rattle.transcript_lines.specs.Putting.{fitting, first-unsayable, PutLines};
+ghost use Rattle.transcript_lines.specs.Lines.{text-of, AllHaveLines};
+ghost use Rattle.transcript_lines.specs.Putting.{written-if-fits, first-unsayable, PutLines};
 use crate::LinesPut;
 use crate::lines::is_unsayable;
 use crate::lines::line_size;
@@ -21,7 +21,7 @@ fn judge_room(
     words: &[u32],
     room: usize,
 ) -> LinesPut
-    ensures { λ o. ⌜ o ≡ fitting (length (text-of (entries-in
+    ensures { λ o. ⌜ o ≡ written-if-fits (length (text-of (entries-in
         (lists (now (kinds .entry)) (now (registers .entry)) (now (lanes .entry)) (now (words .entry)))))) room ⌝ }
 {
     let n = shortest(kinds.len(), registers.len(), lanes.len(), words.len());
@@ -62,7 +62,7 @@ fn judge_entries(
 
 // The lines of all entries, from the text's beginning.
 fn fill_text(kinds: &[u32], registers: &[u32], lanes: &[u32], words: &[u32], text: &mut [u8])
-    requires { ⌜ AllSayable (entries-in (lists (now kinds) (now registers) (now lanes) (now words))) ×
+    requires { ⌜ AllHaveLines (entries-in (lists (now kinds) (now registers) (now lanes) (now words))) ×
         (length (text-of (entries-in (lists (now kinds) (now registers) (now lanes) (now words)))) ≤ length (now text)) ⌝ }
     ensures { λ _. ⌜ now (text .exit) ≡ over (text-of (entries-in
         (lists (now (kinds .entry)) (now (registers .entry)) (now (lanes .entry)) (now (words .entry))))) (now (text .entry)) ⌝ }

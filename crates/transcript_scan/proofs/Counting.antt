@@ -5,7 +5,7 @@ use native.Mathlib.Omega.{arith}
 use mathlib.Core.Path.{_≡_, refl, sym, ap, _∙_}
 use mathlib.Core.List.{List, [], _∷_, _++_}
 use lib.ListN.{length, getD, length-append}
-use Rattle.transcript_spec.specs.Reading.{at, fresh, step}
+use Rattle.transcript_spec.specs.Reading.{at, fresh, byte-taken}
 use Rattle.transcript_spec.specs.declared.Entry.{Entry}
 use Rattle.transcript_spec.specs.declared.Part.{Part}
 use Rattle.transcript_spec.specs.declared.Step.the-variants.{Goes, Whole, Bad}
@@ -26,11 +26,11 @@ begun p₀ s = record { got = []; here = none-yet (at [] 0 0 p₀ 0) s; count = 
 
 module _ {p₀ : Part} {s : List ℕ} {p : Part} {entries place i : ℕ} (k : Counting p₀ s p entries place i) (more : i < length s) where
   -- The record goes on.
-  abbrev pub goes-on : {q : Part} → step p (getD s i 0) ≡ Goes q → Counting p₀ s q entries place (i + 1)
+  abbrev pub goes-on : {q : Part} → byte-taken p (getD s i 0) ≡ Goes q → Counting p₀ s q entries place (i + 1)
   goes-on e = record { got = k .got; here = one-more (k .here) more e; count = k .count; few = omega arith }
 
   -- It is whole and good.
-  abbrev pub counted : {e : Entry} → step p (getD s i 0) ≡ Whole e → Counting p₀ s fresh (entries + 1) (i + 1) (i + 1)
+  abbrev pub counted : {e : Entry} → byte-taken p (getD s i 0) ≡ Whole e → Counting p₀ s fresh (entries + 1) (i + 1) (i + 1)
   counted {e} w =
       record {
         got = k .got ++ (e ∷ []);
@@ -40,5 +40,5 @@ module _ {p₀ : Part} {s : List ℕ} {p : Part} {entries place i : ℕ} (k : Co
       }
 
   -- It is bad: nothing more is read.
-  pub stopped : {n : ℕ} → step p (getD s i 0) ≡ Bad n → read-on p₀ s ≡ at (k .got) place (i + 1) fresh n
+  pub stopped : {n : ℕ} → byte-taken p (getD s i 0) ≡ Bad n → read-on p₀ s ≡ at (k .got) place (i + 1) fresh n
   stopped b = at-refusal (one-more (k .here) more b) (bad-has-number p (getD s i 0) b)

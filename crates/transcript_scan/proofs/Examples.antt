@@ -3,7 +3,7 @@
 use mathlib.Core.Path.{_≡_, refl}
 use mathlib.Core.Bool.{true, false}
 use mathlib.Core.List.{[], _∷_}
-use Rattle.transcript_spec.specs.Reading.{none, fresh, with-group, head-read, word-read, step, feed, feeds}
+use Rattle.transcript_spec.specs.Reading.{none, fresh, with-group, head-read, word-read, byte-taken, feed, feeds}
 use Rattle.transcript_spec.specs.declared.Part.the-variants.{Head, Word}
 use Rattle.transcript_scan.specs.Scan.{scanned, scanned-on}
 
@@ -23,5 +23,5 @@ pub record Finds : Type 0 where
 
 -- It finds this.
 pub finds : Finds
-unfolding with-group head-read word-read step feed feeds
+unfolding with-group head-read word-read byte-taken feed feeds
 finds = record { nothing = refl; all-good = refl; bad = refl; cut-off = refl; goes-on = refl; bad-from-before = refl }

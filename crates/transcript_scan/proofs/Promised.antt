@@ -1,7 +1,7 @@
 -- What the contracts of the calls say, taken from the contracts themselves (`Contract`): each is a statement on the call's own arguments.
 use mathlib.Core.Path.{_≡_}
 use Rattle.transcript_spec.specs.Lists.{lists, with-each}
-use Rattle.transcript_spec.specs.Reading.{cut-off, fresh, step}
+use Rattle.transcript_spec.specs.Reading.{cut-off, fresh, byte-taken}
 use Rattle.transcript_scan.specs.Scan.{read-on, scanned, scanned-on}
 use Rattle.words.proofs.Contracts.{Contract}
 use Rattle.transcript_scan.proofs.filling.fill_on.Kinds as fill-on-kinds
@@ -60,7 +60,7 @@ pub take-byte-contract : Contract take-byte-kinds.ps take-byte-kinds.r take-byte
     (λ κs args r left.
     let p = args .0 in
     let b = args .1 .0 in
-    r ≡ step p b)
+    r ≡ byte-taken p b)
 take-byte-contract = record { takes-any = λ κs args. tt; says = λ κs args r left p. p }
 
 -- `cut_off`: p.

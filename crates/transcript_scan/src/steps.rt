@@ -1,6 +1,6 @@
 // What one byte more makes of a record: its numbers grow group by group, and each is judged when its last group is there.
 ghost use mathlib.Core.Path.{_≡_};
-ghost use Rattle.transcript_spec.specs.Reading.{none, fresh, with-group, grown, entry-of, head-read, word-read, step, cut-off};
+ghost use Rattle.transcript_spec.specs.Reading.{none, fresh, with-group, grown, entry-said, head-read, word-read, byte-taken, cut-off};
 use transcript_spec::Entry;
 use transcript_spec::Number;
 use transcript_spec::Part;
@@ -52,7 +52,7 @@ fn grow(n: Number, b: u8) -> Number
 
 // The entry of a record, from its head and its word.
 fn entry_from(head: u32, word: u32) -> Entry
-    ensures { λ r. ⌜ r ≡ entry-of head word ⌝ }
+    ensures { λ r. ⌜ r ≡ entry-said head word ⌝ }
 {
     Entry {
         kind: head % 2,
@@ -98,7 +98,7 @@ fn judge_word(head: u32, n: Number) -> Step
 
 // One byte more of a record.
 pub fn take_byte(p: Part, b: u8) -> Step
-    ensures { λ r. ⌜ r ≡ step p b ⌝ }
+    ensures { λ r. ⌜ r ≡ byte-taken p b ⌝ }
 {
     match p {
         Part::Head(n) => {

@@ -9,7 +9,7 @@ use mathlib.Core.Logic.{_⊎_, inl, inr, _≢_}
 use lib.Dec.{eqb, ltb}
 use Rattle.transcript_spec.specs.InPlainWords.{BadEntry, BadHead, BadWord, BadRecord}
 use Rattle.transcript_spec.specs.InPlainWords as plain
-use Rattle.transcript_spec.specs.Reading.{grown, head-read, word-read, step}
+use Rattle.transcript_spec.specs.Reading.{grown, head-read, word-read, byte-taken}
 use Rattle.transcript_spec.specs.declared.Entry.{Entry}
 use Rattle.transcript_spec.specs.declared.Number.{Number}
 use Rattle.transcript_spec.specs.declared.Part.{Part}
@@ -39,17 +39,17 @@ word-numbered : (h : ℕ) (n : Number) → Numbered (word-read h n)
 unfolding word-read
 word-numbered h n = either-numbered (n .padded) _ _ (omega arith, omega arith) (either-numbered (ltb 65535 (n .value)) _ _ (omega arith, omega arith) tt)
 
-step-numbered : (p : Part) (b : ℕ) → Numbered (step p b)
-unfolding step
+step-numbered : (p : Part) (b : ℕ) → Numbered (byte-taken p b)
+unfolding byte-taken
 step-numbered (Head n) b = either-numbered (ltb b 128) _ _ (head-numbered (grown n b)) tt
 step-numbered (Word h n) b = either-numbered (ltb b 128) _ _ (word-numbered h (grown n b)) tt
 
 -- The number of a bad record is one of these.
-pub bad-range : (p : Part) (b : ℕ) {n : ℕ} → step p b ≡ Bad n → (21 ≤ n) × (n ≤ 23)
+pub bad-range : (p : Part) (b : ℕ) {n : ℕ} → byte-taken p b ≡ Bad n → (21 ≤ n) × (n ≤ 23)
 bad-range p b e = rw e at (step-numbered p b)
 
 -- It is not 0.
-pub bad-has-number : (p : Part) (b : ℕ) {n : ℕ} → step p b ≡ Bad n → n ≢ 0
+pub bad-has-number : (p : Part) (b : ℕ) {n : ℕ} → byte-taken p b ≡ Bad n → n ≢ 0
 bad-has-number p b e z = let h = bad-range p b e in omega arith
 
 -- ---- in plain words

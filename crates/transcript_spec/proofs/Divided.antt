@@ -7,11 +7,11 @@ use mathlib.Core.Logic.{⊎-elim}
 use lib.ListN.{length, getD, length-append}
 use Rattle.words.proofs.Choices.{less-or-not, same-or-not}
 use Rattle.transcript_spec.specs.Format.{head-of}
-use Rattle.transcript_spec.specs.InPlainWords.{Continued, Spelled, value-of, Unpadded, Says, Good, GoodRecord, a-read, a-write}
+use Rattle.transcript_spec.specs.InPlainWords.{Continued, Spelled, value-of, Unpadded, Spells, Good, GoodRecord, a-read, a-write}
 use Rattle.transcript_spec.specs.InPlainWords.{Sound, nothing, and-more, WriteHead}
 use Rattle.transcript_spec.specs.InPlainWords.{BadRecord, head-cut, head-bad, word-cut, word-bad}
 use Rattle.transcript_spec.specs.InPlainWords as plain
-use Rattle.transcript_spec.specs.Reading.{entry-of}
+use Rattle.transcript_spec.specs.Reading.{entry-said}
 use Rattle.transcript_spec.specs.declared.Entry.{Entry}
 
 -- ---- the number at the front of a string
@@ -49,11 +49,11 @@ data FrontRecord (s : List ℕ) : Type 0 where
   bad : (n : ℕ) → BadRecord s n → FrontRecord s
 
 -- A head that is not refused is that of an entry,
-pub entry-good : (v w : ℕ) → 8 ≤ v → v ≤ 31 → w ≤ 65535 → (v % 2 ≡ 0 → w ≡ 0) → Good (entry-of v w)
+pub entry-good : (v w : ℕ) → 8 ≤ v → v ≤ 31 → w ≤ 65535 → (v % 2 ≡ 0 → w ≡ 0) → Good (entry-said v w)
 entry-good v w l h k z =
     record { kind = omega arith; register = omega arith; a-lane = omega arith; lanes = omega arith; word = k; read = z }
 
-entry-head : (v w : ℕ) → v ≤ 31 → head-of (entry-of v w) ≡ v
+entry-head : (v w : ℕ) → v ≤ 31 → head-of (entry-said v w) ≡ v
 entry-head v w h =
     let a : v / 2 / 4 ≡ v / 8 = omega arith in
     let b : v / 2 ≡ v / 2 % 4 + 4 * (v / 2 / 4) = omega arith in
@@ -61,7 +61,7 @@ entry-head v w h =
     omega arith
 
 -- and says it.
-pub says-head : (h : List ℕ) (w : ℕ) → Spelled h → Unpadded h → value-of h ≤ 31 → Says h (head-of (entry-of (value-of h) w))
+pub says-head : (h : List ℕ) (w : ℕ) → Spelled h → Unpadded h → value-of h ≤ 31 → Spells h (head-of (entry-said (value-of h) w))
 says-head h w p d l = record { spelled = p; unpadded = d; value = sym (entry-head (value-of h) w l) }
 
 module _ (s h rest : List ℕ) (e : s ≡ h ++ rest) (p : Spelled h) (d : Unpadded h) (l : 8 ≤ value-of h) (k : value-of h ≤ 31) where
@@ -70,7 +70,7 @@ module _ (s h rest : List ℕ) (e : s ≡ h ++ rest) (p : Spelled h) (d : Unpadd
 
   front-read : v % 2 ≡ 0 → FrontRecord s
   front-read z =
-      good h rest (entry-of v 0) e (has-a-byte h p)
+      good h rest (entry-said v 0) e (has-a-byte h p)
       (a-read (entry-good v 0 l k (omega arith) (λ _. refl)) z (says-head h 0 p d k))
 
   write-head : v % 2 ≡ 1 → WriteHead h
@@ -89,7 +89,7 @@ module _ (s h rest : List ℕ) (e : s ≡ h ++ rest) (p : Spelled h) (d : Unpadd
       (λ z. ⊎-elim
       (λ x. bad-word _ (plain.BadWord.over z x))
       (λ x.
-      good (h ++ w) more (entry-of v (value-of w)) (e ∙ ap (λ (t : List ℕ). h ++ t) f ∙ sym (append-assoc h w more))
+      good (h ++ w) more (entry-said v (value-of w)) (e ∙ ap (λ (t : List ℕ). h ++ t) f ∙ sym (append-assoc h w more))
       (let a = has-a-byte h p in let c = length-append h w in omega arith)
       (a-write (entry-good v (value-of w) l k x (λ y. absurd (omega arith))) o (says-head h (value-of w) p d k)
       (record { spelled = q; unpadded = z; value = refl })))

@@ -9,7 +9,7 @@ use mathlib.Core.List.{List, [], _∷_, _++_, append-assoc, append-nil}
 use lib.Dec.{eqb}
 use lib.ListN.{length, length-append}
 use borrow.Author.Tests.{ne-eqb}
-use Rattle.transcript_spec.specs.Reading.{Reading, fresh, at, step, fed, feed, feeds}
+use Rattle.transcript_spec.specs.Reading.{Reading, fresh, at, byte-taken, fed, feed, feeds}
 use Rattle.transcript_spec.specs.declared.Entry.{Entry}
 use Rattle.transcript_spec.specs.declared.Part.{Part}
 use Rattle.transcript_spec.specs.declared.Step.{Step}
@@ -49,9 +49,9 @@ module _ (got : List Entry) (from next : ℕ) where
   byte-elsewhere a b = either (eqb (a .refusal) 0)
     where
       either : (t : Bool) →
-          cond t (fed (got ++ a .got) (elsewhere got from next a .from) (next + a .next + 1) (step (a .part) b)) (elsewhere got from next a) ≡
-          elsewhere got from next (cond t (fed (a .got) (a .from) (a .next + 1) (step (a .part) b)) a)
-      either true = step-elsewhere a (step (a .part) b)
+          cond t (fed (got ++ a .got) (elsewhere got from next a .from) (next + a .next + 1) (byte-taken (a .part) b)) (elsewhere got from next a) ≡
+          elsewhere got from next (cond t (fed (a .got) (a .from) (a .next + 1) (byte-taken (a .part) b)) a)
+      either true = step-elsewhere a (byte-taken (a .part) b)
       either false = refl
 
   feeds-elsewhere : (a : Reading) (s : List ℕ) → feeds (elsewhere got from next a) s ≡ elsewhere got from next (feeds a s)

@@ -11,7 +11,7 @@ use borrow.Author.Tests.{lt-ltb, le-ltb}
 use Rattle.words.specs.Bytes.{AreBytes}
 use Rattle.words.proofs.Choices.{less-or-not}
 use Rattle.transcript_spec.specs.Format.{groups}
-use Rattle.transcript_spec.specs.InPlainWords.{Continued, Spelled, value-of, Says}
+use Rattle.transcript_spec.specs.InPlainWords.{Continued, Spelled, value-of, Spells}
 use Rattle.transcript_spec.proofs.Bytes.{bytes-none, bytes-cons, bytes-first}
 
 -- ---- groups, by how many there are
@@ -59,23 +59,23 @@ value-three a b c = omega arith
 abbrev spells : (first : List ℕ) (g : ℕ) → Continued first → g < 128 → Spelled (first ++ (g ∷ []))
 spells first g c h = record { first = first; last = g; all = refl; continued = c; ends = h }
 
-says-one : (v : ℕ) → v < 128 → Says (groups v) v
+says-one : (v : ℕ) → v < 128 → Spells (groups v) v
 says-one v h =
-    subst (λ (s : List ℕ). Says s v) (sym (one-group v h))
+    subst (λ (s : List ℕ). Spells s v) (sym (one-group v h))
     (record { spelled = spells [] v tt h; unpadded = λ e. omega arith; value = value-one v ∙ (omega arith) })
 
-says-two : (v : ℕ) → 128 ≤ v → v < 16384 → Says (groups v) v
+says-two : (v : ℕ) → 128 ≤ v → v < 16384 → Spells (groups v) v
 says-two v l h =
-    subst (λ (s : List ℕ). Says s v) (sym (two-groups v l h))
+    subst (λ (s : List ℕ). Spells s v) (sym (two-groups v l h))
     (record {
       spelled = spells ((128 + v / 128) ∷ []) (v % 128) (omega arith, tt) (omega arith);
       unpadded = λ e. omega arith;
       value = value-two (128 + v / 128) (v % 128) ∙ (omega arith);
     })
 
-says-three : (v : ℕ) → 16384 ≤ v → v < 2097152 → Says (groups v) v
+says-three : (v : ℕ) → 16384 ≤ v → v < 2097152 → Spells (groups v) v
 says-three v l h =
-    subst (λ (s : List ℕ). Says s v) (sym (three-groups v l))
+    subst (λ (s : List ℕ). Spells s v) (sym (three-groups v l))
     (record {
       spelled = spells ((128 + v / 16384) ∷ (128 + v / 128 % 128) ∷ []) (v % 128) (omega arith, (omega arith, tt)) (omega arith);
       unpadded = λ e. omega arith;
@@ -83,7 +83,7 @@ says-three v l h =
     })
 
 -- The groups of a number below 2^21 say it.
-pub groups-say : (v : ℕ) → v < 2097152 → Says (groups v) v
+pub groups-say : (v : ℕ) → v < 2097152 → Spells (groups v) v
 groups-say v h =
     ⊎-elim (says-one v)
     (λ l. ⊎-elim (says-two v l) (λ k. says-three v k h) (less-or-not v 16384))
@@ -146,7 +146,7 @@ only (a ∷ k ∷ j ∷ rest) g b c h d v =
     absurd (omega arith)
 
 -- Bytes that say a number below 65,536 are its groups.
-pub said-by-groups : (s : List ℕ) (v : ℕ) → AreBytes s → Says s v → v < 65536 → s ≡ groups v
+pub said-by-groups : (s : List ℕ) (v : ℕ) → AreBytes s → Spells s v → v < 65536 → s ≡ groups v
 said-by-groups s v b q h =
     let p = q .spelled in
     let w = subst (λ (t : List ℕ). AreBytes t) (p .all) b in

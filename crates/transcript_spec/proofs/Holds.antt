@@ -4,15 +4,15 @@ use mathlib.Core.List.{[], _∷_, map}
 use Rattle.words.specs.Bytes.{are-lanes}
 use Rattle.transcript_spec.specs.Format.{groups, record-of, transcript-of}
 use Rattle.transcript_spec.specs.Lists.{lists, entries-from, entries-in}
-use Rattle.transcript_spec.specs.Reading.{with-group, head-read, word-read, step, feed, feeds, read-answer, lists-after}
+use Rattle.transcript_spec.specs.Reading.{with-group, head-read, word-read, byte-taken, feed, feeds, read-answer, lists-after}
 use Rattle.transcript_spec.specs.Writing.{no-record, entry-refusal, first-bad, write-answer, bytes-after}
-use Rattle.transcript_spec.specs.Table.{entry, worked, reads, writes, table}
+use Rattle.transcript_spec.specs.Examples.{entry, worked, reads, writes, examples}
 
-pub table-holds : map worked table ≡ table
+pub examples-hold : map worked examples ≡ examples
 unfolding
-    table reads writes are-lanes groups record-of transcript-of entries-from with-group head-read word-read step feed feeds read-answer
+    examples reads writes are-lanes groups record-of transcript-of entries-from with-group head-read word-read byte-taken feed feeds read-answer
     lists-after no-record entry-refusal first-bad write-answer bytes-after
-table-holds = refl
+examples-hold = refl
 
 -- Four lists that are not equally long: the shortest counts.
 pub shortest-counts : entries-in (lists (1 ∷ 5 ∷ []) (2 ∷ []) (3 ∷ 6 ∷ []) (0x1234 ∷ 7 ∷ 8 ∷ [])) ≡ entry 1 2 3 0x1234 ∷ []

@@ -10,7 +10,7 @@ use lib.Dec.{eqb}
 use lib.ListN.{length, length-append}
 use borrow.Author.Tests.{eq-eqb, ne-eqb, eqb-false}
 use Rattle.words.proofs.Choices.{either-way, same-or-not}
-use Rattle.transcript_spec.specs.Reading.{Reading, step, fed, feed, feeds, cut-off, ended}
+use Rattle.transcript_spec.specs.Reading.{Reading, byte-taken, fed, feed, feeds, cut-off, ended}
 use Rattle.transcript_spec.specs.declared.Step.{Step}
 use Rattle.transcript_spec.specs.declared.Step.the-variants.{Goes, Whole, Bad}
 use Rattle.transcript_spec.proofs.BadNumbers.{bad-range}
@@ -33,10 +33,10 @@ byte-further : (r : Reading) (b : ℕ) → Further r 1 (feed r b)
 unfolding feed
 byte-further r b = ⊎-elim goes stays (either-way (eqb (r .refusal) 0))
   where
-    goes : eqb (r .refusal) 0 ≡ true → Further r 1 (cond (eqb (r .refusal) 0) (fed (r .got) (r .from) (r .next + 1) (step (r .part) b)) r)
-    goes e = rw e (step-further r (step (r .part) b))
+    goes : eqb (r .refusal) 0 ≡ true → Further r 1 (cond (eqb (r .refusal) 0) (fed (r .got) (r .from) (r .next + 1) (byte-taken (r .part) b)) r)
+    goes e = rw e (step-further r (byte-taken (r .part) b))
 
-    stays : eqb (r .refusal) 0 ≡ false → Further r 1 (cond (eqb (r .refusal) 0) (fed (r .got) (r .from) (r .next + 1) (step (r .part) b)) r)
+    stays : eqb (r .refusal) 0 ≡ false → Further r 1 (cond (eqb (r .refusal) 0) (fed (r .got) (r .from) (r .next + 1) (byte-taken (r .part) b)) r)
     stays e =
         rw e
         (record {
@@ -77,13 +77,13 @@ byte-early : (r : Reading) (b : ℕ) → EarlyRefusal (r .refusal) → EarlyRefu
 unfolding feed
 byte-early r b h = either (eqb (r .refusal) 0)
   where
-    made : (x : Step) → step (r .part) b ≡ x → EarlyRefusal (fed (r .got) (r .from) (r .next + 1) x .refusal)
+    made : (x : Step) → byte-taken (r .part) b ≡ x → EarlyRefusal (fed (r .got) (r .from) (r .next + 1) x .refusal)
     made (Goes p) e = inl refl
     made (Whole y) e = inl refl
     made (Bad n) e = inr (bad-range (r .part) b e)
 
-    either : (t : Bool) → EarlyRefusal (cond t (fed (r .got) (r .from) (r .next + 1) (step (r .part) b)) r .refusal)
-    either true = made (step (r .part) b) refl
+    either : (t : Bool) → EarlyRefusal (cond t (fed (r .got) (r .from) (r .next + 1) (byte-taken (r .part) b)) r .refusal)
+    either true = made (byte-taken (r .part) b) refl
     either false = h
 
 -- What a string is refused with before its end is 21, 22 or 23.

@@ -10,9 +10,9 @@ use lib.ListN.{getD}
 use borrow.Author.Tests.{lt-ltb, le-ltb, eq-eqb, ne-eqb}
 use Rattle.words.proofs.Choices.{less-or-not}
 use Rattle.transcript_spec.specs.Format.{head-of}
-use Rattle.transcript_spec.specs.InPlainWords.{Spelled, value-of, Padded, Unpadded, Says, Good, BadHead, BadWord}
+use Rattle.transcript_spec.specs.InPlainWords.{Spelled, value-of, Padded, Unpadded, Spells, Good, BadHead, BadWord}
 use Rattle.transcript_spec.specs.InPlainWords as plain
-use Rattle.transcript_spec.specs.Reading.{none, entry-of, head-read, word-read}
+use Rattle.transcript_spec.specs.Reading.{none, entry-said, head-read, word-read}
 use Rattle.transcript_spec.specs.declared.Entry.{Entry}
 use Rattle.transcript_spec.specs.declared.Part.the-variants.{Word}
 use Rattle.transcript_spec.specs.declared.Step.the-variants.{Goes, Whole, Bad}
@@ -62,16 +62,16 @@ module _ (s : List ℕ) (p : Spelled s) where
   word-refused h n (plain.BadWord.over q k) = rw (unmarked q, value-over 65535 (omega arith) k)
 
 -- ---- a good head, a good word
-module _ (s : List ℕ) (v : ℕ) (q : Says s v) where
+module _ (s : List ℕ) (v : ℕ) (q : Spells s v) where
   -- A good head makes a read whole, and calls for a write's word.
-  pub head-accepted : 8 ≤ v → v ≤ 31 → head-read (grown-by none s) ≡ cond (eqb (v % 2) 0) (Whole (entry-of v 0)) (Goes (Word v none))
+  pub head-accepted : 8 ≤ v → v ≤ 31 → head-read (grown-by none s) ≡ cond (eqb (v % 2) 0) (Whole (entry-said v 0)) (Goes (Word v none))
   unfolding head-read
   head-accepted l h =
       let e = value-within s (q .spelled) 31 (omega arith) (omega (arith, q .value)) ∙ q .value in
       rw (unmarked s (q .spelled) (q .unpadded), e, le-ltb 31 v h, le-ltb v 8 l)
 
   -- A good word makes a write whole.
-  pub word-accepted : (h : ℕ) → v ≤ 65535 → word-read h (grown-by none s) ≡ Whole (entry-of h v)
+  pub word-accepted : (h : ℕ) → v ≤ 65535 → word-read h (grown-by none s) ≡ Whole (entry-said h v)
   unfolding word-read
   word-accepted h k =
       let e = value-within s (q .spelled) 65535 (omega arith) (omega (arith, q .value)) ∙ q .value in
@@ -96,6 +96,6 @@ register-back k r l h i =
     ap (λ (x : ℕ). x % 4) d ∙ (omega arith)
 
 -- and it has all of the entry but the word.
-pub head-back : (e : Entry) → Good e → entry-of (head-of e) (e .word) ≡ e
+pub head-back : (e : Entry) → Good e → entry-said (head-of e) (e .word) ≡ e
 head-back e g =
     same-parts (e .word) (head-kind e g) (register-back (e .kind) (e .register) (e .lanes) (g .kind) (g .register)) (omega arith)

@@ -13,7 +13,7 @@ use Rattle.words.proofs.Choices.{less-or-not}
 use Rattle.transcript_spec.specs.InPlainWords.{Sound, BadRecord, ReadAs}
 use Rattle.transcript_spec.specs.InPlainWords as plain
 use Rattle.transcript_spec.specs.Reading.{Reading, start, feeds, ended, entries-read, place-read, refusal-read, read-answer}
-use Rattle.transcript_spec.specs.Writing.{refused, accepted, fitting}
+use Rattle.transcript_spec.specs.Writing.{refused, accepted, accepted-if-fits}
 use Rattle.transcript_spec.specs.declared.Entry.{Entry}
 use Rattle.transcript_spec.specs.declared.Transcribed.{Transcribed}
 use Rattle.transcript_spec.proofs.ThroughRecords.{between, adds-entries, Stopped, stops-at}
@@ -36,10 +36,10 @@ reads-bad s t u es n e q b =
 
 -- ---- the answer
 module _ (s : List ℕ) (room : ℕ) where
-  answers-sound : (es : List Entry) → Sound s es → read-answer s room ≡ fitting (length es) room
+  answers-sound : (es : List Entry) → Sound s es → read-answer s room ≡ accepted-if-fits (length es) room
   unfolding read-answer
   answers-sound es q =
-      ap (λ (a : Reading). cond (eqb (ended a) 0) (fitting (length (a .got)) room) (refused (ended a) (a .from))) (reads-sound s es q)
+      ap (λ (a : Reading). cond (eqb (ended a) 0) (accepted-if-fits (length (a .got)) room) (refused (ended a) (a .from))) (reads-sound s es q)
 
   says : (o : Transcribed) → ReadAs s room o → read-answer s room ≡ o
   unfolding read-answer
@@ -49,8 +49,8 @@ module _ (s : List ℕ) (room : ℕ) where
       answers-sound es q ∙ ap (λ (t : Bool). cond t (refused 24 0) (accepted (length es))) (lt-ltb room (length es) h)
   says _ (plain.ReadAs.bad-record {es} {t} {u} {n} e q b) =
       let x = reads-bad s t u es n e q b in
-      ap (λ (k : ℕ). cond (eqb k 0) (fitting (length (entries-read s)) room) (refused k (place-read s))) (x .refusal)
-      ∙ ap (λ (z : Bool). cond z (fitting (length (entries-read s)) room) (refused n (place-read s))) (ne-eqb n 0 (x .refuses))
+      ap (λ (k : ℕ). cond (eqb k 0) (accepted-if-fits (length (entries-read s)) room) (refused k (place-read s))) (x .refusal)
+      ∙ ap (λ (z : Bool). cond z (accepted-if-fits (length (entries-read s)) room) (refused n (place-read s))) (ne-eqb n 0 (x .refuses))
       ∙ ap (refused n) (x .place)
 
   -- ---- one row or another always holds

@@ -11,7 +11,7 @@ use lib.Dec.{eqb}
 use lib.ListN.{length, drop, getD, drop-of-length-le, length-append}
 use lib.Seq.{drop-cons}
 use borrow.Author.Tests.{ne-eqb}
-use Rattle.transcript_spec.specs.Reading.{Reading, at, step, fed, feed, feeds}
+use Rattle.transcript_spec.specs.Reading.{Reading, at, byte-taken, fed, feed, feeds}
 use Rattle.transcript_spec.specs.declared.Entry.{Entry}
 use Rattle.transcript_spec.specs.declared.Part.{Part}
 use Rattle.transcript_spec.specs.declared.Step.{Step}
@@ -22,7 +22,7 @@ pub stays-refused : (r : Reading) (bytes : List ℕ) → r .refusal ≢ 0 → fe
 unfolding feeds feed
 stays-refused r [] h = refl
 stays-refused r (b ∷ bytes) h =
-    ap (λ (t : Bool). feeds (cond t (fed (r .got) (r .from) (r .next + 1) (step (r .part) b)) r) bytes) (ne-eqb (r .refusal) 0 h) ∙
+    ap (λ (t : Bool). feeds (cond t (fed (r .got) (r .from) (r .next + 1) (byte-taken (r .part) b)) r) bytes) (ne-eqb (r .refusal) 0 h) ∙
     stays-refused r bytes h
 
 -- ---- entries are only added
@@ -36,8 +36,8 @@ byte-adds : (r : Reading) (b : ℕ) → length (r .got) ≤ length (feed r b .go
 unfolding feed
 byte-adds r b = either (eqb (r .refusal) 0)
   where
-    either : (t : Bool) → length (r .got) ≤ length (cond t (fed (r .got) (r .from) (r .next + 1) (step (r .part) b)) r .got)
-    either true = step-adds (r .got) (r .from) (r .next + 1) (step (r .part) b)
+    either : (t : Bool) → length (r .got) ≤ length (cond t (fed (r .got) (r .from) (r .next + 1) (byte-taken (r .part) b)) r .got)
+    either true = step-adds (r .got) (r .from) (r .next + 1) (byte-taken (r .part) b)
     either false = le-refl (length (r .got))
 
 -- A reading has the entries that it had before, and more.
@@ -59,7 +59,7 @@ none-yet r₀ s = record { most = omega arith; come = refl }
 
 -- One byte more.
 pub one-more : {r₀ : Reading} {s : List ℕ} {i : ℕ} {got : List Entry} {from next : ℕ} {p : Part} →
-    Reached r₀ s i (at got from next p 0) → i < length s → {x : Step} → step p (getD s i 0) ≡ x →
+    Reached r₀ s i (at got from next p 0) → i < length s → {x : Step} → byte-taken p (getD s i 0) ≡ x →
     Reached r₀ s (i + 1) (fed got from (next + 1) x)
 unfolding feeds feed
 one-more {s = s} {i = i} {got = got} {from = from} {next = next} {p = p} here more {x} e =

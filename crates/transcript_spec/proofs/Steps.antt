@@ -14,7 +14,7 @@ use Rattle.transcript_spec.specs.Format.{head-of}
 use Rattle.transcript_spec.specs.InNumbers.{StepNumbers, step-numbers, HeadAs, WordAs}
 use Rattle.transcript_spec.specs.InNumbers as plain
 use Rattle.transcript_spec.specs.InPlainWords.{Continued, Spelled, value-of, Unpadded, BadHead, BadWord}
-use Rattle.transcript_spec.specs.Reading.{none, grown, entry-of, head-read, word-read, step}
+use Rattle.transcript_spec.specs.Reading.{none, grown, entry-said, head-read, word-read, byte-taken}
 use Rattle.transcript_spec.specs.declared.Entry.{Entry}
 use Rattle.transcript_spec.specs.declared.Number.{Number}
 use Rattle.transcript_spec.specs.declared.Part.{Part}
@@ -61,22 +61,22 @@ module _ (first : List ℕ) (b : ℕ) (c : Continued first) where
 
   -- K n: the part within a number n; D n: what is said of it when its last byte is there
   module _ (K : Number → Part) (D : Number → Step)
-      (rule : (n : Number) (x : ℕ) → step (K n) x ≡ cond (ltb x 128) (D (grown n x)) (Goes (K (grown n x)))) where
-    number-goes : 128 ≤ b → step (K (grown-by none first)) b ≡ Goes (K (grown-by none s))
+      (rule : (n : Number) (x : ℕ) → byte-taken (K n) x ≡ cond (ltb x 128) (D (grown n x)) (Goes (K (grown n x)))) where
+    number-goes : 128 ≤ b → byte-taken (K (grown-by none first)) b ≡ Goes (K (grown-by none s))
     number-goes h =
         rule (grown-by none first) b
         ∙ rw (le-ltb b 128 h) (ap (λ (n : Number). Goes (K n)) (grown-snoc none first b))
 
-    number-ends : b < 128 → step (K (grown-by none first)) b ≡ D (grown-by none s)
+    number-ends : b < 128 → byte-taken (K (grown-by none first)) b ≡ D (grown-by none s)
     number-ends h = rule (grown-by none first) b ∙ rw (lt-ltb b 128 h) (ap D (grown-snoc none first b))
 
   -- ---- a head
   abbrev head-step : Step
-  head-step = step (Head (grown-by none first)) b
+  head-step = byte-taken (Head (grown-by none first)) b
 
   -- of a good head, by whether it is a read's
   abbrev head-numbers : ℕ → Bool → StepNumbers
-  head-numbers v t = step-numbers (cond t (Whole (entry-of v 0)) (Goes (Word v none)))
+  head-numbers v t = step-numbers (cond t (Whole (entry-said v 0)) (Goes (Word v none)))
 
   head-says : (a : StepNumbers) → HeadAs s a → step-numbers head-step ≡ a
   head-says _ (plain.HeadAs.goes-on k) = ap step-numbers (number-goes Head head-read head-rule (last-continued first b k))
@@ -84,7 +84,7 @@ module _ (first : List ℕ) (b : ℕ) (c : Continued first) where
   head-says _ (plain.HeadAs.of-read {e} g z q) =
       let r = head-range e g in
       let even : head-of e % 2 ≡ 0 = head-kind e g ∙ z in
-      let same : entry-of (head-of e) 0 ≡ e = ap (entry-of (head-of e)) (sym (g .read z)) ∙ head-back e g in
+      let same : entry-said (head-of e) 0 ≡ e = ap (entry-said (head-of e)) (sym (g .read z)) ∙ head-back e g in
       ap step-numbers (number-ends Head head-read head-rule (last-ends (q .spelled)) ∙ head-accepted s (head-of e) q (r .0) (r .1))
       ∙ ap (head-numbers (head-of e)) (eq-eqb (head-of e % 2) 0 even)
       ∙ ap (λ (x : Entry). step-numbers (Whole x)) same
@@ -137,7 +137,7 @@ module _ (first : List ℕ) (b : ℕ) (c : Continued first) where
   -- ---- a word
   module _ (h : ℕ) where
     abbrev word-step : Step
-    word-step = step (Word h (grown-by none first)) b
+    word-step = byte-taken (Word h (grown-by none first)) b
 
     word-says : (a : StepNumbers) → WordAs h s a → step-numbers word-step ≡ a
     word-says _ (plain.WordAs.goes-on k) = ap step-numbers (number-goes (Word h) (word-read h) (word-rule h) (last-continued first b k))

@@ -10,7 +10,7 @@ use lib.Dec.{ltb}
 use lib.ListN.{length, length-append}
 use borrow.Author.Tests.{lt-ltb, le-ltb}
 use Rattle.transcript_spec.specs.InPlainWords.{Continued, Spelled}
-use Rattle.transcript_spec.specs.Reading.{none, grown, head-read, word-read, step, at, fed, feed, feeds}
+use Rattle.transcript_spec.specs.Reading.{none, grown, head-read, word-read, byte-taken, at, fed, feed, feeds}
 use Rattle.transcript_spec.specs.declared.Entry.{Entry}
 use Rattle.transcript_spec.specs.declared.Number.{Number}
 use Rattle.transcript_spec.specs.declared.Part.{Part}
@@ -29,12 +29,12 @@ grown-snoc n [] b = refl
 grown-snoc n (x ∷ first) b = grown-snoc (grown n x) first b
 
 module _ (K : Number → Part) (D : Number → Step)
-    (rule : (n : Number) (b : ℕ) → step (K n) b ≡ cond (ltb b 128) (D (grown n b)) (Goes (K (grown n b))))
+    (rule : (n : Number) (b : ℕ) → byte-taken (K n) b ≡ cond (ltb b 128) (D (grown n b)) (Goes (K (grown n b))))
     (got : List Entry) (from : ℕ) where
-  goes : (n : Number) (b : ℕ) → 128 ≤ b → step (K n) b ≡ Goes (K (grown n b))
+  goes : (n : Number) (b : ℕ) → 128 ≤ b → byte-taken (K n) b ≡ Goes (K (grown n b))
   goes n b h = rule n b ∙ ap (λ (t : Bool). cond t (D (grown n b)) (Goes (K (grown n b)))) (le-ltb b 128 h)
 
-  judged : (n : Number) (b : ℕ) → b < 128 → step (K n) b ≡ D (grown n b)
+  judged : (n : Number) (b : ℕ) → b < 128 → byte-taken (K n) b ≡ D (grown n b)
   judged n b h = rule n b ∙ ap (λ (t : Bool). cond t (D (grown n b)) (Goes (K (grown n b)))) (lt-ltb b 128 h)
 
   -- Bytes with the top bit set are added to the number.
@@ -71,10 +71,10 @@ module _ (K : Number → Part) (D : Number → Step)
       length-one-more i m n e = omega arith
 
 -- ---- heads and words
-pub head-rule : (n : Number) (b : ℕ) → step (Head n) b ≡ cond (ltb b 128) (head-read (grown n b)) (Goes (Head (grown n b)))
-unfolding step
+pub head-rule : (n : Number) (b : ℕ) → byte-taken (Head n) b ≡ cond (ltb b 128) (head-read (grown n b)) (Goes (Head (grown n b)))
+unfolding byte-taken
 head-rule n b = refl
 
-pub word-rule : (h : ℕ) (n : Number) (b : ℕ) → step (Word h n) b ≡ cond (ltb b 128) (word-read h (grown n b)) (Goes (Word h (grown n b)))
-unfolding step
+pub word-rule : (h : ℕ) (n : Number) (b : ℕ) → byte-taken (Word h n) b ≡ cond (ltb b 128) (word-read h (grown n b)) (Goes (Word h (grown n b)))
+unfolding byte-taken
 word-rule h n b = refl

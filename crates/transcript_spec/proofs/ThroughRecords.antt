@@ -11,11 +11,11 @@ use lib.ListN.{length, length-append}
 use lib.Seq.{append-snoc}
 use borrow.Author.Tests.{eq-eqb, ne-eqb}
 use Rattle.transcript_spec.specs.Format.{head-of}
-use Rattle.transcript_spec.specs.InPlainWords.{Continued, Says, Good, GoodRecord, a-read, a-write}
+use Rattle.transcript_spec.specs.InPlainWords.{Continued, Spells, Good, GoodRecord, a-read, a-write}
 use Rattle.transcript_spec.specs.InPlainWords.{Sound, nothing, and-more, BadHead, BadWord}
 use Rattle.transcript_spec.specs.InPlainWords.{BadRecord, head-cut, head-bad, word-cut, word-bad}
 use Rattle.transcript_spec.specs.InPlainWords as plain
-use Rattle.transcript_spec.specs.Reading.{none, grown, entry-of, head-read, word-read, fresh, Reading, at, fed, feeds, ended}
+use Rattle.transcript_spec.specs.Reading.{none, grown, entry-said, head-read, word-read, fresh, Reading, at, fed, feeds, ended}
 use Rattle.transcript_spec.specs.declared.Entry.{Entry}
 use Rattle.transcript_spec.specs.declared.Part.the-variants.{Head, Word}
 use Rattle.transcript_spec.specs.declared.Step.{Step}
@@ -32,33 +32,33 @@ between got i = at got i i fresh 0
 -- ---- a head
 module _ (got : List Entry) (i : ℕ) (h : List ℕ) where
   -- A good even head is a whole record.
-  whole-read : (v : ℕ) (rest : List ℕ) → Says h v → 8 ≤ v → v ≤ 31 → v % 2 ≡ 0 →
-      feeds (between got i) (h ++ rest) ≡ feeds (between (got ++ (entry-of v 0 ∷ [])) (i + length h)) rest
+  whole-read : (v : ℕ) (rest : List ℕ) → Spells h v → 8 ≤ v → v ≤ 31 → v % 2 ≡ 0 →
+      feeds (between got i) (h ++ rest) ≡ feeds (between (got ++ (entry-said v 0 ∷ [])) (i + length h)) rest
   whole-read v rest q l m z =
       reads-number Head head-read head-rule got i i h rest (q .spelled)
       ∙ ap (λ (t : Step). feeds (fed got i (i + length h) t) rest)
-      (head-accepted h v q l m ∙ ap (λ (t : Bool). cond t (Whole (entry-of v 0)) (Goes (Word v none))) (eq-eqb (v % 2) 0 z))
+      (head-accepted h v q l m ∙ ap (λ (t : Bool). cond t (Whole (entry-said v 0)) (Goes (Word v none))) (eq-eqb (v % 2) 0 z))
 
   -- A good odd head calls for a word.
-  write-begun : (v : ℕ) (rest : List ℕ) → Says h v → 8 ≤ v → v ≤ 31 → v % 2 ≡ 1 →
+  write-begun : (v : ℕ) (rest : List ℕ) → Spells h v → 8 ≤ v → v ≤ 31 → v % 2 ≡ 1 →
       feeds (between got i) (h ++ rest) ≡ feeds (at got i (i + length h) (Word v none) 0) rest
   write-begun v rest q l m o =
       reads-number Head head-read head-rule got i i h rest (q .spelled)
       ∙ ap (λ (t : Step). feeds (fed got i (i + length h) t) rest)
       (head-accepted h v q l m
-      ∙ ap (λ (t : Bool). cond t (Whole (entry-of v 0)) (Goes (Word v none))) (ne-eqb (v % 2) 0 (λ z. omega arith)))
+      ∙ ap (λ (t : Bool). cond t (Whole (entry-said v 0)) (Goes (Word v none))) (ne-eqb (v % 2) 0 (λ z. omega arith)))
 
 -- ---- a good record
 module _ (got : List Entry) (i : ℕ) where
-  good-read : (s rest : List ℕ) (e : Entry) → Good e → e .kind ≡ 0 → Says s (head-of e) →
+  good-read : (s rest : List ℕ) (e : Entry) → Good e → e .kind ≡ 0 → Spells s (head-of e) →
       feeds (between got i) (s ++ rest) ≡ feeds (between (got ++ (e ∷ [])) (i + length s)) rest
   good-read s rest e g k q =
       let r = head-range e g in
-      let same : entry-of (head-of e) 0 ≡ e = ap (entry-of (head-of e)) (sym (g .read k)) ∙ head-back e g in
+      let same : entry-said (head-of e) 0 ≡ e = ap (entry-said (head-of e)) (sym (g .read k)) ∙ head-back e g in
       whole-read got i s (head-of e) rest q (r .0) (r .1) (head-kind e g ∙ k)
       ∙ ap (λ (x : Entry). feeds (between (got ++ (x ∷ [])) (i + length s)) rest) same
 
-  good-write : (h w rest : List ℕ) (e : Entry) → Good e → e .kind ≡ 1 → Says h (head-of e) → Says w (e .word) →
+  good-write : (h w rest : List ℕ) (e : Entry) → Good e → e .kind ≡ 1 → Spells h (head-of e) → Spells w (e .word) →
       feeds (between got i) ((h ++ w) ++ rest) ≡ feeds (between (got ++ (e ∷ [])) (i + length (h ++ w))) rest
   good-write h w rest e g k q p =
       let r = head-range e g in

@@ -17,7 +17,7 @@ use Rattle.transcript_spec.specs.Format.{transcript-of}
 use Rattle.transcript_spec.specs.InPlainWords.{Good, AllGood, Written}
 use Rattle.transcript_spec.specs.InPlainWords.{BadEntry, no-register, no-lanes, long-word, no-kind, read-with-word}
 use Rattle.transcript_spec.specs.InPlainWords as plain
-use Rattle.transcript_spec.specs.Writing.{no-record, entry-refusal, refused, accepted, first-bad, fitting, write-answer}
+use Rattle.transcript_spec.specs.Writing.{no-record, entry-refusal, refused, accepted, first-bad, accepted-if-fits, write-answer}
 use Rattle.transcript_spec.specs.declared.Entry.{Entry}
 use Rattle.transcript_spec.specs.declared.Transcribed.{Transcribed}
 
@@ -145,14 +145,14 @@ module _ (es : List Entry) (room : ℕ) where
   says : (o : Transcribed) → Written es room o → write-answer es room ≡ o
   unfolding write-answer
   says _ (plain.Written.done g h) =
-      none-bad 0 es (fitting (length (transcript-of es)) room) g
+      none-bad 0 es (accepted-if-fits (length (transcript-of es)) room) g
       ∙ ap (λ (t : Bool). cond t (refused 24 0) (accepted (length (transcript-of es)))) (le-ltb room (length (transcript-of es)) h)
   says _ (plain.Written.too-small g h) =
-      none-bad 0 es (fitting (length (transcript-of es)) room) g
+      none-bad 0 es (accepted-if-fits (length (transcript-of es)) room) g
       ∙ ap (λ (t : Bool). cond t (refused 24 0) (accepted (length (transcript-of es)))) (lt-ltb room (length (transcript-of es)) h)
   says _ (plain.Written.bad-entry xs ys {e} {n} q g b) =
-      ap (λ (l : List Entry). first-bad 0 l (fitting (length (transcript-of es)) room)) q
-      ∙ finds-bad 0 xs ys e n (fitting (length (transcript-of es)) room) g b
+      ap (λ (l : List Entry). first-bad 0 l (accepted-if-fits (length (transcript-of es)) room)) q
+      ∙ finds-bad 0 xs ys e n (accepted-if-fits (length (transcript-of es)) room) g b
       ∙ ap (refused n) (zero-add (length xs))
 
   some : Sorted es → (o : Transcribed) × Written es room o

@@ -8,8 +8,8 @@
 use Prim.Native.Nat.{ℕ, _+_, _*_, _≤_}
 use mathlib.Core.Path.{_≡_}
 use mathlib.Core.List.{List}
-use Rattle.transcript_spec.specs.InPlainWords.{Continued, Spelled, Says, Good, WriteHead, BadHead, BadWord}
-use Rattle.transcript_spec.specs.Reading.{entry-of}
+use Rattle.transcript_spec.specs.InPlainWords.{Continued, Spelled, Spells, Good, WriteHead, BadHead, BadWord}
+use Rattle.transcript_spec.specs.Reading.{entry-said}
 use Rattle.transcript_spec.specs.declared.Entry.{Entry}
 use Rattle.transcript_spec.specs.declared.Step.{Step}
 use Rattle.transcript_spec.specs.declared.Step.the-variants.{Goes, Whole, Bad}
@@ -35,11 +35,11 @@ step-numbers (Bad n) = record { number = n; count = 0; entry = no-entry }
 pub data HeadAs (s : List ℕ) : StepNumbers → Type 0 where
   goes-on : Continued s → HeadAs s (record { number = 0; count = 0; entry = no-entry })
   bad : {n : ℕ} → Spelled s → BadHead s n → HeadAs s (record { number = n; count = 0; entry = no-entry })
-  of-read : {e : Entry} → Good e → e .kind ≡ 0 → Says s (e .kind + 2 * e .register + 8 * e .lanes) →
+  of-read : {e : Entry} → Good e → e .kind ≡ 0 → Spells s (e .kind + 2 * e .register + 8 * e .lanes) →
       HeadAs s (record { number = 0; count = 1; entry = e })
   of-write : WriteHead s → HeadAs s (record { number = 0; count = 0; entry = no-entry })
 
 pub data WordAs (h : ℕ) (s : List ℕ) : StepNumbers → Type 0 where
   goes-on : Continued s → WordAs h s (record { number = 0; count = 0; entry = no-entry })
   bad : {n : ℕ} → Spelled s → BadWord s n → WordAs h s (record { number = n; count = 0; entry = no-entry })
-  of-write : {v : ℕ} → Says s v → v ≤ 65535 → WordAs h s (record { number = 0; count = 1; entry = entry-of h v })
+  of-write : {v : ℕ} → Spells s v → v ≤ 65535 → WordAs h s (record { number = 0; count = 1; entry = entry-said h v })

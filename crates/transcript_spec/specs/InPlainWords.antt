@@ -3,7 +3,7 @@
 --   Spelled s             s is the bytes of one number: some with the top bit set, then one without
 --   value-of s            the number that they spell, of any length
 --   Padded s, Unpadded s  its first group is 0, and another follows; it is not so
---   Says s v              s spells v, with no leading zero group
+--   Spells s v            s spells v, with no leading zero group
 --   Good e, AllGood es    an entry that has a record; a list of them
 --   OffLanes e            its lanes are not 1, 2 or 3
 --   BadEntry e n          an entry that has none, and the number with which it is refused
@@ -52,7 +52,7 @@ Padded s = getD s 0 0 ≡ 128
 abbrev pub Unpadded : List ℕ → Type 0
 Unpadded s = getD s 0 0 ≢ 128
 
-pub record Says (s : List ℕ) (v : ℕ) : Type 0 where
+pub record Spells (s : List ℕ) (v : ℕ) : Type 0 where
   pub spelled : Spelled s
   pub unpadded : Unpadded s
   pub value : value-of s ≡ v
@@ -92,9 +92,9 @@ later-places n l = lists (drop n (l .kinds)) (drop n (l .registers)) (drop n (l 
 -- ---- good records: "A record is a head, then for a write the word. The head is kind (0 read, 1 write) + 2 × register + 8 × lanes"
 
 pub data GoodRecord : List ℕ → Entry → Type 0 where
-  a-read : {s : List ℕ} {e : Entry} → Good e → e .kind ≡ 0 → Says s (e .kind + 2 * e .register + 8 * e .lanes) → GoodRecord s e
-  a-write : {h w : List ℕ} {e : Entry} → Good e → e .kind ≡ 1 → Says h (e .kind + 2 * e .register + 8 * e .lanes) →
-      Says w (e .word) → GoodRecord (h ++ w) e
+  a-read : {s : List ℕ} {e : Entry} → Good e → e .kind ≡ 0 → Spells s (e .kind + 2 * e .register + 8 * e .lanes) → GoodRecord s e
+  a-write : {h w : List ℕ} {e : Entry} → Good e → e .kind ≡ 1 → Spells h (e .kind + 2 * e .register + 8 * e .lanes) →
+      Spells w (e .word) → GoodRecord (h ++ w) e
 
 pub data Sound : List ℕ → List Entry → Type 0 where
   nothing : Sound [] []
@@ -115,7 +115,7 @@ pub data BadWord (s : List ℕ) : ℕ → Type 0 where
 -- an odd head is a write's
 pub record WriteHead (s : List ℕ) : Type 0 where
   pub head : ℕ
-  pub says : Says s head
+  pub says : Spells s head
   pub lanes : 8 ≤ head
   pub small : head ≤ 31
   pub write : head % 2 ≡ 1

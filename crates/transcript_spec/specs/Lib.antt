@@ -6,4 +6,4 @@ pub mod Reading
 -- ---- the words of the laws
 pub mod InPlainWords
 pub mod InNumbers
-pub mod Table
+pub mod Examples

@@ -1,9 +1,9 @@
 -- The reader, byte by byte: document 02, request (ii).
 --   none, with-group, grown   a number before its first group; what one group more makes of its value; the number with one byte more
---   entry-of h w              the entry of a record whose head is h and whose word is w
+--   entry-said h w            the entry of a record whose head is h and whose word is w
 --   head-read, word-read      what a head, a word says when its last group is read
 --   fresh                     before a record
---   step p b                  what the byte b makes of the part p
+--   byte-taken p b            what the byte b makes of the part p
 --   Reading                   how far a transcript is read
 --   at, fed, feed, feeds      such a reading, by its parts; with what a byte made; with one byte more; with a whole string more
 --   start, cut-off, ended     before the first byte; the refusal of a part when nothing follows, or 0; that of a reading
@@ -18,7 +18,7 @@ use mathlib.Core.List.{List, [], _∷_, _++_}
 use lib.Dec.{eqb, ltb}
 use lib.ListN.{length}
 use Rattle.transcript_spec.specs.Lists.{Lists, size, with-entries}
-use Rattle.transcript_spec.specs.Writing.{refused, fitting}
+use Rattle.transcript_spec.specs.Writing.{refused, accepted-if-fits}
 use Rattle.transcript_spec.specs.declared.Entry.{Entry}
 use Rattle.transcript_spec.specs.declared.Number.{Number}
 use Rattle.transcript_spec.specs.declared.Part.{Part}
@@ -48,8 +48,8 @@ grown n b =
 -- ---- a record
 
 -- "The head is kind (0 read, 1 write) + 2 × register + 8 × lanes"
-abbrev pub entry-of : ℕ → ℕ → Entry
-entry-of h w = record { kind = h % 2; register = h / 2 % 4; lanes = h / 8; word = w }
+abbrev pub entry-said : ℕ → ℕ → Entry
+entry-said h w = record { kind = h % 2; register = h / 2 % 4; lanes = h / 8; word = w }
 
 -- "21 leading zero group, 22 head over 31 .., 23 lanes 0, the head being judged in this order before the word is read"
 unfoldable pub head-read : Number → Step
@@ -57,19 +57,19 @@ head-read n =
     cond (n .padded) (Bad 21)
     (cond (ltb 31 (n .value)) (Bad 22)
     (cond (ltb (n .value) 8) (Bad 23)
-    (cond (eqb (n .value % 2) 0) (Whole (entry-of (n .value) 0)) (Goes (Word (n .value) none)))))
+    (cond (eqb (n .value % 2) 0) (Whole (entry-said (n .value) 0)) (Goes (Word (n .value) none)))))
 
 -- "22 .. word over 65,535"
 unfoldable pub word-read : ℕ → Number → Step
-word-read h n = cond (n .padded) (Bad 21) (cond (ltb 65535 (n .value)) (Bad 22) (Whole (entry-of h (n .value))))
+word-read h n = cond (n .padded) (Bad 21) (cond (ltb 65535 (n .value)) (Bad 22) (Whole (entry-said h (n .value))))
 
 abbrev pub fresh : Part
 fresh = Head none
 
 -- "the top bit set on all bytes but the last": a number is judged when its last byte is there
-unfoldable pub step : Part → ℕ → Step
-step (Head n) b = cond (ltb b 128) (head-read (grown n b)) (Goes (Head (grown n b)))
-step (Word h n) b = cond (ltb b 128) (word-read h (grown n b)) (Goes (Word h (grown n b)))
+unfoldable pub byte-taken : Part → ℕ → Step
+byte-taken (Head n) b = cond (ltb b 128) (head-read (grown n b)) (Goes (Head (grown n b)))
+byte-taken (Word h n) b = cond (ltb b 128) (word-read h (grown n b)) (Goes (Word h (grown n b)))
 
 -- ---- a transcript
 
@@ -93,7 +93,7 @@ fed got from next (Bad n) = at got from next fresh n
 
 -- after the first bad record nothing moves
 unfoldable pub feed : Reading → ℕ → Reading
-feed a b = cond (eqb (a .refusal) 0) (fed (a .got) (a .from) (a .next + 1) (step (a .part) b)) a
+feed a b = cond (eqb (a .refusal) 0) (fed (a .got) (a .from) (a .next + 1) (byte-taken (a .part) b)) a
 
 unfoldable pub feeds : Reading → List ℕ → Reading
 feeds a [] = a
@@ -125,7 +125,7 @@ refusal-read s = ended (feeds start s)
 -- and the whole result doesn't fit"
 unfoldable pub read-answer : List ℕ → ℕ → Transcribed
 read-answer s room =
-    cond (eqb (refusal-read s) 0) (fitting (length (entries-read s)) room) (refused (refusal-read s) (place-read s))
+    cond (eqb (refusal-read s) 0) (accepted-if-fits (length (entries-read s)) room) (refused (refusal-read s) (place-read s))
 
 -- "Both sides refuse with nothing written"
 unfoldable pub lists-after : List ℕ → Lists → Lists

@@ -4,7 +4,7 @@
 --   refused n place       the answer of a refusal
 --   accepted count        that of a call that is done
 --   first-bad k es good   the answer to the first bad one of the entries es, whose first has index k; `good` where none is bad
---   fitting count room    the answer where none is bad: so many bytes or entries, and room for so many
+--   accepted-if-fits count room  the answer where none is bad: so many bytes or entries, and room for so many
 --   write-answer es room  what the writer answers of a list, lent so many bytes
 --   bytes-after es out    the lent bytes afterwards
 --   WroteTranscript       these, as the contract of the call
@@ -41,11 +41,11 @@ first-bad k [] good = good
 first-bad k (e ∷ rest) good = cond (eqb (entry-refusal e) 0) (first-bad (suc k) rest good) (refused (entry-refusal e) k)
 
 -- "24 list too small, exactly when all records are good and the whole result doesn't fit", "for 24 it is 0"
-abbrev pub fitting : ℕ → ℕ → Transcribed
-fitting count room = cond (ltb room count) (refused 24 0) (accepted count)
+abbrev pub accepted-if-fits : ℕ → ℕ → Transcribed
+accepted-if-fits count room = cond (ltb room count) (refused 24 0) (accepted count)
 
 unfoldable pub write-answer : List Entry → ℕ → Transcribed
-write-answer es room = first-bad 0 es (fitting (length (transcript-of es)) room)
+write-answer es room = first-bad 0 es (accepted-if-fits (length (transcript-of es)) room)
 
 -- "Both sides refuse with nothing written"
 unfoldable pub bytes-after : List Entry → List ℕ → List ℕ

@@ -6,11 +6,11 @@ use mathlib.Core.List.{List, [], _∷_}
 use Rattle.words.specs.Bytes.{are-lanes}
 use Rattle.transcript_spec.specs.Format.{groups, record-of, transcript-of}
 use Rattle.transcript_spec.specs.Lists.{Lists, lists, entries-from}
-use Rattle.transcript_spec.specs.Reading.{with-group, head-read, word-read, step, feed, feeds, read-answer, lists-after}
+use Rattle.transcript_spec.specs.Reading.{with-group, head-read, word-read, byte-taken, feed, feeds, read-answer, lists-after}
 use Rattle.transcript_spec.specs.Writing.{refused, accepted, no-record, entry-refusal, first-bad, write-answer, bytes-after}
 use Rattle.transcript_trial.specs.Record.{lists-in, string-lent, string-back, lists-lent, lists-returned}
-use Rattle.transcript_trial.specs.Carried.{called-answer, called-string, called-lists}
-use Rattle.transcript_trial.specs.Carried.{answer-from, string-from, lists-from, Carried}
+use Rattle.transcript_trial.specs.CarriedOut.{called-answer, called-string, called-lists}
+use Rattle.transcript_trial.specs.CarriedOut.{answer-from, string-from, lists-from, CarriedOut}
 
 -- n numbers from k on
 abbrev counting : ℕ → ℕ → List ℕ
@@ -72,25 +72,25 @@ they-say =
 pub record Leaves : Type 0 where
   -- the writer, lent two entries and five bytes: four are written, and the lists stay
   pub written :
-      Carried (4 ∷ 5 ∷ 2 ∷ 3 ∷ 4 ∷ 4 ∷ []) six four (accepted 4) (0x1D ∷ 0xA4 ∷ 0x34 ∷ 0x1E ∷ 0x07 ∷ 0x20 ∷ []) four
+      CarriedOut (4 ∷ 5 ∷ 2 ∷ 3 ∷ 4 ∷ 4 ∷ []) six four (accepted 4) (0x1D ∷ 0xA4 ∷ 0x34 ∷ 0x1E ∷ 0x07 ∷ 0x20 ∷ []) four
   -- lent two bytes: 24
-  pub too-long : Carried (4 ∷ 2 ∷ 2 ∷ 3 ∷ 4 ∷ 4 ∷ []) six four (refused 24 0) six four
+  pub too-long : CarriedOut (4 ∷ 2 ∷ 2 ∷ 3 ∷ 4 ∷ 4 ∷ []) six four (refused 24 0) six four
   -- lent three entries: the third is bad
-  pub bad-entry : Carried (4 ∷ 5 ∷ 3 ∷ 3 ∷ 4 ∷ 4 ∷ []) six four (refused 2 2) six four
+  pub bad-entry : CarriedOut (4 ∷ 5 ∷ 3 ∷ 3 ∷ 4 ∷ 4 ∷ []) six four (refused 2 2) six four
   -- the reader, lent four bytes and places for two entries: the other places and the string stay
   pub read :
-      Carried (5 ∷ 4 ∷ 2 ∷ 3 ∷ 4 ∷ 4 ∷ []) six four (accepted 2) six
+      CarriedOut (5 ∷ 4 ∷ 2 ∷ 3 ∷ 4 ∷ 4 ∷ []) six four (accepted 2) six
       (lists (0 ∷ 1 ∷ 7 ∷ 7 ∷ []) (0 ∷ 2 ∷ 7 ∷ 7 ∷ []) (1 ∷ 3 ∷ 7 ∷ 7 ∷ []) (0 ∷ 0x1234 ∷ 7 ∷ 7 ∷ []))
   -- lent places for one: 24
-  pub too-many : Carried (5 ∷ 4 ∷ 4 ∷ 3 ∷ 2 ∷ 1 ∷ []) six four (refused 24 0) six four
+  pub too-many : CarriedOut (5 ∷ 4 ∷ 4 ∷ 3 ∷ 2 ∷ 1 ∷ []) six four (refused 24 0) six four
   -- lent all bytes: the record from the fifth on is bad
-  pub bad-record : Carried (255 ∷ 255 ∷ 4 ∷ 4 ∷ 4 ∷ 4 ∷ []) six four (refused 23 4) six four
+  pub bad-record : CarriedOut (255 ∷ 255 ∷ 4 ∷ 4 ∷ 4 ∷ 4 ∷ []) six four (refused 23 4) six four
 
 -- They leave so.
 pub they-leave : Leaves
 unfolding
     answer-from string-from lists-from called-answer called-string called-lists are-lanes groups record-of transcript-of entries-from
-    with-group head-read word-read step feed feeds read-answer lists-after no-record entry-refusal first-bad write-answer bytes-after
+    with-group head-read word-read byte-taken feed feeds read-answer lists-after no-record entry-refusal first-bad write-answer bytes-after
 they-leave =
     record {
       written = record { answer = refl; string = refl; lists = refl };

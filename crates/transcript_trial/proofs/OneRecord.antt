@@ -12,9 +12,9 @@ use Rattle.transcript_spec.specs.Reading.{ReadTranscript}
 use Rattle.transcript_spec.specs.Writing.{WroteTranscript}
 use Rattle.transcript_spec.specs.declared.Transcribed.{Transcribed}
 use Rattle.transcript_spec.proofs.LentLists.{parts, put-back, Lends, parts-lent, parts-back}
-use Rattle.transcript_trial.specs.Record.{byte, column, lists-in, reads, string-lent, string-back, lists-returned}
-use Rattle.transcript_trial.specs.Carried.{called-answer, called-string, called-lists, Called}
-use Rattle.transcript_trial.specs.Carried.{answer-from, string-from, lists-from, Carried}
+use Rattle.transcript_trial.specs.Record.{byte, column, lists-in, is-read, string-lent, string-back, lists-returned}
+use Rattle.transcript_trial.specs.CarriedOut.{called-answer, called-string, called-lists, Called}
+use Rattle.transcript_trial.specs.CarriedOut.{answer-from, string-from, lists-from, CarriedOut}
 
 -- ---- a call
 module _ {reader : Bool} {s : List ℕ} {l : Lists} {o : Transcribed} where
@@ -46,21 +46,21 @@ module _ {b s : List ℕ} {l : Lists} {m k r n w : ℕ} (y : LendsBoth b s l m k
   -- The call on the lent parts, which then come back, is what the record asks for.
   pub carried :
       {o : Transcribed} {s′ : List ℕ} {l′ : Lists} →
-      Called (reads b) (take (m - 0) s) (parts k r n w l) o s′ l′ →
-      Carried b s l o (putMid 0 (m - 0) s s′) (put-back k r n w l l′)
+      Called (is-read b) (take (m - 0) s) (parts k r n w l) o s′ l′ →
+      CarriedOut b s l o (putMid 0 (m - 0) s s′) (put-back k r n w l l′)
   unfolding answer-from string-from lists-from
   carried {o} {s′} {l′} c =
       record {
-        answer = c .answer ∙ (λ i. called-answer (reads b) (string-is i) (parts-lent (y .of-lists) i));
+        answer = c .answer ∙ (λ i. called-answer (is-read b) (string-is i) (parts-lent (y .of-lists) i));
         string = back-is (byte b 1) m s (y .of-string) s′
-            ∙ ap (string-back b s) (c .string ∙ (λ i. called-string (reads b) (string-is i) (parts-lent (y .of-lists) i)));
-        lists = parts-back (y .of-lists) l′ ∙ ap (lists-returned b l) (c .lists ∙ (λ i. called-lists (reads b) (string-is i) (parts-lent (y .of-lists) i)));
+            ∙ ap (string-back b s) (c .string ∙ (λ i. called-string (is-read b) (string-is i) (parts-lent (y .of-lists) i)));
+        lists = parts-back (y .of-lists) l′ ∙ ap (lists-returned b l) (c .lists ∙ (λ i. called-lists (is-read b) (string-is i) (parts-lent (y .of-lists) i)));
       }
 
 -- The lists may be those that the record holds.
 pub on-its-lists :
     {b s kinds registers lanes words : List ℕ} {o : Transcribed} {s′ : List ℕ} {l′ : Lists} →
     kinds ≡ column b 0 → registers ≡ column b 6 → lanes ≡ column b 12 → words ≡ column b 18 →
-    Carried b s (lists kinds registers lanes words) o s′ l′ → Carried b s (lists-in b) o s′ l′
+    CarriedOut b s (lists kinds registers lanes words) o s′ l′ → CarriedOut b s (lists-in b) o s′ l′
 on-its-lists {b} {s} {kinds} {registers} {lanes} {words} {o} {s′} {l′} e f g h c =
-    subst (λ (l : Lists). Carried b s l o s′ l′) (λ i. lists (e i) (f i) (g i) (h i)) c
+    subst (λ (l : Lists). CarriedOut b s l o s′ l′) (λ i. lists (e i) (f i) (g i) (h i)) c

@@ -4,7 +4,7 @@
 --   number b k         number k of its lists
 --   column b k         the list of six numbers from number k on
 --   lists-in b         its four lists
---   reads b            it calls the reader
+--   is-read b          it calls the reader
 --   string-lent b s    what is lent of the string s
 --   string-back b s part   s when that comes back as part
 --   lists-lent b l     what is lent of the four lists l
@@ -33,8 +33,8 @@ abbrev pub lists-in : List ℕ → Lists
 lists-in b = lists (column b 0) (column b 6) (column b 12) (column b 18)
 
 -- "the writer if it is even, the reader if it is odd"
-abbrev pub reads : List ℕ → Bool
-reads b = eqb (byte b 0 % 2) 1
+abbrev pub is-read : List ℕ → Bool
+is-read b = eqb (byte b 0 % 2) 1
 
 -- "how many of the string's bytes are lent"
 abbrev pub string-lent : List ℕ → List ℕ → List ℕ

@@ -3,7 +3,7 @@ ghost use mathlib.Core.Path.{_≡_};
 ghost use Prim.Native.Nat.{min};
 ghost use Rattle.transcript_spec.specs.Lists.{lists};
 ghost use Rattle.transcript_trial.specs.Record.{lists-in};
-ghost use Rattle.transcript_trial.specs.Carried.{Called, Carried};
+ghost use Rattle.transcript_trial.specs.CarriedOut.{Called, CarriedOut};
 use crate::reading::column_at;
 use transcript::read_transcript;
 use transcript::write_transcript;
@@ -54,7 +54,7 @@ fn carry_out(
     lanes: &mut [u32],
     words: &mut [u32],
 ) -> Transcribed
-    ensures { λ o. ⌜ Carried (now (bytes .entry)) (now (string .entry))
+    ensures { λ o. ⌜ CarriedOut (now (bytes .entry)) (now (string .entry))
         (lists (now (kinds .entry)) (now (registers .entry)) (now (lanes .entry)) (now (words .entry)))
         o (now (string .exit)) (lists (now (kinds .exit)) (now (registers .exit)) (now (lanes .exit)) (now (words .exit))) ⌝ }
 {
@@ -76,7 +76,7 @@ fn carry_out(
 
 // The record's call, with the string and with the lists that are in the record.
 pub(crate) fn carry_record(bytes: &[u8; 104], string: &mut [u8]) -> Left
-    ensures { λ d. ⌜ Carried (now (bytes .entry)) (now (string .entry)) (lists-in (now (bytes .entry)))
+    ensures { λ d. ⌜ CarriedOut (now (bytes .entry)) (now (string .entry)) (lists-in (now (bytes .entry)))
         (d .answer) (now (string .exit)) (lists (d .kinds) (d .registers) (d .lanes) (d .words)) ⌝ }
 {
     let mut kinds = column_at(bytes, 0);

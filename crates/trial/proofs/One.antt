@@ -8,7 +8,7 @@ use mathlib.Core.Path.{_≡_, sym, ap, _∙_}
 use lib.ListN.{take}
 use Rattle.words.proofs.Choices.{both-true, same-or-not}
 use Rattle.script.specs.Script.{is-call}
-use Rattle.trial.specs.Runs.{World, world, line-at, all-calls, after-lines, printed, RanLines}
+use Rattle.trial.specs.Lines.{World, world, line-at, all-calls, after-lines, printed, RanLines}
 use Rattle.trial.specs.declared.turns.Ran.{Ran}
 
 -- where the first n lines are calls, each of them is

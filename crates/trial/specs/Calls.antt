@@ -1,10 +1,10 @@
 -- A call of a script, carried out: crates/script/src/lib.rt, the table of 'A script' and the second one of 'What is printed'.
---   with-registers, with-bus, with-lengths, woken, first-state   the state: with a part replaced, after reset, at the start
---   done s n x y                a call's answer, beside the state that it leaves
+--   with-registers, with-bus, with-lengths, woken-state, first-state  the state: with a part replaced, after reset, at the start
+--   done-with s n x y           a call's answer, beside the state that it leaves
 --   .. -answer, .. -memory, .. -room, .. -list   what calls of one kind answer, and leave of what they have
 --   access-in, place-of, registers-in, state-set   what the numbers of a call say
 --   filled, digest              the words that M and J lay down; the digest of the first n words of a list
---   answer-to, room-after, list-after, Carried   any call
+--   answer-to, room-after, list-after, CarriedOut  any call
 use Prim.Native.Nat.{ℕ, zero, suc, _+_, _*_, _-_, _%_, _^_}
 use mathlib.Core.Bool.{cond, _||_}
 use mathlib.Core.List.{List, [], _∷_, _++_}
@@ -52,15 +52,15 @@ abbrev pub with-lengths : State → ℕ → ℕ → State
 with-lengths s n m = record { registers = s .registers; bus = s .bus; length = n; size = m }
 
 -- "reset (registers and bus; memory stays)"
-abbrev pub woken : ℕ → ℕ → State
-woken n m = record { registers = at-reset .registers; bus = at-reset .bus; length = n; size = m }
+abbrev pub woken-state : ℕ → ℕ → State
+woken-state n m = record { registers = at-reset .registers; bus = at-reset .bus; length = n; size = m }
 
 -- "as reset leaves them", "at the start the length is 32,768", "at the start all of them"
 abbrev pub first-state : State
-first-state = woken 32768 8192
+first-state = woken-state 32768 8192
 
-abbrev pub done : State → ℕ → ℕ → ℕ → Done
-done s n x y = record { state = s; number = n; x = x; y = y }
+abbrev pub done-with : State → ℕ → ℕ → ℕ → Done
+done-with s n x y = record { state = s; number = n; x = x; y = y }
 
 -- ---- R, W, H, K: an access by the host, on the lent memory m; one in place leaves in the record what the one by value returns
 
@@ -80,7 +80,7 @@ marks a = 16 * counted (a .hollow) + cycle-number (a .cycle)
 
 -- "x: the word answered"
 abbrev pub host-done : State → Outcome → Done
-host-done s o = done (with-registers s (o .registers)) (o .answer .number) (o .answer .word) (marks (o .answer))
+host-done s o = done-with (with-registers s (o .registers)) (o .answer .number) (o .answer .word) (marks (o .answer))
 
 abbrev pub host-answer : State → List ℕ → Call → Done
 host-answer s m c = host-done s (access (s .registers) m (access-in c))
@@ -96,10 +96,10 @@ pub record HostDone (s : State) (m : List ℕ) (c : Call) (d : Done) (m′ : Lis
 -- ---- P, Q: an access by the processor
 
 abbrev pub read-done : State → ProcessorRead → Done
-read-done s o = done s (o .number) (o .word) 0
+read-done s o = done-with s (o .number) (o .word) 0
 
 abbrev pub written-done : State → ProcessorWrite → Done
-written-done s o = done (with-registers s (o .registers)) (o .number) 0 0
+written-done s o = done-with (with-registers s (o .registers)) (o .number) 0 0
 
 unfoldable pub processor-answer : State → Call → Done
 processor-answer s c =
@@ -114,13 +114,13 @@ modulo (pos n) = n
 modulo (negsuc n) = 2 ^ 32 - 1 - n
 
 abbrev pub taken-done : State → Taken → Done
-taken-done s t = done s (t .number) (t .value) (t .cycles)
+taken-done s t = done-with s (t .number) (t .value) (t .cycles)
 
 abbrev pub signed-done : State → SignedTaken → Done
-signed-done s t = done s (t .number) (modulo (t .value)) (t .cycles)
+signed-done s t = done-with s (t .number) (modulo (t .value)) (t .cycles)
 
 abbrev pub put-done : State → Put → Done
-put-done s p = done s (p .number) 0 (p .cycles)
+put-done s p = done-with s (p .number) 0 (p .cycles)
 
 -- "a: bit address, b: size, c: value"
 unfoldable pub field-answer : State → List ℕ → Call → Done
@@ -142,11 +142,11 @@ pub record FieldDone (s : State) (m : List ℕ) (c : Call) (d : Done) (m′ : Li
 -- ---- A, B, C: the bus
 
 abbrev pub bus-done : State → BusAnswer → Done
-bus-done s o = done (with-bus s (o .bus)) (o .number) 0 0
+bus-done s o = done-with (with-bus s (o .bus)) (o .number) 0 0
 
 -- "x: the source granted"
 abbrev pub granted-done : State → Granted → Done
-granted-done s o = done (with-bus s (o .bus)) (o .number) (o .source) 0
+granted-done s o = done-with (with-bus s (o .bus)) (o .number) (o .source) 0
 
 unfoldable pub bus-answer : State → Call → Done
 bus-answer s c =
@@ -161,11 +161,11 @@ place-of a b = a + 2 ^ 32 * b
 
 -- "x: the hollow words handed out"
 abbrev pub block-read-done : State → BlockRead → Done
-block-read-done s o = done (with-registers s (o .registers)) (o .number) (o .hollows) 0
+block-read-done s o = done-with (with-registers s (o .registers)) (o .number) (o .hollows) 0
 
 -- "x: the stores that fell empty"
 abbrev pub block-write-done : State → BlockWrite → Done
-block-write-done s o = done (with-registers s (o .registers)) (o .number) (o .empties) 0
+block-write-done s o = done-with (with-registers s (o .registers)) (o .number) (o .empties) 0
 
 unfoldable pub block-answer : State → List ℕ → List ℕ → Call → Done
 block-answer s m l c =
@@ -201,7 +201,7 @@ unfoldable pub state-set : State → Call → State
 state-set s c =
     cond (eqb (c .letter) 0x4e) (with-lengths s (c .a) (s .size))
     (cond (eqb (c .letter) 0x4c) (with-lengths s (s .length) (c .a))
-    (cond (eqb (c .letter) 0x47) (with-registers s (registers-in c)) (woken (s .length) (s .size))))
+    (cond (eqb (c .letter) 0x47) (with-registers s (registers-in c)) (woken-state (s .length) (s .size))))
 
 -- ---- M, J, D: the whole room and the whole list
 
@@ -217,7 +217,7 @@ digest l (suc k) = (digest l k * 31 + getD l k 0) % 2 ^ 32
 
 unfoldable pub whole-answer : State → List ℕ → List ℕ → Call → Done
 whole-answer s room list c =
-    cond (eqb (c .letter) 0x44) (done s 0 (digest room (length room)) (digest list (length list))) (done s 0 0 0)
+    cond (eqb (c .letter) 0x44) (done-with s 0 (digest room (length room)) (digest list (length list))) (done-with s 0 0 0)
 
 unfoldable pub whole-room : List ℕ → Call → List ℕ
 whole-room room c =
@@ -238,7 +238,7 @@ pub record WholeDone (s : State) (room list : List ℕ) (c : Call) (d : Done) (r
 unfoldable pub plain-answer : State → Call → Done
 plain-answer s c =
     cond (processor-letter (c .letter)) (processor-answer s c)
-    (cond (bus-letter (c .letter)) (bus-answer s c) (done (state-set s c) 0 0 0))
+    (cond (bus-letter (c .letter)) (bus-answer s c) (done-with (state-set s c) 0 0 0))
 
 -- one that is lent the memory m and the list l
 unfoldable pub lent-answer : State → List ℕ → List ℕ → Call → Done
@@ -279,7 +279,7 @@ list-after s room list c =
     (cond (whole-letter (c .letter)) (whole-list list c)
     (given-back (s .size) list (lent-list s (lent (s .length) room) (lent (s .size) list) c)))
 
-pub record Carried (s : State) (room list : List ℕ) (c : Call) (d : Done) (room′ list′ : List ℕ) : Type 0 where
+pub record CarriedOut (s : State) (room list : List ℕ) (c : Call) (d : Done) (room′ list′ : List ℕ) : Type 0 where
   pub answer : d ≡ answer-to s room list c
   pub left : room′ ≡ room-after s room list c
   pub list-left : list′ ≡ list-after s room list c

@@ -1,6 +1,6 @@
 // The calls on the bus: A asks, B grants, C releases hold.
 ghost use mathlib.Core.Path.{_≡_};
-ghost use Rattle.trial.specs.Calls.{with-bus, done, bus-answer};
+ghost use Rattle.trial.specs.Calls.{with-bus, done-with, bus-answer};
 use crate::setting::answer;
 use bus::Bus;
 use script::Call;
@@ -22,7 +22,7 @@ fn set_bus(s: State, b: Bus) -> State
 
 // What a call on the bus answers, and the bus that it leaves.
 fn answer_of(s: State, b: Bus, number: u8, x: u32) -> Done
-    ensures { λ d. ⌜ d ≡ done (with-bus s b) number x 0 ⌝ }
+    ensures { λ d. ⌜ d ≡ done-with (with-bus s b) number x 0 ⌝ }
 {
     answer(set_bus(s, b), number, x, 0)
 }

@@ -1,6 +1,6 @@
 // A call of a script, carried out.
 ghost use mathlib.Core.Path.{_≡_};
-ghost use Rattle.trial.specs.Calls.{plain-answer, LentDone, Carried};
+ghost use Rattle.trial.specs.Calls.{plain-answer, LentDone, CarriedOut};
 use crate::block_calls::call_block;
 use crate::bus_calls::call_bus;
 use crate::field_calls::call_fields;
@@ -48,7 +48,7 @@ fn call_lent(s: State, memory: &mut [u16], list: &mut [u16], call: Call) -> Done
 
 // Any call. What is lent of the room and of the list is their first words, as many as the state says.
 pub(crate) fn carry_out(s: State, room: &mut [u16], list: &mut [u16], call: Call) -> Done
-    ensures { λ d. ⌜ Carried s (now (room .entry)) (now (list .entry)) call d (now (room .exit)) (now (list .exit)) ⌝ }
+    ensures { λ d. ⌜ CarriedOut s (now (room .entry)) (now (list .entry)) call d (now (room .exit)) (now (list .exit)) ⌝ }
 {
     if is_plain_letter(call.letter) {
         return call_plain(s, call);

@@ -1,6 +1,6 @@
 // The state of a run: parts of it replaced, and the calls that set it, N, L, G and Z.
 ghost use mathlib.Core.Path.{_≡_};
-ghost use Rattle.trial.specs.Calls.{with-registers, with-lengths, registers-in, woken, first-state, state-set, done};
+ghost use Rattle.trial.specs.Calls.{with-registers, with-lengths, registers-in, woken-state, first-state, state-set, done-with};
 use registers::Registers;
 use script::Call;
 use script::Done;
@@ -48,7 +48,7 @@ fn registers_of(call: Call) -> Registers
 
 // The state that reset leaves, with these lengths.
 fn wake(length: usize, size: usize) -> State
-    ensures { λ r. ⌜ r ≡ woken length size ⌝ }
+    ensures { λ r. ⌜ r ≡ woken-state length size ⌝ }
 {
     let w = registers::reset();
     let r = w.registers;
@@ -86,7 +86,7 @@ pub(crate) fn set_state(s: State, call: Call) -> State
 
 // What a call answers, beside the state that it leaves.
 pub(crate) fn answer(s: State, number: u8, x: u32, y: u32) -> Done
-    ensures { λ r. ⌜ r ≡ done s number x y ⌝ }
+    ensures { λ r. ⌜ r ≡ done-with s number x y ⌝ }
 {
     Done {
         state: s,
@@ -98,7 +98,7 @@ pub(crate) fn answer(s: State, number: u8, x: u32, y: u32) -> Done
 
 // The same of a call that leaves other registers.
 pub(crate) fn answer_with(s: State, r: Registers, number: u8, x: u32, y: u32) -> Done
-    ensures { λ d. ⌜ d ≡ done (with-registers s r) number x y ⌝ }
+    ensures { λ d. ⌜ d ≡ done-with (with-registers s r) number x y ⌝ }
 {
     answer(set_registers(s, r), number, x, y)
 }

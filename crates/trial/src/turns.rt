@@ -1,7 +1,7 @@
 // Reading the script and printing the answers, a buffer at a time.
 ghost use Prim.Native.Nat.{_*_, _/_, _≤_};
 ghost use lib.ListN.{length};
-ghost use Rattle.trial.specs.Runs.{world, RanLines, TookTurn};
+ghost use Rattle.trial.specs.Lines.{world, RanLines, CalledTurn};
 use crate::calls::carry_out;
 use crate::setting::first_state;
 use script::Line;
@@ -53,7 +53,7 @@ fn run_lines(s: State, room: &mut [u16], list: &mut [u16], input: &[u8], output:
 // Reads a buffer full, as long as the script has so much, and prints its answers at once. A buffer holds whole lines: bytes after
 // the last of them are the end of a script that is bad.
 fn take_turn(s: State, room: &mut [u16], list: &mut [u16]) -> Turn
-    ensures { λ t. ⌜ TookTurn (world s (now (room .entry)) (now (list .entry))) t (now (room .exit)) (now (list .exit)) ⌝ }
+    ensures { λ t. ⌜ CalledTurn (world s (now (room .entry)) (now (list .entry))) t (now (room .exit)) (now (list .exit)) ⌝ }
 {
     let mut input = [0u8; 9728];
     let mut output = [0u8; 12032];

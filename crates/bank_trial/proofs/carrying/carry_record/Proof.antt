@@ -1,7 +1,7 @@
 -- `bank_trial::carrying::carry_record` meets its contract: its arms are the definition's, by the record's first byte.
 use borrow.Author.Needs.{needs}
 use borrow.Author.Tests.{ne-eqb}
-use Rattle.bank_trial.specs.Carried.{carried}
+use Rattle.bank_trial.specs.CarriedOut.{carried}
 use Rattle.bank_trial.proofs.carrying.carry_record.Statement.{statement}
 use Rattle.bank_trial.proofs.carrying.carry_record.Tie as tie
 

@@ -1,5 +1,5 @@
 -- `bank_trial::carrying::decode_by` meets its contract: the call is on what the record says, and its answer is what is left.
-use Rattle.bank_trial.specs.Carried.{decoded-by}
+use Rattle.bank_trial.specs.CarriedOut.{decoded-by}
 use Rattle.bank_trial.proofs.carrying.decode_by.Statement.{statement}
 use Rattle.bank_trial.proofs.carrying.decode_by.Tie as tie
 

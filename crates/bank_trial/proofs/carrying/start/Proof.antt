@@ -1,6 +1,6 @@
 -- `bank_trial::carrying::start` meets its contract: the port is the one that the record says.
 use mathlib.Core.Path.{ap}
-use Rattle.bank_trial.specs.Carried.{left}
+use Rattle.bank_trial.specs.CarriedOut.{left}
 use Rattle.bank_trial.proofs.carrying.start.Statement.{statement}
 use Rattle.bank_trial.proofs.carrying.start.Tie as tie
 

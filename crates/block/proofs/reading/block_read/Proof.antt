@@ -6,7 +6,7 @@ use native.Mathlib.Omega.{arith}
 use mathlib.Core.Path.{_≡_, sym, ap, _∙_}
 use mathlib.Core.Logic.{_≢_}
 use lib.ListN.{length}
-use Rattle.port_spec.specs.Runs.{machine}
+use Rattle.port_spec.specs.Sequences.{machine}
 use Rattle.block_spec.specs.Block.{block-number}
 use Rattle.block_spec.specs.Parts.{ReadInto}
 use Rattle.block_spec.proofs.Numbers.{when, read-barred, list-barred}

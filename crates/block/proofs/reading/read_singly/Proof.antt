@@ -11,7 +11,7 @@ use borrow.Author.Needs.{needs}
 use Rattle.registers.specs.declared.Registers.{Registers}
 use Rattle.port_spec.specs.Cycle.{standing}
 use Rattle.port_spec.specs.Deeds.{ahead}
-use Rattle.port_spec.specs.Runs.{machine, answers, ends}
+use Rattle.port_spec.specs.Sequences.{machine, answers, ends}
 use Rattle.port_spec.specs.Table.{Memory, reading}
 use Rattle.port_spec.proofs.Handed.{shows-word}
 use Rattle.block_spec.specs.Block.{counted, tally}
@@ -28,12 +28,12 @@ record Reading (r : Registers) (m part₀ part : List ℕ) (q : Registers) (holl
   most : i ≤ length part₀
   room : length part ≡ length part₀
   fits : q .latch < 65536
-  read : ReadInto (machine r m) i (record { registers = q; marked = hollows }) (take i part)
+  read : ReadInto (machine r m) i (record { registers = q; tallied = hollows }) (take i part)
 
 begun : (r : Registers) (m part : List ℕ) → r .latch < 65536 → Reading r m part part r 0 0
 unfolding reading answers ends tally
 begun r m part h =
-    record { most = omega arith; room = refl; fits = h; read = record { registers = refl; marked = refl; words = refl } }
+    record { most = omega arith; room = refl; fits = h; read = record { registers = refl; tallied = refl; words = refl } }
 
 module _ {r : Registers} {m part₀ part : List ℕ} {q : Registers} {h i : ℕ} (k : Reading r m part₀ part q h i) where
   -- one read more
@@ -53,10 +53,10 @@ module _ {r : Registers} {m part₀ part : List ℕ} {q : Registers} {h i : ℕ}
 
   -- so few that they can be counted
   countable : length part₀ ≤ 4096 → h ≤ 4096
-  countable few = omega (arith, k .most, k .read .marked, few-hollows (machine r m) i)
+  countable few = omega (arith, k .most, k .read .tallied, few-hollows (machine r m) i)
 
   -- all of them
-  ended : length part₀ ≤ i → ReadInto (machine r m) (length part₀) (record { registers = q; marked = h }) part
+  ended : length part₀ ≤ i → ReadInto (machine r m) (length part₀) (record { registers = q; tallied = h }) part
   ended all =
       let e : i ≡ length part = omega (arith, k .most, k .room) in
       let places : take i part ≡ part = rw e (take-length part) in

@@ -7,7 +7,7 @@ use mathlib.Core.Path.{_≡_}
 use lib.ListN.{length}
 use Rattle.words.specs.Addresses.{word-at}
 use Rattle.control.specs.Control.{incr}
-use Rattle.port_spec.specs.Runs.{machine}
+use Rattle.port_spec.specs.Sequences.{machine}
 use Rattle.block_spec.specs.Parts.{ReadInto}
 use Rattle.block_spec.proofs.Joining.{few-hollows, read-length, join-reads}
 use Rattle.words.proofs.Lent.{first-length}
@@ -111,7 +111,7 @@ add-t21 c =
     let n = f .before .before .before .straight-reads .result in
     let few = few-hollows (machine (start .args .r) m) n in
     let fewer = few-hollows (machine (f .read-straight .result .registers) m) (length (start .args .part .now) - n) in
-    omega (arith, straight (f .before .before) .most, start .pre .1, first f .marked, rest l .marked, few, fewer)
+    omega (arith, straight (f .before .before) .most, start .pre .1, first f .tallied, rest l .tallied, few, fewer)
 
 same-length-2 : tie.Need-same-length-2
 same-length-2 c = search needs

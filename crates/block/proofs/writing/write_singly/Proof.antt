@@ -16,7 +16,7 @@ use Rattle.control.specs.Control.{incw}
 use Rattle.registers.specs.Registers.{with-latch}
 use Rattle.registers.specs.declared.Registers.{Registers}
 use Rattle.port_spec.specs.Cycle.{stepped}
-use Rattle.port_spec.specs.Runs.{machine, answers, ends}
+use Rattle.port_spec.specs.Sequences.{machine, answers, ends}
 use Rattle.block_spec.specs.Block.{counted, tally}
 use Rattle.block_spec.specs.Parts.{WrittenFrom}
 use Rattle.block_spec.proofs.Joining.{join-writes, few-empties}
@@ -27,11 +27,11 @@ use Rattle.block.proofs.writing.write_singly.Tie as tie
 record Writing (r : Registers) (m₀ part m : List ℕ) (q : Registers) (empties i : ℕ) : Type 0 where
   most : i ≤ length part
   size : length m ≡ length m₀
-  written : WrittenFrom (machine r m₀) (take i part) (record { registers = q; marked = empties }) m
+  written : WrittenFrom (machine r m₀) (take i part) (record { registers = q; tallied = empties }) m
 
 begun : (r : Registers) (m part : List ℕ) → Writing r m part m r 0 0
 unfolding answers ends tally
-begun r m part = record { most = omega arith; size = refl; written = record { registers = refl; marked = refl; memory = refl } }
+begun r m part = record { most = omega arith; size = refl; written = record { registers = refl; tallied = refl; memory = refl } }
 
 -- the word that is written in turn i
 abbrev word : List ℕ → ℕ → ℕ
@@ -56,10 +56,10 @@ module _ {r : Registers} {m₀ part m : List ℕ} {q : Registers} {e i : ℕ} (k
 
   -- so few that they can be counted
   countable : length part ≤ 4096 → e ≤ 4096
-  countable few = omega (arith, k .most, k .written .marked, length-take-le i part (k .most), few-empties (machine r m₀) (take i part))
+  countable few = omega (arith, k .most, k .written .tallied, length-take-le i part (k .most), few-empties (machine r m₀) (take i part))
 
   -- all of them
-  ended : length part ≤ i → WrittenFrom (machine r m₀) part (record { registers = q; marked = e }) m
+  ended : length part ≤ i → WrittenFrom (machine r m₀) part (record { registers = q; tallied = e }) m
   ended all =
       let words : take i part ≡ part = take-all i part all in
       rw words at (k .written)

@@ -6,7 +6,7 @@ use lib.ListN.{length, take, drop, length-drop, take-append-drop}
 use lib.Seq.{length-take-le}
 use Rattle.words.specs.Addresses.{word-at}
 use Rattle.control.specs.Control.{incw}
-use Rattle.port_spec.specs.Runs.{machine}
+use Rattle.port_spec.specs.Sequences.{machine}
 use Rattle.block_spec.specs.Parts.{WrittenFrom}
 use Rattle.block_spec.proofs.Joining.{few-empties, join-writes}
 use Rattle.words.proofs.Lent.{first-length}
@@ -98,7 +98,7 @@ add-t25 c =
     let few = few-empties (machine (start .args .r) (start .args .memory .now)) (take n part) in
     let fewer = few-empties (machine (f .write-straight .result .registers) (f .write-straight .last .1 .0)) (drop n part) in
     let n-words = length-take-le n part most in
-    omega (arith, most, start .pre .1, first f .marked, rest l .marked, few, fewer, n-words, length-drop n part)
+    omega (arith, most, start .pre .1, first f .tallied, rest l .tallied, few, fewer, n-words, length-drop n part)
 
 same-length-2 : tie.Need-same-length-2
 same-length-2 c = search needs

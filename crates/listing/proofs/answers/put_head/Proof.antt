@@ -2,7 +2,7 @@
 use native.Mathlib.Omega.{arith}
 use mathlib.Core.Path.{refl}
 use lib.ListN.{length-set}
-use Rattle.listing.specs.Answer.{head-text}
+use Rattle.listing.specs.Answer.{number-text}
 use Rattle.listing.proofs.Laying.{six-laid}
 use borrow.Author.Needs.{needs}
 use Rattle.listing.proofs.answers.put_head.Statement.{statement}
@@ -69,7 +69,7 @@ same-length c =
     simp length-set refl
 
 returns : tie.Need-returns
-unfolding head-text
+unfolding number-text
 returns c =
     let start = c .before .before .before .before .before in
     let a = start .args in

@@ -1,7 +1,7 @@
 -- `sheet::reading::load_pointer` meets its contract: two writes, in the order that LBL commands.
 use native.Mathlib.Omega.{arith}
 use mathlib.Core.Path.{sym, _∙_}
-use Rattle.port_spec.specs.Runs.{machine}
+use Rattle.port_spec.specs.Sequences.{machine}
 use Rattle.port_spec.proofs.Loading.{low-last, high-last}
 use Rattle.sheet.proofs.reading.load_pointer.Statement.{statement}
 use Rattle.sheet.proofs.reading.load_pointer.Tie as tie

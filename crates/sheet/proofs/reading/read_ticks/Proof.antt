@@ -9,7 +9,7 @@ use lib.ListN.{length, take, set, length-set}
 use lib.Seq.{take-all, take-suc-set}
 use Rattle.registers.specs.declared.Registers.{Registers}
 use Rattle.port_spec.specs.Host.{Accessed}
-use Rattle.port_spec.specs.Runs.{Machine, machine, answers, ends}
+use Rattle.port_spec.specs.Sequences.{Machine, machine, answers, ends}
 use Rattle.port_spec.specs.Table.{reading}
 use Rattle.port_spec.specs.declared.Access.the-variants.{Read}
 use Rattle.port_spec.specs.declared.Outcome.{Outcome}

@@ -1,6 +1,6 @@
 -- `sheet::sheets::read_table` meets its contract: the pointer is loaded, the count word is read and judged, and the ticks follow.
 use native.Mathlib.Omega.{arith}
-use Rattle.port_spec.specs.Runs.{machine}
+use Rattle.port_spec.specs.Sequences.{machine}
 use Rattle.sheet.proofs.TableRead.{count-refused, count-right}
 use Rattle.sheet.proofs.sheets.read_table.Statement.{statement}
 use Rattle.sheet.proofs.sheets.read_table.Tie as tie

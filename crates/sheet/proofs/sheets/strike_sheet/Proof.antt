@@ -4,7 +4,7 @@ use native.Mathlib.Omega.{arith}
 use borrow.Author.Tests.{eq-eqb, ne-eqb}
 use mathlib.Core.Path.{refl, sym, _∙_}
 use lib.ListN.{length}
-use Rattle.port_spec.specs.Runs.{machine}
+use Rattle.port_spec.specs.Sequences.{machine}
 use Rattle.sheet_spec.specs.Sheet.{sheet-of, list-after}
 use Rattle.sheet_spec.proofs.Begun.{begins}
 use Rattle.sheet_spec.proofs.Range.{time-accepted}

@@ -5,7 +5,7 @@ use native.Mathlib.Omega.{arith}
 use mathlib.Core.Path.{_≡_}
 use mathlib.Core.List.{List}
 use lib.ListN.{drop, replicate}
-use Rattle.port_spec.specs.Runs.{machine}
+use Rattle.port_spec.specs.Sequences.{machine}
 use Rattle.sheet_spec.specs.Sheet.{ticks-refusal}
 use Rattle.sheet.specs.Parts.{ReadTicks}
 use Rattle.words.proofs.Lent.{first-length}

@@ -8,7 +8,7 @@ use mathlib.Core.List.{List}
 use lib.ListN.{length}
 use Rattle.words.specs.Memory.{store-at}
 use Rattle.sheet_trial.specs.Record.{number}
-use Rattle.sheet_trial.specs.Carried.{laid}
+use Rattle.sheet_trial.specs.CarriedOut.{laid}
 use Rattle.sheet_trial.proofs.carrying.lay_words.Statement.{statement}
 use Rattle.sheet_trial.proofs.carrying.lay_words.Tie as tie
 

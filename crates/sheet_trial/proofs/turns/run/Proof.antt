@@ -6,7 +6,7 @@ use mathlib.Core.Bool.{Bool}
 use mathlib.Core.List.{List}
 use lib.Ieee.{Float}
 use lib.ListN.{length}
-use Rattle.sheet_trial.specs.Runs.{TookTurn, one-record, no-record, Ran, no-records, and-one}
+use Rattle.sheet_trial.specs.Records.{StruckTurn, one-record, no-record, Ran, no-records, and-one}
 use Rattle.sheet_trial.proofs.turns.run.Statement.{statement}
 use Rattle.sheet_trial.proofs.turns.run.Tie as tie
 
@@ -18,13 +18,13 @@ record Going (room₀ : List ℕ) (list₀ : List Float) (room : List ℕ) (list
 module _ {room₀ room : List ℕ} {list₀ list : List Float} where
   on :
       {more : Bool} {room′ : List ℕ} {list′ : List Float} →
-      Ran room₀ list₀ room list → TookTurn room list more room′ list′ → Ran room₀ list₀ room′ list′
+      Ran room₀ list₀ room list → StruckTurn room list more room′ list′ → Ran room₀ list₀ room′ list′
   on r (one-record k) = and-one r k
   on r no-record = r
 
   turned :
       {more : Bool} {room′ : List ℕ} {list′ : List Float} →
-      Going room₀ list₀ room list → TookTurn room list more room′ list′ →
+      Going room₀ list₀ room list → StruckTurn room list more room′ list′ →
       length room′ ≡ length room → length list′ ≡ length list → Going room₀ list₀ room′ list′
   turned g t p q = record { rooms = p ∙ g .rooms; lists = q ∙ g .lists; ran = on (g .ran) t }
 

@@ -1,6 +1,6 @@
 -- `sheet_trial::turns::take_turn` meets its contract: the bytes that it read are the record.
 use borrow.Author.Needs.{needs}
-use Rattle.sheet_trial.specs.Runs.{one-record, no-record}
+use Rattle.sheet_trial.specs.Records.{one-record, no-record}
 use Rattle.sheet_trial.proofs.turns.take_turn.Statement.{statement}
 use Rattle.sheet_trial.proofs.turns.take_turn.Tie as tie
 

@@ -7,7 +7,7 @@ use mathlib.Core.List.{List}
 use lib.ListN.{length, getD}
 use borrow.Author.Needs.{needs}
 use Rattle.transcript_spec.specs.Lists.{Lists, lists, with-entry, with-each}
-use Rattle.transcript_spec.specs.Reading.{Reading, fresh, step}
+use Rattle.transcript_spec.specs.Reading.{Reading, fresh, byte-taken}
 use Rattle.transcript_spec.specs.declared.Entry.{Entry}
 use Rattle.transcript_spec.specs.declared.Part.{Part}
 use Rattle.transcript_spec.specs.declared.Step.the-variants.{Goes, Whole, Bad}
@@ -33,11 +33,11 @@ module _ {p₀ : Part} {s : List ℕ} {l₀ l : Lists} {p : Part} {entries i : �
   lengths = rw (f .filled) (each-lengths l₀ 0 (f .reads .got))
 
   module _ (more : i < length s) where
-    still-filled : {q : Part} → step p (getD s i 0) ≡ Goes q → Filling p₀ s l₀ l q entries (i + 1)
+    still-filled : {q : Part} → byte-taken p (getD s i 0) ≡ Goes q → Filling p₀ s l₀ l q entries (i + 1)
     still-filled e = record { place = f .place; reads = goes-on (f .reads) more e; filled = f .filled }
 
     -- a good record's entry takes the next place
-    one-put : {e : Entry} → step p (getD s i 0) ≡ Whole e → {l′ : Lists} → l′ ≡ with-entry l entries e →
+    one-put : {e : Entry} → byte-taken p (getD s i 0) ≡ Whole e → {l′ : Lists} → l′ ≡ with-entry l entries e →
         Filling p₀ s l₀ l′ fresh (entries + 1) (i + 1)
     one-put {e} w x =
         record {
@@ -50,7 +50,7 @@ module _ {p₀ : Part} {s : List ℕ} {l₀ l : Lists} {p : Part} {entries i : �
               sym (each-more l₀ 0 (f .reads .got) e);
         }
 
-    bad-ends : {n : ℕ} → step p (getD s i 0) ≡ Bad n → l ≡ with-each l₀ 0 (read-on p₀ s .got)
+    bad-ends : {n : ℕ} → byte-taken p (getD s i 0) ≡ Bad n → l ≡ with-each l₀ 0 (read-on p₀ s .got)
     bad-ends b = f .filled ∙ ap (λ (r : Reading). with-each l₀ 0 (r .got)) (sym (stopped (f .reads) more b))
 
   all-put : length s ≤ i → l ≡ with-each l₀ 0 (read-on p₀ s .got)

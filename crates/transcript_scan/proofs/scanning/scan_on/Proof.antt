@@ -6,7 +6,7 @@ use mathlib.Core.Path.{_≡_, refl, sym, ap, _∙_}
 use mathlib.Core.List.{List}
 use lib.ListN.{length, getD}
 use borrow.Author.Needs.{needs}
-use Rattle.transcript_spec.specs.Reading.{Reading, fresh, step}
+use Rattle.transcript_spec.specs.Reading.{Reading, fresh, byte-taken}
 use Rattle.transcript_spec.specs.declared.Entry.{Entry}
 use Rattle.transcript_spec.specs.declared.Part.{Part}
 use Rattle.transcript_spec.specs.declared.Step.the-variants.{Goes, Whole, Bad}
@@ -47,13 +47,13 @@ entered s entries place next part refusal = record { on = λ p₀ g. g; behind =
 
 module _ {p₀ : Part} {s : List ℕ} {entries place next : ℕ} {part : Part} {refusal : ℕ} (g : Good p₀ s entries place next part refusal) where
   module _ (more : next < length s) where
-    longer : {q : Part} → step part (getD s next 0) ≡ Goes q → Good p₀ s entries place (next + 1) q refusal
+    longer : {q : Part} → byte-taken part (getD s next 0) ≡ Goes q → Good p₀ s entries place (next + 1) q refusal
     longer e = record { reads = goes-on (g .reads) more e; none-bad = g .none-bad }
 
-    closed : {e : Entry} → step part (getD s next 0) ≡ Whole e → Good p₀ s (entries + 1) (next + 1) (next + 1) fresh refusal
+    closed : {e : Entry} → byte-taken part (getD s next 0) ≡ Whole e → Good p₀ s (entries + 1) (next + 1) (next + 1) fresh refusal
     closed e = record { reads = counted (g .reads) more e; none-bad = g .none-bad }
 
-    bad-found : {n : ℕ} → step part (getD s next 0) ≡ Bad n → found entries place (next + 1) fresh n ≡ scanned-on p₀ s
+    bad-found : {n : ℕ} → byte-taken part (getD s next 0) ≡ Bad n → found entries place (next + 1) fresh n ≡ scanned-on p₀ s
     bad-found {n} b =
         ap (λ (m : ℕ). found m place (next + 1) fresh n) (g .reads .count) ∙ ap found-by (sym (stopped (g .reads) more b))
 
@@ -66,7 +66,7 @@ module _ {p₀ : Part} {s : List ℕ} {entries place next : ℕ} {part : Part} {
 -- one byte more of a record that goes on
 one-longer : {s : List ℕ} {entries₀ place₀ next₀ : ℕ} {part₀ : Part} {refusal₀ entries place next : ℕ} {part q : Part} {refusal : ℕ} →
     Within s entries₀ place₀ next₀ part₀ refusal₀ entries place next part refusal → next < length s →
-    step part (getD s next 0) ≡ Goes q → Within s entries₀ place₀ next₀ part₀ refusal₀ entries place (next + 1) q refusal
+    byte-taken part (getD s next 0) ≡ Goes q → Within s entries₀ place₀ next₀ part₀ refusal₀ entries place (next + 1) q refusal
 one-longer w more e = record { on = λ p₀ g. longer (w .on p₀ g) more e; behind = omega (arith, w .behind) }
 
 abbrev Inv-groups : tie.InvT-groups

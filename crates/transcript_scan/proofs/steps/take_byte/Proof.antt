@@ -1,7 +1,7 @@
 -- `transcript_scan::steps::take_byte` meets its contract: by the part, and by the byte's top bit.
 use borrow.Author.Needs.{needs}
 use borrow.Author.Tests.{lt-ltb, le-ltb}
-use Rattle.transcript_spec.specs.Reading.{step}
+use Rattle.transcript_spec.specs.Reading.{byte-taken}
 use Rattle.transcript_scan.proofs.steps.take_byte.Statement.{statement}
 use Rattle.transcript_scan.proofs.steps.take_byte.Tie as tie
 
@@ -15,7 +15,7 @@ judge-head-requires : tie.Need-judge-head-requires
 judge-head-requires c κs = search needs
 
 returns : tie.Need-returns
-unfolding step
+unfolding byte-taken
 returns c =
     rw (
       c .before .before .before .before .p .given .1,
@@ -34,7 +34,7 @@ judge-word-requires : tie.Need-judge-word-requires
 judge-word-requires c κs = search needs
 
 returns-2 : tie.Need-returns-2
-unfolding step
+unfolding byte-taken
 returns-2 c =
     rw (
       c .before .before .before .before .p2 .given .1,
@@ -44,12 +44,12 @@ returns-2 c =
     )
 
 returns-3 : tie.Need-returns-3
-unfolding step
+unfolding byte-taken
 returns-3 c =
     rw (c .before .before .before .p .given .1, le-ltb _ _ (c .if1 .left), c .before .grow .ensures)
 
 returns-4 : tie.Need-returns-4
-unfolding step
+unfolding byte-taken
 returns-4 c =
     rw (c .before .before .before .p2 .given .1, le-ltb _ _ (c .if2 .left), c .before .grow2 .ensures)
 

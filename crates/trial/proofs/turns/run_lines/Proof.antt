@@ -13,8 +13,8 @@ use Rattle.script.proofs.Laying.{pushed, whole-line}
 use Rattle.script.proofs.Shapes.{read-good, read-bad}
 use Rattle.script.specs.Script.{is-call, call-in, line-in}
 use Rattle.script.specs.Answers.{line-of}
-use Rattle.trial.specs.Calls.{Carried}
-use Rattle.trial.specs.Runs.{World, world, line-at, answered, called, all-calls, after-lines, printed}
+use Rattle.trial.specs.Calls.{CarriedOut}
+use Rattle.trial.specs.Lines.{World, world, line-at, answered, called, all-calls, after-lines, printed}
 use Rattle.script.specs.declared.Call.{Call}
 use Rattle.script.specs.declared.State.{State}
 use Rattle.script.specs.declared.Done.{Done}
@@ -44,7 +44,7 @@ module _ {w : World} {input output₀ : List ℕ} {state : State} {room list out
   -- one line more
   turned : {c : Call} {d : Done} {room′ list′ text : List ℕ} →
       is-call (line-at input i) ≡ true → c ≡ call-in (line-at input i) →
-      Carried state room list c d room′ list′ → length room′ ≡ length room → length list′ ≡ length list →
+      CarriedOut state room list c d room′ list′ → length room′ ≡ length room → length list′ ≡ length list →
       text ≡ line-of (c .letter) d → length text ≡ 47 →
       Running w input output₀ (d .state) room′ list′ (putMid (47 * i) (47 * i + 47 - 47 * i) output text) (i + 1)
   unfolding all-calls after-lines printed

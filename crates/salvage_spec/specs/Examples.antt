@@ -6,7 +6,7 @@
 --   saves, stops           a salvage into blank bytes that is done, and that is refused
 --   reported p             what is reported of an input that ends at the progress p
 --   worked row             the row with its answer, and what is left, by the definitions
---   wholes, cuts, table    the rows
+--   wholes, cuts, examples  the rows
 use Prim.Native.Nat.{ℕ, _+_}
 use mathlib.Core.List.{List, [], _∷_, _++_}
 use lib.ListN.{length, replicate}
@@ -87,5 +87,5 @@ cuts =
     pieces ((0x1E ∷ 0x07 ∷ []) ∷ (0x1E ∷ 0x1E ∷ []) ∷ (0x1E ∷ []) ∷ []) (0x1E ∷ []) (answer 0 1 4 23) ∷
     []
 
-unfoldable pub table : List Row
-table = wholes ++ cuts
+unfoldable pub examples : List Row
+examples = wholes ++ cuts

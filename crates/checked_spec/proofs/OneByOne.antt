@@ -1,4 +1,4 @@
--- The checked examples of document 01 one by one, in the words of the definitions; their sentences stand in specs/Table. Each law is read
+-- The checked examples of document 01 one by one, in the words of the definitions; their sentences stand in specs/Examples. Each law is read
 -- off the table's single statement. What it opens are the words that the table is told with and the port's names for runs of accesses, and not
 -- what an access, a field or a grant does.
 use Prim.Native.Nat.{ℕ}
@@ -11,7 +11,7 @@ use Rattle.words.specs.Bytes.{lo, bit}
 use Rattle.bus.specs.Order.{granted, released}
 use Rattle.bus.specs.declared.Bus.{Bus}
 use Rattle.registers.specs.Processor.{fresh, processor-writes}
-use Rattle.port_spec.specs.Runs.{save, answer-of, after, answers, ends}
+use Rattle.port_spec.specs.Sequences.{save, answer-of, after, answers, ends}
 use Rattle.port_spec.specs.Table.{loading, loaded, reading}
 use Rattle.port_spec.specs.declared.Access.the-variants.{Read, Write}
 use Rattle.port_spec.specs.declared.Answer.{Answer}
@@ -19,9 +19,9 @@ use Rattle.port_spec.specs.declared.Cycle.{Cycle}
 use Rattle.port_spec.specs.declared.Cycle.the-variants.{Inside, Empty}
 use Rattle.field_spec.specs.Answers.{taken, taken-signed, put-answer, put-memory}
 use Rattle.checked_spec.specs.Acts.{seen, later, replay, replayed, after-all}
-use Rattle.checked_spec.specs.Table.{INCR, INCW, held, hollow, controlled, three-words, all-waiting}
-use Rattle.checked_spec.specs.Table.{row-1, row-2, row-3, row-4, row-5, row-6, row-7, row-8, row-9, row-10, table}
-use Rattle.checked_spec.proofs.Holds.{table-holds}
+use Rattle.checked_spec.specs.Examples.{INCR, INCW, held, hollow, controlled, three-words, all-waiting}
+use Rattle.checked_spec.specs.Examples.{row-1, row-2, row-3, row-4, row-5, row-6, row-7, row-8, row-9, row-10, examples}
+use Rattle.checked_spec.proofs.Holds.{examples-hold}
 use Rattle.checked_spec.proofs.Rows.{step-holds}
 use Rattle.checked_spec.proofs.Rows.{same-answer, same-put, same-taken, same-signed, same-grant, same-number, same-look, same-words}
 
@@ -37,27 +37,27 @@ pub K1 :
     let s = loaded (controlled INCR three-words) (address 0) in
     (answers s (reading 3) ≡ gave 0x1111 held Inside ∷ gave 0x2222 held Inside ∷ gave 0x3333 held Empty ∷ []) ×
     (ends s (reading 3) .registers .pointer .0 ≡ 0x30)
-unfolding table row-1 replayed replay seen later loading reading answers ends bit
+unfolding examples row-1 replayed replay seen later loading reading answers ends bit
 K1 =
-    let line = step-holds table-holds 0 in
+    let line = step-holds examples-hold 0 in
     (same-answer (line 2) then same-answer (line 3) then same-answer (line 4) then refl, same-look (line 5))
 
 pub K2 :
     let s = ends (loaded (controlled INCR three-words) (address 0)) (reading 3) in
     (answer-of s (Read 2 3) ≡ gave 0xFFFF hollow Empty) ×
     (after s (Read 2 3) .registers .pointer .0 ≡ 0x40)
-unfolding table row-1 row-2 replayed replay after-all seen later loading reading ends bit
+unfolding examples row-1 row-2 replayed replay after-all seen later loading reading ends bit
 K2 =
-    let line = step-holds table-holds 1 in
+    let line = step-holds examples-hold 1 in
     (same-answer (line 0), same-look (line 1))
 
 pub K3 :
     let s = ends (loaded (controlled INCW three-words) (address 0)) (save 2 0xAAAA ∷ []) in
     (answers s (reading 2) ≡ gave 0xAAAA held Inside ∷ gave 0x2222 held Inside ∷ []) ×
     (ends s (reading 2) .registers .pointer .0 ≡ 0x10)
-unfolding table row-3 replayed replay seen later loading reading answers ends bit
+unfolding examples row-3 replayed replay seen later loading reading answers ends bit
 K3 =
-    let line = step-holds table-holds 2 in
+    let line = step-holds examples-hold 2 in
     (same-answer (line 3) then same-answer (line 4) then refl, same-look (line 5))
 
 pub K4 :
@@ -67,51 +67,51 @@ pub K4 :
     (answer-of s (Read 2 3) ≡ gave 0xFFFF hollow Inside) ×
     (t .registers .pointer .0 ≡ 0) ×
     (t .registers .latch ≡ 0x1111)
-unfolding table row-4 replayed replay seen later loading ends bit
+unfolding examples row-4 replayed replay seen later loading ends bit
 K4 =
-    let line = step-holds table-holds 3 in
+    let line = step-holds examples-hold 3 in
     (same-look (line 2), same-answer (line 3), same-look (line 4), same-look (line 5))
 
 pub K5 :
     let s = after (controlled 0x80 []) (Write 3 1 0x0D) in
     (lo (s .registers .control) ≡ 0x0D) ×
     (lo (after s (Write 3 1 0xF0) .registers .control) ≡ 0x08)
-unfolding table row-5 replayed replay seen later
+unfolding examples row-5 replayed replay seen later
 K5 =
-    let line = step-holds table-holds 4 in
+    let line = step-holds examples-hold 4 in
     (same-look (line 1), same-look (line 3))
 
 pub K6 :
     let w = processor-writes (fresh 0x0D) 3 0xF0 in
     (w .number ≡ 0) × (lo (w .registers .control) ≡ 0xF5)
-unfolding table row-6 replayed replay seen later
+unfolding examples row-6 replayed replay seen later
 K6 =
-    let line = step-holds table-holds 5 in
+    let line = step-holds examples-hold 5 in
     (same-number (line 0), same-look (line 1))
 
 pub K7 :
     (put-memory (0 ∷ 0 ∷ []) (address 14) 4 0xA ≡ 0x8000 ∷ 0x0002 ∷ []) ×
     (put-answer 2 (address 14) 4 ≡ record { number = 0; cycles = 4 })
-unfolding table row-7 replayed replay seen later
+unfolding examples row-7 replayed replay seen later
 K7 =
-    let line = step-holds table-holds 6 in
+    let line = step-holds examples-hold 6 in
     (same-words (line 1), same-put (line 0))
 
 pub K8 :
     let m = put-memory (0 ∷ 0 ∷ []) (address 14) 4 0xA in
     (taken m (address 14) 4 ≡ record { number = 0; value = 10; cycles = 2 }) ×
     (taken-signed m (address 14) 4 ≡ record { number = 0; value = negℤ (pos 6); cycles = 2 })
-unfolding table row-7 row-8 replayed replay after-all seen later
+unfolding examples row-7 row-8 replayed replay after-all seen later
 K8 =
-    let line = step-holds table-holds 7 in
+    let line = step-holds examples-hold 7 in
     (same-taken (line 0), same-signed (line 1))
 
 pub K9 :
     (put-memory (0 ∷ 0 ∷ 0 ∷ []) (address 1) 32 0xFFFFFFFF ≡ 0xFFFE ∷ 0xFFFF ∷ 0x0001 ∷ []) ×
     (put-answer 3 (address 1) 32 ≡ record { number = 0; cycles = 5 })
-unfolding table row-9 replayed replay seen later
+unfolding examples row-9 replayed replay seen later
 K9 =
-    let line = step-holds table-holds 8 in
+    let line = step-holds examples-hold 8 in
     (same-words (line 1), same-put (line 0))
 
 -- a grant answers this number and this source
@@ -125,9 +125,9 @@ pub K10 :
     let d = granted c .bus in
     Grants all-waiting 0 0 × (freed .number ≡ 0) ×
     Grants (freed .bus) 0 1 × Grants b 0 2 × Grants c 0 3 × Grants d 0 4 × Grants (granted d .bus) 8 0
-unfolding table row-10 replayed replay seen later
+unfolding examples row-10 replayed replay seen later
 K10 =
-    let line = step-holds table-holds 9 in (
+    let line = step-holds examples-hold 9 in (
       same-grant (line 0),
       same-number (line 1),
       same-grant (line 2),

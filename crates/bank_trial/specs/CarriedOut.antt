@@ -13,7 +13,7 @@ use Rattle.bank_spec.specs.Decode.{decoded}
 use Rattle.bank_spec.specs.declared.BankPort.{BankPort}
 use Rattle.bank_spec.specs.declared.BankAnswer.{BankAnswer}
 use Rattle.bank_spec.specs.declared.Decoded.{Decoded}
-use Rattle.bank_trial.specs.Record.{starts, reads, writes, number-in, port-in, word-in, address-in, control-in}
+use Rattle.bank_trial.specs.Record.{is-start, is-read, is-write, number-in, port-in, word-in, address-in, control-in}
 use Rattle.bank_trial.specs.Selected.{digit}
 use Rattle.bank_trial.specs.declared.carrying.Left.{Left}
 
@@ -38,7 +38,7 @@ decoded-by p b = left-by-decode p (decoded (p .banks) (control-in b) (address-in
 -- "0 a fresh start, 1 a read, 2 a write, 3 a decode"
 unfoldable pub carried : BankPort → List ℕ → Left
 carried p b =
-    cond (starts b) (left-by-start b)
-    (cond (reads b) (left-by-access (read-answer p (number-in b)))
-    (cond (writes b) (left-by-access (write-answer p (number-in b) (word-in b)))
+    cond (is-start b) (left-by-start b)
+    (cond (is-read b) (left-by-access (read-answer p (number-in b)))
+    (cond (is-write b) (left-by-access (write-answer p (number-in b) (word-in b)))
     (decoded-by p b)))

@@ -3,7 +3,7 @@
 --   after, answer-of            what one access leaves and answers there
 --   Sixteen, on lanes a         a sixteen-bit access, and that access on some lanes
 --   opening, closing            its two byte accesses, in the order that LBL commands when it begins
---   joined                      what two byte answers tell together
+--   together                    what two byte answers tell together
 --   answers, ends               a sequence done whole: what it answers, and where it ends
 --   words-in                    the words that answers hand out
 --   byte-answers, byte-ends     the same sequence done by bytes
@@ -53,8 +53,8 @@ abbrev pub between : Machine → Sixteen → Machine
 between s a = after s (opening s a)
 
 -- the bytes' sum, and the second answer's number and marks
-abbrev pub joined : Answer → Answer → Answer
-joined x y = record { number = y .number; word = x .word + y .word; hollow = y .hollow; cycle = y .cycle }
+abbrev pub together : Answer → Answer → Answer
+together x y = record { number = y .number; word = x .word + y .word; hollow = y .hollow; cycle = y .cycle }
 
 unfoldable pub answers : Machine → List Sixteen → List Answer
 answers s [] = []
@@ -70,7 +70,7 @@ words-in xs = map (λ x. x .word) xs
 unfoldable pub byte-answers : Machine → List Sixteen → List Answer
 byte-answers s [] = []
 byte-answers s (a ∷ rest) =
-    joined (answer-of s (opening s a)) (answer-of (between s a) (closing s a)) ∷
+    together (answer-of s (opening s a)) (answer-of (between s a) (closing s a)) ∷
     byte-answers (after (between s a) (closing s a)) rest
 
 unfoldable pub byte-ends : Machine → List Sixteen → Machine

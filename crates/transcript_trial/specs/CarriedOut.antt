@@ -2,7 +2,7 @@
 --   called-answer, called-string, called-lists   of a call of the reader, or else of the writer: its answer, and what it leaves of the
 --                                                string and of the lists that it is lent
 --   answer-from, string-from, lists-from         the same of a record's call, which is lent parts
---   Called, Carried                              these, as the contracts of a call and of carrying out a record
+--   Called, CarriedOut                           these, as the contracts of a call and of carrying out a record
 use Prim.Native.Nat.{ℕ}
 use mathlib.Core.Path.{_≡_}
 use mathlib.Core.Bool.{Bool, cond}
@@ -12,7 +12,7 @@ use Rattle.transcript_spec.specs.Lists.{Lists, size, entries-in}
 use Rattle.transcript_spec.specs.Reading.{read-answer, lists-after}
 use Rattle.transcript_spec.specs.Writing.{write-answer, bytes-after}
 use Rattle.transcript_spec.specs.declared.Transcribed.{Transcribed}
-use Rattle.transcript_trial.specs.Record.{reads, string-lent, string-back, lists-lent, lists-returned}
+use Rattle.transcript_trial.specs.Record.{is-read, string-lent, string-back, lists-lent, lists-returned}
 
 -- ---- a call, on all of a string and of four lists
 module _ (reader : Bool) (s : List ℕ) (l : Lists) where
@@ -33,15 +33,15 @@ pub record Called (reader : Bool) (s : List ℕ) (l : Lists) (o : Transcribed) (
 -- ---- the record b, with its string and its lists
 module _ (b s : List ℕ) (l : Lists) where
   unfoldable pub answer-from : Transcribed
-  answer-from = called-answer (reads b) (string-lent b s) (lists-lent b l)
+  answer-from = called-answer (is-read b) (string-lent b s) (lists-lent b l)
 
   unfoldable pub string-from : List ℕ
-  string-from = string-back b s (called-string (reads b) (string-lent b s) (lists-lent b l))
+  string-from = string-back b s (called-string (is-read b) (string-lent b s) (lists-lent b l))
 
   unfoldable pub lists-from : Lists
-  lists-from = lists-returned b l (called-lists (reads b) (string-lent b s) (lists-lent b l))
+  lists-from = lists-returned b l (called-lists (is-read b) (string-lent b s) (lists-lent b l))
 
-pub record Carried (b s : List ℕ) (l : Lists) (o : Transcribed) (s′ : List ℕ) (l′ : Lists) : Type 0 where
+pub record CarriedOut (b s : List ℕ) (l : Lists) (o : Transcribed) (s′ : List ℕ) (l′ : Lists) : Type 0 where
   pub answer : o ≡ answer-from b s l
   pub string : s′ ≡ string-from b s l
   pub lists : l′ ≡ lists-from b s l

@@ -1,10 +1,10 @@
--- `listing::stretches::count_fitting` meets its contract, by cases on the room and on which of the two numbers is smaller.
+-- `listing::pieces::count_fitting` meets its contract, by cases on the room and on which of the two numbers is smaller.
 use mathlib.Core.Path.{sym}
 use Rattle.listing.specs.Listing.{fitting}
 use Rattle.listing.proofs.Fitting.{none-fits, smaller-first, smaller-second}
 use borrow.Author.Needs.{needs}
-use Rattle.listing.proofs.stretches.count_fitting.Statement.{statement}
-use Rattle.listing.proofs.stretches.count_fitting.Tie as tie
+use Rattle.listing.proofs.pieces.count_fitting.Statement.{statement}
+use Rattle.listing.proofs.pieces.count_fitting.Tie as tie
 
 returns : tie.Need-returns
 returns c =

@@ -7,9 +7,9 @@
 --   Row                 calls one after another, from a stream on; row st cs is that by its parts
 --   called, worked      calls with what is told and left by the definitions; a row likewise
 --   brings s o          a delivery with one spare place, which stays
---   after n, new        the open stream behind n bytes of good records; that behind none
+--   behind n, new       the open stream behind n bytes of good records; that behind none
 --   high-read, low-read, a-write   three entries
---   cuts, bad, small, ended, limit, made, table   the rows
+--   cuts, bad, small, after-the-end, limit, made-up, examples  the rows
 use Prim.Native.Nat.{ℕ}
 use mathlib.Core.Bool.{Bool, true, false}
 use mathlib.Core.List.{List, [], _∷_, _++_}
@@ -75,11 +75,11 @@ worked r = row (r .stream) (called (r .stream) (r .calls))
 abbrev pub brings : List ℕ → Told → Call
 brings s o = delivers s (spare ∷ []) o (spare ∷ [])
 
-abbrev pub after : ℕ → Stream
-after n = record { part = fresh; from = n; taken = n; ended = false }
+abbrev pub behind : ℕ → Stream
+behind n = record { part = fresh; from = n; taken = n; ended = false }
 
 abbrev pub new : Stream
-new = after 0
+new = behind 0
 
 -- a read of register 3 on both lanes, 1Eh; a read of register 0 on the low lane, 08h; a write of 1234h to register 2 on both lanes, 1Dh A4h 34h
 abbrev pub high-read : Entry
@@ -176,8 +176,8 @@ small =
     row new (delivers (0x1D ∷ []) [] (told 0 0 0 0 1 false) [] ∷ delivers (0x80 ∷ 0x00 ∷ []) [] (told 21 0 0 0 3 true) [] ∷ []) ∷
     []
 
-unfoldable pub ended : List Row
-ended =
+unfoldable pub after-the-end : List Row
+after-the-end =
     -- 25 after the end, of bytes, of nothing, and of a second end; also after 20 and after 21 to 23
     row new
     (ends (told 0 0 0 0 0 true) ∷
@@ -201,7 +201,7 @@ ended =
 unfoldable pub limit : List Row
 limit =
     -- 26: one byte too many; one byte; nothing more, but an empty delivery, and the end
-    row (after 4294967294)
+    row (behind 4294967294)
     (brings (0x1E ∷ 0x1E ∷ []) (told 26 0 0 4294967294 4294967294 false) ∷
     delivers (0x1E ∷ []) (spare ∷ []) (told 0 1 0 4294967295 4294967295 false) (high-read ∷ []) ∷
     brings (0x1E ∷ []) (told 26 0 0 4294967295 4294967295 false) ∷
@@ -210,21 +210,21 @@ limit =
     brings (0x1E ∷ []) (told 25 0 0 4294967295 4294967295 true) ∷
     []) ∷
     -- before 24, and before the bad record
-    row (after 4294967294)
+    row (behind 4294967294)
     (delivers (0x1E ∷ 0x1E ∷ []) [] (told 26 0 0 4294967294 4294967294 false) [] ∷
     brings (0x07 ∷ 0x1E ∷ []) (told 26 0 0 4294967294 4294967294 false) ∷
     brings (0x07 ∷ []) (told 23 0 4294967294 4294967294 4294967295 true) ∷
     []) ∷
     -- a record that the limit leaves unfinished
-    row (after 4294967294)
+    row (behind 4294967294)
     (brings (0x1D ∷ []) (told 0 0 0 4294967294 4294967295 false) ∷
     brings (0x34 ∷ []) (told 26 0 0 4294967294 4294967295 false) ∷
     ends (told 20 0 4294967294 4294967294 4294967295 true) ∷
     []) ∷
     []
 
-unfoldable pub made : List Row
-made =
+unfoldable pub made-up : List Row
+made-up =
     -- streams that no calls come to: they are taken as they are
     row (record { part = Word 200 (record { begun = true; padded = false; value = 70000 }); from = 9; taken = 3; ended = false })
     (brings (0x00 ∷ []) (told 22 0 9 9 4 true) ∷ []) ∷
@@ -234,5 +234,5 @@ made =
     (brings (0x1E ∷ []) (told 25 0 0 9 4294967295 true) ∷ ends (told 25 0 0 9 4294967295 true) ∷ []) ∷
     []
 
-unfoldable pub table : List Row
-table = cuts ++ (bad ++ (small ++ (ended ++ (limit ++ made))))
+unfoldable pub examples : List Row
+examples = cuts ++ (bad ++ (small ++ (after-the-end ++ (limit ++ made-up))))

@@ -6,7 +6,7 @@
 --   after-lines w s n the world after them
 --   printed w s n     what is printed of them
 --   RanLines          what carrying out the whole lines of a piece of the input leaves
---   TookTurn          what a turn leaves
+--   CalledTurn        what a turn leaves
 use Prim.Native.Nat.{ℕ, zero, suc, _*_, _/_, _≤_, _<_}
 use mathlib.Core.Bool.{Bool, true, false, _&&_}
 use mathlib.Core.List.{List, [], _++_}
@@ -67,7 +67,7 @@ pub record RanLines (w : World) (s : List ℕ) (r : Ran) (room list output : Lis
   pub written : take (47 * r .calls) output ≡ printed w s (r .calls)
 
 -- what a turn leaves: of the bytes that it read, which nothing here can know, it carried out some lines, all of them calls
-pub record TookTurn (w : World) (t : Turn) (room list : List ℕ) : Type 0 where
+pub record CalledTurn (w : World) (t : Turn) (room list : List ℕ) : Type 0 where
   pub script : List ℕ
   pub lines : ℕ
   pub calls : all-calls script lines ≡ true

@@ -3,7 +3,7 @@
 --   machine-of b room         the registers that the call starts from, with the memory that it is lent
 --   list-lent b list          the list that it is lent
 --   sheet-from, list-from     what the record answers, and the list that it leaves
---   Carried                   these and the room, as the contract of carrying out a record
+--   CarriedOut                these and the room, as the contract of carrying out a record
 use Prim.Native.Nat.{ℕ, zero, suc, _+_}
 use mathlib.Core.Path.{_≡_}
 use mathlib.Core.List.{List}
@@ -11,7 +11,7 @@ use lib.Ieee.{Float}
 use lib.ListN.{length}
 use Rattle.words.specs.Lent.{lent, given-back}
 use Rattle.words.specs.Memory.{store-at}
-use Rattle.port_spec.specs.Runs.{Machine, machine}
+use Rattle.port_spec.specs.Sequences.{Machine, machine}
 use Rattle.sheet_spec.specs.Reading.{whole}
 use Rattle.sheet_spec.specs.Sheet.{sheet-of, list-after}
 use Rattle.sheet_spec.specs.declared.Sheet.{Sheet}
@@ -37,7 +37,7 @@ list-from b room list =
     given-back (number b 15) list (list-after whole (machine-of b room) (table-in b) (rule-in b) (time-in b) (list-lent b list))
 
 -- what a record leaves: its sheet, the room with the record's words, and the list
-pub record Carried (b room : List ℕ) (list : List Float) (o : Sheet) (room′ : List ℕ) (list′ : List Float) : Type 0 where
+pub record CarriedOut (b room : List ℕ) (list : List Float) (o : Sheet) (room′ : List ℕ) (list′ : List Float) : Type 0 where
   pub answer : o ≡ sheet-from b room list
   pub room-left : room′ ≡ laid b room 36
   pub list-left : list′ ≡ list-from b room list

@@ -10,7 +10,7 @@ use mathlib.Core.List.{List}
 use mathlib.Core.Path.{_≡_}
 use Rattle.control.specs.Control.{first-lane, last-lane}
 use Rattle.port_spec.specs.Calls.{Call}
-use Rattle.port_spec.specs.Runs.{Sixteen, on}
+use Rattle.port_spec.specs.Sequences.{Sixteen, on}
 use Rattle.port_spec.specs.declared.Access.{Access}
 use Rattle.port_spec.specs.declared.Answer.{Answer}
 use Rattle.door_spec.specs.Image.{registers-of}

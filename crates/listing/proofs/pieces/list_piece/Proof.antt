@@ -1,4 +1,4 @@
--- `listing::stretches::list_stretch` meets its contract: it lists the bytes that fit.
+-- `listing::pieces::list_piece` meets its contract: it lists the bytes that fit.
 use Prim.Native.Nat.{ℕ}
 use native.Mathlib.Omega.{arith}
 use mathlib.Core.Path.{_≡_, sym, ap, _∙_}
@@ -8,8 +8,8 @@ use lib.Seq.{length-take-le}
 use Rattle.listing.specs.Listing.{Listing, start, listing, listed, with-text, fitting}
 use Rattle.listing.proofs.Fitting.{smaller-most, taken-is, fits}
 use borrow.Author.Needs.{needs}
-use Rattle.listing.proofs.stretches.list_stretch.Statement.{statement}
-use Rattle.listing.proofs.stretches.list_stretch.Tie as tie
+use Rattle.listing.proofs.pieces.list_piece.Statement.{statement}
+use Rattle.listing.proofs.pieces.list_piece.Tie as tie
 
 count-fitting-requires : tie.Need-count-fitting-requires
 count-fitting-requires c κs = tt
@@ -52,8 +52,8 @@ returns c =
       output = l .output ∙ ap (λ (t : List ℕ). with-text (a .output .now) (listing begin t .text)) same;
     }
 
-pub list-stretch-spec : {M : Type 1} → statement M
-list-stretch-spec =
+pub list-piece-spec : {M : Type 1} → statement M
+list-piece-spec =
     tie.close
     (tie.spec
     count-fitting-requires

@@ -1,4 +1,4 @@
--- `listing::stretches::list_lines` meets its contract: each turn is one of those of `Turns`.
+-- `listing::pieces::list_lines` meets its contract: each turn is one of those of `Turns`.
 use Prim.Native.Nat.{_-_}
 use native.Mathlib.Omega.{arith}
 use mathlib.Core.Path.{_∙_}
@@ -6,8 +6,8 @@ use lib.ListN.{length}
 use Rattle.listing.proofs.Laying.{put-length}
 use Rattle.listing.proofs.Turns.{Kept, at-start, part-front, good-lies, room-for-answer, room-for-bad, turned, ends-bad, ends-open, ends-even}
 use borrow.Author.Needs.{needs}
-use Rattle.listing.proofs.stretches.list_lines.Statement.{statement}
-use Rattle.listing.proofs.stretches.list_lines.Tie as tie
+use Rattle.listing.proofs.pieces.list_lines.Statement.{statement}
+use Rattle.listing.proofs.pieces.list_lines.Tie as tie
 
 abbrev Inv-loop : tie.InvT-loop
 Inv-loop memory₀ input output₀ registers₀ used₀ wrote₀ t13 memory output registers used wrote =

@@ -1,8 +1,8 @@
-// A stretch of input bytes, with the port's state, to a stretch of output bytes.
+// A piece of input bytes, with the port's state, to a piece of output bytes.
 ghost use mathlib.Core.Path.{_≡_};
 ghost use Prim.Native.Nat.{_+_, _*_, _-_, _≤_};
 ghost use lib.ListN.{length};
-ghost use Rattle.listing.specs.Listing.{fitting, ListedStretch};
+ghost use Rattle.listing.specs.Listing.{fitting, ListedPiece};
 ghost use Rattle.listing.specs.Parts.{smaller, AnsweredLine, ListedLines};
 use crate::Answered;
 use crate::Front;
@@ -91,9 +91,9 @@ fn count_fitting(bytes: usize, room: usize) -> usize
     if fits < bytes { fits } else { bytes }
 }
 
-// The whole lines of a stretch of input, as far as their answers fit the output.
-pub fn list_stretch(r: Registers, memory: &mut [u16], input: &[u8], output: &mut [u8]) -> Listed
-    ensures { λ o. ⌜ ListedStretch r (now (memory .entry)) (now (input .entry)) (now (output .entry)) o (now (memory .exit)) (now (output .exit)) ⌝ }
+// The whole lines of a piece of input, as far as their answers fit the output.
+pub fn list_piece(r: Registers, memory: &mut [u16], input: &[u8], output: &mut [u8]) -> Listed
+    ensures { λ o. ⌜ ListedPiece r (now (memory .entry)) (now (input .entry)) (now (output .entry)) o (now (memory .exit)) (now (output .exit)) ⌝ }
 {
     let n = count_fitting(input.len(), output.len());
     list_lines(r, memory, &input[..n], output)

@@ -7,7 +7,7 @@
 --   answer n w h c     what the host is answered: "number, word .., hollow mark .., and the cycle"
 --   controlled c m     the registers as reset leaves them, but for the control word c; and a memory
 --   at-rest s          no bus request waits
---   table              the ten rows
+--   examples           the ten rows
 use Prim.Native.Nat.{ℕ, _^_}
 use mathlib.Core.Bool.{Bool, true, false}
 use mathlib.Core.List.{List, [], _∷_}
@@ -16,7 +16,7 @@ use Rattle.bus.specs.Order.{quiet}
 use Rattle.bus.specs.declared.Bus.{Bus}
 use Rattle.registers.specs.Processor.{fresh}
 use Rattle.port_spec.specs.Deeds.{woken}
-use Rattle.port_spec.specs.Runs.{Machine}
+use Rattle.port_spec.specs.Sequences.{Machine}
 use Rattle.port_spec.specs.declared.Access.the-variants.{Read, Write}
 use Rattle.port_spec.specs.declared.Cycle.{Cycle}
 use Rattle.port_spec.specs.declared.Cycle.the-variants.{None, Inside, Empty}
@@ -184,5 +184,5 @@ row-10 =
           [];
     }
 
-unfoldable pub table : List Example
-table = row-1 ∷ row-2 ∷ row-3 ∷ row-4 ∷ row-5 ∷ row-6 ∷ row-7 ∷ row-8 ∷ row-9 ∷ row-10 ∷ []
+unfoldable pub examples : List Example
+examples = row-1 ∷ row-2 ∷ row-3 ∷ row-4 ∷ row-5 ∷ row-6 ∷ row-7 ∷ row-8 ∷ row-9 ∷ row-10 ∷ []

@@ -7,7 +7,7 @@
 --   refuses, gives, bars    a reading of one spare place that is refused, one that is accepted, and a writing that is refused
 --   worked row              the row with its answer, and what is left, by the definitions
 --   forty                   a number of forty bytes
---   reads, writes, table    the rows
+--   reads, writes, examples  the rows
 use Prim.Native.Nat.{ℕ}
 use mathlib.Core.List.{List, [], _∷_, _++_}
 use lib.ListN.{length, replicate}
@@ -145,5 +145,5 @@ writes =
     bars (entry 0 3 3 0 ∷ entry 1 0 1 65535 ∷ entry 2 3 3 0 ∷ []) 22 2 ∷
     []
 
-unfoldable pub table : List Row
-table = reads ++ writes
+unfoldable pub examples : List Row
+examples = reads ++ writes

@@ -10,7 +10,7 @@
 --   none, all             a decode's answers that show no bank, all four; only0 to only3, those that show one
 --   unset, apart, anywhere   registers to start with
 --   sample-map            source document 001's sample memory map
---   order, bytes, no-lanes, wrap, special, refresh, several, seen, table   the other rows, and all of them
+--   order, bytes, no-lanes, wrap, special, refresh, several, seen, examples  the other rows, and all of them
 use Prim.Native.Nat.{ℕ}
 use mathlib.Core.Bool.{true, false}
 use mathlib.Core.List.{List, [], _∷_, _++_}
@@ -325,5 +325,5 @@ seen =
     (banks 0xFFFFA5A5 0x0000FFFF 0x12345678 0 0 0 0x80000001 0) ∷
     []
 
-unfoldable pub table : List Row
-table = sample-map ++ order ++ bytes ++ no-lanes ++ wrap ++ special ++ refresh ++ several ++ seen
+unfoldable pub examples : List Row
+examples = sample-map ++ order ++ bytes ++ no-lanes ++ wrap ++ special ++ refresh ++ several ++ seen

@@ -1,4 +1,4 @@
--- `listing::stretches::answer_line` meets its contract: the access, then the text of its answer, whose number has one digit.
+-- `listing::pieces::answer_line` meets its contract: the access, then the text of its answer, whose number has one digit.
 use native.Mathlib.Omega.{arith}
 use mathlib.Core.Path.{ap, subst}
 use Rattle.port_spec.specs.declared.Answer.{Answer}
@@ -7,8 +7,8 @@ use Rattle.port_spec.proofs.Numbers.{numbered}
 use Rattle.listing.specs.Answer.{answer-text}
 use Rattle.listing.specs.Parts.{Put}
 use borrow.Author.Needs.{needs}
-use Rattle.listing.proofs.stretches.answer_line.Statement.{statement}
-use Rattle.listing.proofs.stretches.answer_line.Tie as tie
+use Rattle.listing.proofs.pieces.answer_line.Statement.{statement}
+use Rattle.listing.proofs.pieces.answer_line.Tie as tie
 
 host-access-requires : tie.Need-host-access-requires
 host-access-requires c κs = tt
