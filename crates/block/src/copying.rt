@@ -5,15 +5,17 @@ ghost use lib.ListN.{length};
 ghost use Rattle.block_spec.specs.Parts.{stepped-by};
 use std::num::wrapping_add_u32;
 use words::BitAddress;
+use words::WordNumber;
 
 // How many of `count` words from word `first` on are in a memory of so many words.
-pub(crate) fn inside_from(first: usize, words: usize, count: usize) -> usize
-    ensures { λ r. ⌜ r ≡ min count (words - first) ⌝ }
+pub(crate) fn inside_from(first: WordNumber, words: usize, count: usize) -> usize
+    ensures { λ r. ⌜ r ≡ min count (words - first .0) ⌝ }
 {
-    if words < first {
+    let before = first.0 as usize;
+    if words < before {
         return 0;
     }
-    let room = words - first;
+    let room = words - before;
     if room < count {
         return room;
     }

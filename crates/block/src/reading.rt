@@ -1,14 +1,12 @@
 // A block read.
 ghost use mathlib.Core.Path.{_≡_};
-ghost use mathlib.Core.Bool.{true};
-ghost use Prim.Native.Nat.{_+_, _<_, _≤_};
+ghost use Prim.Native.Nat.{_≤_};
 ghost use lib.ListN.{length};
-ghost use Rattle.words.specs.Addresses.{word-at};
 ghost use Rattle.control.specs.Control.{incr};
 ghost use Rattle.port_spec.specs.Cycle.{standing};
 ghost use Rattle.port_spec.specs.Sequences.{machine};
 ghost use Rattle.block_spec.specs.Block.{ReadBlock};
-ghost use Rattle.block_spec.specs.Parts.{straight-reads, ReadInto};
+ghost use Rattle.block_spec.specs.Parts.{first-fetched, straight-reads, GoesStraight, ReadInto};
 use crate::copying::copy_words;
 use crate::copying::inside_from;
 use crate::copying::step_by;
@@ -20,6 +18,7 @@ use control::steps_reading;
 use port::settle_fetch;
 use port::step_if;
 use registers::Registers;
+use words::WordNumber;
 use words::fetch_word;
 use words::word_of;
 
@@ -63,8 +62,8 @@ pub(crate) fn straight_reads(r: Registers, words: usize, count: usize) -> usize
 {
     if steps_reading(r.control) {
         let a = r.pointer;
-        let here = word_of(a).0 as usize;
-        return inside_from(here + 1, words, count);
+        let next = word_of(a).0 + 1;
+        return inside_from(WordNumber(next), words, count);
     }
     0
 }
@@ -72,7 +71,7 @@ pub(crate) fn straight_reads(r: Registers, words: usize, count: usize) -> usize
 // Such reads, at once: the words are copied from the pointer's word on. The first read hands out the word already held, which need
 // not be the one that lies there, so that word is laid over the copy's first.
 pub(crate) fn read_straight(r: Registers, memory: &[u16], part: &mut [u16]) -> Run
-    requires { ⌜ (length (now memory) ≤ 32768) × (length (now part) ≤ 4096) × (0 < length (now part)) × (incr (r .control) ≡ true) × (word-at (r .pointer) .0 + length (now part) < length (now memory)) ⌝ }
+    requires { ⌜ GoesStraight (incr (r .control)) (first-fetched r) (length (now memory)) (length (now part)) ⌝ }
     ensures { λ o. ⌜ ReadInto (machine r (now (memory .entry))) (length (now (part .entry))) o (now (part .exit)) ⌝ }
 {
     let a = r.pointer;

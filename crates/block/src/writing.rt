@@ -1,13 +1,12 @@
 // A block write.
 ghost use mathlib.Core.Path.{_≡_};
-ghost use mathlib.Core.Bool.{true};
-ghost use Prim.Native.Nat.{_+_, _<_, _≤_};
+ghost use Prim.Native.Nat.{_≤_};
 ghost use lib.ListN.{length};
 ghost use Rattle.words.specs.Addresses.{word-at};
 ghost use Rattle.control.specs.Control.{incw};
 ghost use Rattle.port_spec.specs.Sequences.{machine};
 ghost use Rattle.block_spec.specs.Block.{WrittenBlock};
-ghost use Rattle.block_spec.specs.Parts.{straight-writes, WrittenFrom};
+ghost use Rattle.block_spec.specs.Parts.{straight-writes, GoesStraight, WrittenFrom};
 use crate::copying::copy_words;
 use crate::copying::inside_from;
 use crate::copying::step_by;
@@ -51,15 +50,14 @@ pub(crate) fn straight_writes(r: Registers, words: usize, count: usize) -> usize
 {
     if steps_writing(r.control) {
         let a = r.pointer;
-        let here = word_of(a).0 as usize;
-        return inside_from(here, words, count);
+        return inside_from(word_of(a), words, count);
     }
     0
 }
 
 // Such writes, at once: the words are copied, and the last stays in HSTDATA.
 pub(crate) fn write_straight(r: Registers, memory: &mut [u16], part: &[u16]) -> Run
-    requires { ⌜ (length (now memory) ≤ 32768) × (length (now part) ≤ 4096) × (0 < length (now part)) × (incw (r .control) ≡ true) × (word-at (r .pointer) .0 + length (now part) ≤ length (now memory)) ⌝ }
+    requires { ⌜ GoesStraight (incw (r .control)) (word-at (r .pointer)) (length (now memory)) (length (now part)) ⌝ }
     ensures { λ o. ⌜ WrittenFrom (machine r (now (memory .entry))) (now (part .entry)) o (now (memory .exit)) ⌝ }
 {
     let a = r.pointer;

@@ -23,7 +23,7 @@ here c = ap (λ (n : WordNumber). n .0) (c .word-of .ensures)
 past : (c : tie.After-word-of) →
     let a = c .before .before .before .before .args in
     c .word-of .result .0 + length (a .part .now) < length (a .memory .now)
-past c = rw (here c) (c .before .before .before .before .pre .4)
+past c = omega (arith, here c, c .before .before .before .before .pre .inside)
 
 cast-here : tie.Need-cast-here
 cast-here c = search needs
@@ -78,11 +78,11 @@ returns c =
     let start = w .before .before .before .before in
     let a = start .args in
     let known = c .before .shared-slice-known2 .given in
-    let words : Memory (a .memory .now) = record { size = start .pre .0; words = λ i. omega (arith, known i) } in
+    let words : Memory (a .memory .now) = record { size = start .pre .memory; words = λ i. omega (arith, known i) } in
     let count = length (a .part .now) in
     let copied = c .before .before .before .before .before .copy-words .ensures ∙ part-is (w .word-of .result .0) count (a .memory .now) in
     rw (c .before .before .step-by .ensures, c .one-if .ensures .0, copied, here w)
-    (copied-read (a .r) (a .memory .now) words (start .pre .3) count (start .pre .2) (omega arith) (start .pre .4))
+    (copied-read (a .r) (a .memory .now) words (start .pre .stepping) count (start .pre .some) (omega arith) (omega (arith, start .pre .inside)))
 
 pub read-straight-spec : {M : Type 1} → statement M
 read-straight-spec =

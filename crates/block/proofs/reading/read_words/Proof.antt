@@ -52,7 +52,8 @@ read-straight-requires : tie.Need-read-straight-requires
 read-straight-requires c κs =
     let s = straight (c .before) in
     let few = c .before .before .before .before .before .pre in
-    rw (first-length _ _ (s .most)) (few .0, omega (arith, s .most, few .1), s .some, s .stepping, omega (arith, s .inside))
+    rw (first-length _ _ (s .most))
+    (record { memory = few .0; few = omega (arith, s .most, few .1); some = s .some; stepping = s .stepping; inside = s .inside })
 
 -- what they leave
 first : (c : tie.After-read-straight) →

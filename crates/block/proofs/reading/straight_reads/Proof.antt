@@ -1,6 +1,7 @@
 -- `block::reading::straight_reads` meets its contract, with the step that the control word says and without.
-use borrow.Author.Needs.{needs}
-use mathlib.Core.Path.{sym, _∙_}
+use native.Mathlib.Omega.{arith}
+use mathlib.Core.Path.{sym, ap, _∙_}
+use Rattle.words.specs.declared.WordNumber.{WordNumber}
 use Rattle.block_spec.specs.Parts.{straight-reads}
 use Rattle.block.proofs.reading.straight_reads.Statement.{statement}
 use Rattle.block.proofs.reading.straight_reads.Tie as tie
@@ -11,11 +12,8 @@ steps-reading-requires c κs = tt
 word-of-requires : tie.Need-word-of-requires
 word-of-requires c κs = tt
 
-cast-here : tie.Need-cast-here
-cast-here c = search needs
-
-add-inside-from : tie.Need-add-inside-from
-add-inside-from c = search needs
+add-next : tie.Need-add-next
+add-next c = omega (arith, ap (λ (n : WordNumber). n .0) (c .before .word-of .ensures))
 
 inside-from-requires : tie.Need-inside-from-requires
 inside-from-requires c κs = tt
@@ -37,8 +35,7 @@ straight-reads-spec =
     (tie.spec
     steps-reading-requires
     word-of-requires
-    cast-here
-    add-inside-from
+    add-next
     inside-from-requires
     returns
     returns-2)

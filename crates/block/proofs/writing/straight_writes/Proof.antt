@@ -11,17 +11,14 @@ steps-writing-requires c κs = tt
 word-of-requires : tie.Need-word-of-requires
 word-of-requires c κs = tt
 
-cast-here : tie.Need-cast-here
-cast-here c = search needs
-
 inside-from-requires : tie.Need-inside-from-requires
 inside-from-requires c κs = tt
 
 returns : tie.Need-returns
 unfolding straight-writes
 returns c =
-    let test = c .before .before .before .before in
-    rw (c .inside-from .ensures, sym (test .before .steps-writing .ensures) ∙ test .if1 .taken, c .before .before .word-of .ensures)
+    let test = c .before .before .before in
+    rw (c .inside-from .ensures, sym (test .before .steps-writing .ensures) ∙ test .if1 .taken, c .before .word-of .ensures)
 
 returns-2 : tie.Need-returns-2
 unfolding straight-writes
@@ -34,7 +31,6 @@ straight-writes-spec =
     (tie.spec
     steps-writing-requires
     word-of-requires
-    cast-here
     inside-from-requires
     returns
     returns-2)

@@ -21,7 +21,7 @@ here c = ap (λ (n : WordNumber). n .0) (c .word-of .ensures)
 room : (c : tie.After-word-of) →
     let a = c .before .before .before .before .args in
     c .word-of .result .0 + length (a .part .now) ≤ length (a .memory .now)
-room c = rw (here c) (c .before .before .before .before .pre .4)
+room c = rw (here c) (c .before .before .before .before .pre .inside)
 
 cast-here : tie.Need-cast-here
 cast-here c = search needs
@@ -72,7 +72,7 @@ returns c =
     let copied = c .before .before .before .before .copy-words in
     let back = put-back (w .word-of .result .0) (length (a .part .now)) (a .memory .now) (copied .last .1 .0) in
     rw (c .before .step-by .ensures, back, copied .ensures, here w)
-    (copied-write (a .part .now) (a .r) (a .memory .now) (p .2) (p .0) (p .3) (λ j. omega (arith, c .shared-slice-known2 .given j)) (p .4))
+    (copied-write (a .part .now) (a .r) (a .memory .now) (p .some) (p .memory) (p .stepping) (λ j. omega (arith, c .shared-slice-known2 .given j)) (p .inside))
 
 pub write-straight-spec : {M : Type 1} → statement M
 write-straight-spec =

@@ -51,7 +51,8 @@ write-straight-requires : tie.Need-write-straight-requires
 write-straight-requires c κs =
     let s = straight (c .before .before) in
     let few = c .before .before .before .before .before .before .pre in
-    rw (first-length _ _ (s .most)) (few .0, omega (arith, s .most, few .1), s .some, s .stepping, s .inside)
+    rw (first-length _ _ (s .most))
+    (record { memory = few .0; few = omega (arith, s .most, few .1); some = s .some; stepping = s .stepping; inside = s .inside })
 
 mul-write-singly : tie.Need-mul-write-singly
 mul-write-singly c =
