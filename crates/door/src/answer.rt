@@ -2,20 +2,10 @@
 ghost use mathlib.Core.Path.{_≡_};
 ghost use Prim.Native.Nat.{_≤_};
 ghost use mathlib.Core.Bool.{cond};
-ghost use Rattle.door_spec.specs.Answer.{cycle-number, packed, refusing};
+ghost use Rattle.door_spec.specs.Answer.{packed, refusing};
+use port::number_of_cycle;
 use port_spec::Answer;
 use port_spec::Cycle;
-
-// The number of a cycle.
-fn number_of_cycle(c: Cycle) -> u64
-    ensures { λ r. ⌜ (r ≡ cycle-number c) × (r ≤ 2) ⌝ }
-{
-    match c {
-        Cycle::None => 0,
-        Cycle::Inside => 1,
-        Cycle::Empty => 2,
-    }
-}
 
 // The hollow mark as a bit.
 fn bit_of_mark(hollow: bool) -> u64
@@ -32,7 +22,7 @@ pub(crate) fn pack(a: Answer) -> u64
     let word = a.word as u64;
     let number = a.number as u64;
     let mark = bit_of_mark(a.hollow);
-    let cycle = number_of_cycle(c);
+    let cycle = number_of_cycle(c) as u64;
     word + 65536 * number + 16777216 * mark + 33554432 * cycle
 }
 

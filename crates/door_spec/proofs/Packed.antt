@@ -10,42 +10,15 @@ use lib.Dec.{eqb}
 use borrow.Author.Tests.{eqb-true}
 use Rattle.port_spec.specs.declared.Access.{Access}
 use Rattle.port_spec.specs.declared.Answer.{Answer}
-use Rattle.port_spec.specs.declared.Cycle.{Cycle}
-use Rattle.port_spec.specs.declared.Cycle.the-variants.{None, Inside, Empty}
+use Rattle.port_spec.specs.Cycle.{cycle-number}
+use Rattle.port_spec.proofs.CycleNumbers.{cycle-below}
 use Rattle.port_spec.proofs.Taken.{number-is}
 use Rattle.port_spec.proofs.Widths.{access-word}
-use Rattle.door_spec.specs.Answer.{cycle-number, packed, refusing}
+use Rattle.door_spec.specs.Answer.{packed, refusing}
 use Rattle.door_spec.specs.Door.{call-number, outcome-of, call-tells, call-answer}
 use Rattle.door_spec.specs.InPlainWords.{number-in}
 use Rattle.door_spec.specs.Sequences.{Unpacks}
 use Rattle.door_spec.proofs.Numbers.{DoorWhen, numbered, fit-number}
-
--- The number of a cycle tells which it was.
-pub record Tells (c : Cycle) : Type 0 where
-  pub none : cycle-number c ≡ 0 ↔ c ≡ None
-  pub inside : cycle-number c ≡ 1 ↔ c ≡ Inside
-  pub empty : cycle-number c ≡ 2 ↔ c ≡ Empty
-
--- Each cycle has its own number: 0 none, 1 inside, 2 empty.
-pub cycle-told : (c : Cycle) → Tells c
-cycle-told None =
-    record {
-      none = (λ z. refl, λ z. refl);
-      inside = (λ z. absurd (omega arith), λ z. cc);
-      empty = (λ z. absurd (omega arith), λ z. cc);
-    }
-cycle-told Inside =
-    record {
-      none = (λ z. absurd (omega arith), λ z. cc);
-      inside = (λ z. refl, λ z. refl);
-      empty = (λ z. absurd (omega arith), λ z. cc);
-    }
-cycle-told Empty =
-    record {
-      none = (λ z. absurd (omega arith), λ z. cc);
-      inside = (λ z. absurd (omega arith), λ z. cc);
-      empty = (λ z. refl, λ z. refl);
-    }
 
 -- ---- parts side by side
 module _ (w n h c : ℕ) (p : w < 65536) (q : n < 256) (s : h < 2) (t : c < 4) where
@@ -67,11 +40,6 @@ module _ (w n h c : ℕ) (p : w < 65536) (q : n < 256) (s : h < 2) (t : c < 4) w
 mark-below : (b : Bool) → cond b 1 0 < 2
 mark-below true = omega arith
 mark-below false = omega arith
-
-cycle-below : (c : Cycle) → cycle-number c < 4
-cycle-below None = omega arith
-cycle-below Inside = omega arith
-cycle-below Empty = omega arith
 
 -- An answer whose word has 16 bits and whose number has 8 is given back by its packed form.
 pub unpacks : (a : Answer) → a .word < 65536 → a .number < 256 → Unpacks (packed a) a

@@ -19,13 +19,15 @@ use Rattle.port_spec.specs.declared.Cycle.the-variants.{None, Inside, Empty}
 use Rattle.port_spec.proofs.Sequences.{PairAlike, pair-alike, sequences-alike, words-made, bytes-made}
 use Rattle.door_spec.specs.Bytes.{words-of, bytes-of, byte}
 use Rattle.door_spec.specs.Image.{registers-of, image-of}
-use Rattle.door_spec.specs.Answer.{cycle-number, packed}
+use Rattle.port_spec.specs.Cycle.{cycle-number}
+use Rattle.port_spec.proofs.CycleNumbers.{cycle-told}
+use Rattle.door_spec.specs.Answer.{packed}
 use Rattle.door_spec.specs.Door.{call-number, call-tells, call-answer, Called}
 use Rattle.door_spec.specs.InPlainWords.{Fitting, number-in}
 use Rattle.door_spec.specs.Sequences.{Lent, told, left, control-in, opening, closing, Unpacks, at-the-door}
 use Rattle.door_spec.proofs.Numbers.{DoorWhen}
 use Rattle.door_spec.proofs.Refusals.{refuses}
-use Rattle.door_spec.proofs.Packed.{cycle-told, number-told, call-unpacks, answer-numbered}
+use Rattle.door_spec.proofs.Packed.{number-told, call-unpacks, answer-numbered}
 use Rattle.door_spec.proofs.AsByValue.{tells-as-access, image-as-access, memory-as-access, registers-left, words-left}
 use Rattle.door_spec.proofs.AsByValue.{fits-again, image-bytes-again, memory-bytes-again}
 use Rattle.door_spec.proofs.TwoBytes.{others-kept, read-keeps-bytes}

@@ -10,11 +10,11 @@ use mathlib.Core.List.{List}
 use mathlib.Core.Path.{_≡_}
 use Rattle.control.specs.Control.{first-lane, last-lane}
 use Rattle.port_spec.specs.Calls.{Call}
+use Rattle.port_spec.specs.Cycle.{cycle-number}
 use Rattle.port_spec.specs.Sequences.{Sixteen, on}
 use Rattle.port_spec.specs.declared.Access.{Access}
 use Rattle.port_spec.specs.declared.Answer.{Answer}
 use Rattle.door_spec.specs.Image.{registers-of}
-use Rattle.door_spec.specs.Answer.{cycle-number}
 use Rattle.door_spec.specs.Door.{call-tells, call-image, call-memory, Called}
 use Rattle.door_spec.specs.InPlainWords.{word-in, number-in, hollow-in, cycle-in, rest-in}
 

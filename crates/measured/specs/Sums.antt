@@ -7,17 +7,11 @@ use Prim.Native.Nat.{ℕ, _+_, _*_, _%_, _^_}
 use mathlib.Core.Bool.{cond}
 use lib.Dec.{eqb}
 use Rattle.registers.specs.declared.Registers.{Registers}
-use Rattle.port_spec.specs.declared.Cycle.{Cycle}
-use Rattle.port_spec.specs.declared.Cycle.the-variants.{None, Inside, Empty}
+use Rattle.port_spec.specs.Cycle.{cycle-number}
 use Rattle.port_spec.specs.declared.Answer.{Answer}
 
 unfoldable pub stirred : ℕ → ℕ → ℕ
 stirred s n = (((s + s) % 2 ^ 32 + s) % 2 ^ 32 + n) % 2 ^ 32
-
-abbrev pub cycle-number : Cycle → ℕ
-cycle-number None = 0
-cycle-number Inside = 1
-cycle-number Empty = 2
 
 unfoldable pub answer-number : Answer → ℕ
 answer-number a = a .word + 65536 * a .number + 16777216 * cond (a .hollow) 1 0 + 33554432 * cycle-number (a .cycle)

@@ -2,9 +2,9 @@
 ghost use mathlib.Core.Path.{_≡_};
 ghost use mathlib.Core.Bool.{cond};
 ghost use Prim.Native.Nat.{_≤_};
-ghost use Rattle.measured.specs.Sums.{stirred, cycle-number, answer-number, block-stirred, field-stirred};
+ghost use Rattle.measured.specs.Sums.{stirred, answer-number, block-stirred, field-stirred};
+use port::number_of_cycle;
 use port_spec::Answer;
-use port_spec::Cycle;
 use registers::Registers;
 use std::num::wrapping_add_u32;
 
@@ -20,17 +20,6 @@ pub(crate) fn widen(word: u16) -> u32
     ensures { λ r. ⌜ r ≡ word ⌝ }
 {
     word as u32
-}
-
-// The number of a cycle.
-fn number_of_cycle(c: Cycle) -> u32
-    ensures { λ r. ⌜ (r ≡ cycle-number c) × (r ≤ 2) ⌝ }
-{
-    match c {
-        Cycle::None => 0,
-        Cycle::Inside => 1,
-        Cycle::Empty => 2,
-    }
 }
 
 // The hollow mark as a bit.

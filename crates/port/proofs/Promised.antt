@@ -1,8 +1,9 @@
 -- What the contracts of the calls say, taken from the contracts themselves (`Contract`): each is a statement on the call's own arguments.
+use Prim.Native.Nat.{_≤_}
 use mathlib.Core.Path.{_≡_}
 use Rattle.port_spec.specs.declared.Access.the-variants.{Read, Write}
 use Rattle.port_spec.specs.Host.{Accessed, begin-access, finished, lanes-of, refusal, refused, register-of}
-use Rattle.port_spec.specs.Cycle.{Cycled, after-fetch, after-store, stepped}
+use Rattle.port_spec.specs.Cycle.{cycle-number, Cycled, after-fetch, after-store, stepped}
 use Rattle.words.proofs.Contracts.{Contract}
 use Rattle.port.proofs.access.begin_read.Kinds as begin-read-kinds
 use Rattle.port.proofs.access.begin_read.Reads as begin-read
@@ -26,6 +27,8 @@ use Rattle.port.proofs.cycles.settle_store.Kinds as settle-store-kinds
 use Rattle.port.proofs.cycles.settle_store.Reads as settle-store
 use Rattle.port.proofs.cycles.carry.Kinds as carry-kinds
 use Rattle.port.proofs.cycles.carry.Reads as carry
+use Rattle.port.proofs.cycles.number_of_cycle.Kinds as number-of-cycle-kinds
+use Rattle.port.proofs.cycles.number_of_cycle.Reads as number-of-cycle
 
 -- `begin_read`: r, register, lanes.
 pub begin-read-contract : Contract begin-read-kinds.ps begin-read-kinds.r begin-read.Pre begin-read.Post
@@ -112,6 +115,13 @@ pub settle-store-contract : Contract settle-store-kinds.ps settle-store-kinds.r 
     let inside = args .1 .1 .0 in
     c ≡ after-store r step inside)
 settle-store-contract = record { takes-any = λ κs args. tt; says = λ κs args c left p. p }
+
+-- `number_of_cycle`: c.
+pub number-of-cycle-contract : Contract number-of-cycle-kinds.ps number-of-cycle-kinds.r number-of-cycle.Pre number-of-cycle.Post
+    (λ κs args n left.
+    let c = args .0 in
+    (n ≡ cycle-number c) × (n ≤ 2))
+number-of-cycle-contract = record { takes-any = λ κs args. tt; says = λ κs args n left p. p }
 
 -- `carry`: r, due, memory.
 pub carry-contract : Contract carry-kinds.ps carry-kinds.r carry.Pre carry.Post

@@ -1,6 +1,7 @@
 // The memory cycle that an access calls for: aimed, done on the lent memory, settled in the registers.
 ghost use mathlib.Core.Path.{_≡_};
-ghost use Rattle.port_spec.specs.Cycle.{stepped, cycle-of, after-fetch, after-store, Cycled};
+ghost use Prim.Native.Nat.{_≤_};
+ghost use Rattle.port_spec.specs.Cycle.{cycle-number, stepped, cycle-of, after-fetch, after-store, Cycled};
 use port_spec::Carried;
 use port_spec::Cycle;
 use port_spec::Due;
@@ -29,6 +30,17 @@ fn cycle_of(inside: bool) -> Cycle
     ensures { λ r. ⌜ r ≡ cycle-of inside ⌝ }
 {
     if inside { Cycle::Inside } else { Cycle::Empty }
+}
+
+// The number of a cycle, for a caller that can't be handed an enum.
+pub fn number_of_cycle(c: Cycle) -> u32
+    ensures { λ n. ⌜ (n ≡ cycle-number c) × (n ≤ 2) ⌝ }
+{
+    match c {
+        Cycle::None => 0,
+        Cycle::Inside => 1,
+        Cycle::Empty => 2,
+    }
 }
 
 // What a fetch leaves: its word in HSTDATA, hollow where it missed.

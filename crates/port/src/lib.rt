@@ -16,6 +16,7 @@ pub use access::finish;
 pub use access::number_of;
 pub use access::refuse;
 pub use cycles::carry;
+pub use cycles::number_of_cycle;
 pub use cycles::settle_fetch;
 pub use cycles::settle_store;
 pub use cycles::step_if;

@@ -12,6 +12,7 @@ pub mod DataRegister
 pub mod OtherRegisters
 pub mod LowBits
 pub mod Widths
+pub mod CycleNumbers
 -- ---- demand 3: bytes and words end alike; a run in two parts
 pub mod Pairs
 pub mod Alike

@@ -1,5 +1,6 @@
 -- The memory cycle that an access calls for: document 01, 'Memory and addresses' and 'The four host registers'.
 --   stepped s r         the registers with the pointer stepped, where s says so
+--   cycle-number c      the number of a cycle: 0 none, 1 inside, 2 empty
 --   cycle-of inside     what the answer says of a cycle that was called for
 --   after-fetch r f     the registers and the cycle after a fetch that found f
 --   after-store r s i   the registers and the cycle after a store
@@ -21,6 +22,12 @@ use Rattle.port_spec.specs.declared.Due.the-variants.{Nothing, Fetch, St
 use Rattle.port_spec.specs.declared.Cycle.{Cycle}
 use Rattle.port_spec.specs.declared.Cycle.the-variants.{None, Inside, Empty}
 use Rattle.port_spec.specs.declared.Carried.{Carried}
+
+-- "the cycle: none, inside or empty", as a number (ours)
+abbrev pub cycle-number : Cycle → ℕ
+cycle-number None = 0
+cycle-number Inside = 1
+cycle-number Empty = 2
 
 -- "the pointer gains 16"
 unfoldable pub stepped : Bool → Registers → Registers

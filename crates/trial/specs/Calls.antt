@@ -25,8 +25,7 @@ use Rattle.registers.specs.declared.ProcessorWrite.{ProcessorWrite}
 use Rattle.port_spec.specs.Host.{access, access-memory}
 use Rattle.port_spec.specs.declared.Access.{Access}
 use Rattle.port_spec.specs.declared.Access.the-variants.{Read, Write}
-use Rattle.port_spec.specs.declared.Cycle.{Cycle}
-use Rattle.port_spec.specs.declared.Cycle.the-variants.{None, Inside, Empty}
+use Rattle.port_spec.specs.Cycle.{cycle-number}
 use Rattle.port_spec.specs.declared.Answer.{Answer}
 use Rattle.port_spec.specs.declared.Outcome.{Outcome}
 use Rattle.field_spec.specs.Answers.{taken, taken-signed, put-answer, put-memory}
@@ -69,18 +68,13 @@ unfoldable pub access-in : Call → Access
 access-in c =
     cond (eqb (c .letter) 0x52 || eqb (c .letter) 0x48) (Read (c .a) (c .b)) (Write (c .a) (c .b) (c .c % 65536))
 
-abbrev pub cycle-number : Cycle → ℕ
-cycle-number None = 0
-cycle-number Inside = 1
-cycle-number Empty = 2
-
 -- "16 if the answer is hollow, plus 0 for no cycle, 1 for inside, 2 for empty"
-unfoldable pub marks : Answer → ℕ
-marks a = 16 * counted (a .hollow) + cycle-number (a .cycle)
+unfoldable pub hollow-and-cycle : Answer → ℕ
+hollow-and-cycle a = 16 * counted (a .hollow) + cycle-number (a .cycle)
 
 -- "x: the word answered"
 abbrev pub host-done : State → Outcome → Done
-host-done s o = done-with (with-registers s (o .registers)) (o .answer .number) (o .answer .word) (marks (o .answer))
+host-done s o = done-with (with-registers s (o .registers)) (o .answer .number) (o .answer .word) (hollow-and-cycle (o .answer))
 
 abbrev pub host-answer : State → List ℕ → Call → Done
 host-answer s m c = host-done s (access (s .registers) m (access-in c))

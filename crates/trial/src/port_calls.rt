@@ -1,13 +1,12 @@
 // The port's calls: an access by the host, R and W, and in place H and K; one by the processor, P and Q.
 ghost use mathlib.Core.Path.{_≡_};
-ghost use Prim.Native.Nat.{_≤_};
-ghost use Rattle.trial.specs.Calls.{marks, access-in, HostDone, processor-answer};
-ghost use Rattle.trial.specs.Calls.{cycle-number as Calls·cycle-number, host-done as Calls·host-done};
+ghost use Rattle.trial.specs.Calls.{hollow-and-cycle, access-in, HostDone, processor-answer};
+ghost use Rattle.trial.specs.Calls.{host-done as Calls·host-done};
 use crate::setting::answer;
 use crate::setting::answer_with;
+use port::number_of_cycle;
 use port_spec::Access;
 use port_spec::Answer;
-use port_spec::Cycle;
 use port_spec::Outcome;
 use script::Call;
 use script::Done;
@@ -16,23 +15,12 @@ use script::is_in_place_letter;
 use script::one_if;
 use words::either;
 
-// The cycle as a number.
-fn cycle_number(cycle: Cycle) -> u32
-    ensures { λ r. ⌜ (r ≡ Calls·cycle-number cycle) × (r ≤ 2) ⌝ }
-{
-    match cycle {
-        Cycle::None => 0,
-        Cycle::Inside => 1,
-        Cycle::Empty => 2,
-    }
-}
-
 // What y says of an answer to the host.
-fn marks_of(a: Answer) -> u32
-    ensures { λ r. ⌜ r ≡ marks a ⌝ }
+fn hollow_and_cycle_of(a: Answer) -> u32
+    ensures { λ r. ⌜ r ≡ hollow-and-cycle a ⌝ }
 {
     let cycle = a.cycle;
-    16 * one_if(a.hollow) + cycle_number(cycle)
+    16 * one_if(a.hollow) + number_of_cycle(cycle)
 }
 
 // What an access by the host answers and leaves.
@@ -41,7 +29,7 @@ fn host_done(s: State, o: Outcome) -> Done
 {
     let r = o.registers;
     let a = o.answer;
-    answer_with(s, r, a.number, a.word as u32, marks_of(a))
+    answer_with(s, r, a.number, a.word as u32, hollow_and_cycle_of(a))
 }
 
 // The access that a call says.

@@ -16,6 +16,9 @@ bit-of-mark-requires c κs = tt
 number-of-cycle-requires : tie.Need-number-of-cycle-requires
 number-of-cycle-requires c κs = tt
 
+cast-cycle : tie.Need-cast-cycle
+cast-cycle c = search needs
+
 mul-result : tie.Need-mul-result
 mul-result c = search needs
 
@@ -46,6 +49,7 @@ pack-spec =
     cast-number
     bit-of-mark-requires
     number-of-cycle-requires
+    cast-cycle
     mul-result
     add-result
     mul-result-2
