@@ -1,11 +1,12 @@
 -- Texts laid into an output, one behind another.
-use Prim.Native.Nat.{ℕ, suc, _+_, _≤_}
+use Prim.Native.Nat.{ℕ, suc, _+_, _-_, _≤_}
 use native.Mathlib.Nat.{add-assoc, zero-add}
 use native.Mathlib.Omega.{arith}
 use mathlib.Core.Path.{_≡_, sym, ap, _∙_}
-use mathlib.Core.List.{List, [], _∷_, _++_, append-assoc}
-use lib.ListN.{length, take, drop, set, length-append, length-take, length-drop}
-use lib.Seq.{length-take-le, take-at, drop-append-add, drop-drop, sets-eq, paste, take-length}
+use mathlib.Core.List.{List, [], _∷_, _++_, append-assoc, append-nil}
+use lib.ListN.{length, take, drop, set, length-append, length-take, length-drop, drop-of-length-le}
+use lib.Seq.{length-take-le, take-at, drop-append-add, drop-drop, sets-eq, take-length, take-all}
+use borrow.Rule.Slice.PartMut.{putMid, postOf}
 use Rattle.listing.specs.Listing.{with-text}
 use Rattle.listing.specs.Parts.{laid, Put}
 
@@ -64,11 +65,19 @@ six-laid o at a b c d e f h =
     let bytes : List ℕ = a ∷ b ∷ c ∷ d ∷ e ∷ f ∷ [] in
     rw (e1, e2, e3, e4, e5) (sets-eq bytes o at h ∙ append-assoc (take at o) bytes (drop (at + 6) o))
 
--- All of a text pasted is the text laid.
-pub pasted : (o : List ℕ) (at : ℕ) (t : List ℕ) → paste o at t (length t) ≡ laid o at t
-pasted o at t =
-    ap (λ (x : List ℕ). take at o ++ x ++ drop (at + length t) o) (take-length t) ∙
-    append-assoc (take at o) t (drop (at + length t) o)
+-- A text copied into the part from `at` on, which then comes back as ys, is the text laid.
+pub copied-in : (o : List ℕ) (at : ℕ) (t ys : List ℕ) → at + length t ≤ length o →
+    ys ≡ take (length t) t ++ drop (length t) (take (length o - at) (drop at o)) → putMid at (length o - at) o ys ≡ laid o at t
+copied-in o at t ys h e =
+    let short : length (drop at o) ≤ length o - at = simp length-drop (omega arith) in
+    let none : postOf at (length o - at) o ≡ [] = drop-of-length-le (drop at o) short in
+    let part : take (length o - at) (drop at o) ≡ drop at o = take-all (length o - at) (drop at o) short in
+    let behind : drop (length t) (take (length o - at) (drop at o)) ≡ drop (at + length t) o =
+    ap (drop (length t)) part ∙ drop-drop (length t) at o
+    in
+    ap (λ (x : List ℕ). take at o ++ (ys ++ x)) none ∙
+    ap (λ (x : List ℕ). take at o ++ x) (append-nil ys ∙ e ∙ ap (λ (x : List ℕ). x ++ drop (length t) (take (length o - at) (drop at o))) (take-length t)) ∙
+    ap (λ (x : List ℕ). take at o ++ (t ++ x)) behind
 
 pub put-length : {o o′ t : List ℕ} {at e : ℕ} → at + length t ≤ length o → Put o at t e o′ → length o′ ≡ length o
 put-length {o = o} {t = t} {at = at} h x = ap length (x .output) ∙ laid-length o at t h

@@ -14,12 +14,8 @@ pub(crate) fn put(output: &mut [u8], at: usize, text: &[u8]) -> usize
     requires { ⌜ at + length (now text) ≤ length (now output) ⌝ }
     ensures { λ r. ⌜ Put (now (output .entry)) at (now (text .entry)) r (now (output .exit)) ⌝ }
 {
-    let mut i = 0;
-    while i < text.len() {
-        output[at + i] = text[i];
-        i += 1;
-    }
-    at + i
+    let n = bytes::copy(text, &mut output[at..]);
+    at + n
 }
 
 // "accepted reads of register 2 print `held` or `hollow`, all other lines `-`"
