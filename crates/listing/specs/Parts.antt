@@ -1,6 +1,5 @@
 -- What the private functions of this crate state.
 --   reads, writes, other-front   a text that begins with a good line, by its fixed places, and one that does not
---   smaller                      the smaller of two numbers
 --   laid, Put                    a text put into the output from a place on
 --   AnsweredLine                 a good line's access done, and its answer put
 --   ListedLines                  the lines of an input whose answers have room
@@ -29,9 +28,6 @@ writes t = cond (ltb (length t) 11) false (eqb (byte t 10) 10 && (headed 87 t &&
 
 unfoldable pub other-front : List ℕ → Front
 other-front t = cond (ltb 31 (length t) || has-feed t) Bad Open
-
-abbrev pub smaller : ℕ → ℕ → ℕ
-smaller a b = cond (ltb a b) a b
 
 abbrev pub laid : List ℕ → ℕ → List ℕ → List ℕ
 laid output at text = take at output ++ (text ++ drop (at + length text) output)

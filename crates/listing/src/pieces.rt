@@ -1,9 +1,9 @@
 // A piece of input bytes, with the port's state, to a piece of output bytes.
 ghost use mathlib.Core.Path.{_≡_};
-ghost use Prim.Native.Nat.{_+_, _*_, _-_, _≤_};
+ghost use Prim.Native.Nat.{_+_, _*_, _-_, _≤_, min};
 ghost use lib.ListN.{length};
 ghost use Rattle.listing.specs.Listing.{fitting, ListedPiece};
-ghost use Rattle.listing.specs.Parts.{smaller, AnsweredLine, ListedLines};
+ghost use Rattle.listing.specs.Parts.{AnsweredLine, ListedLines};
 use crate::Answered;
 use crate::Front;
 use crate::Listed;
@@ -13,6 +13,7 @@ use crate::lines::front_line;
 use port::host_access;
 use port_spec::Access;
 use registers::Registers;
+use words::least;
 
 // A good line: its access done, and its answer put after what was written so far.
 fn answer_line(
@@ -82,13 +83,13 @@ fn list_lines(r: Registers, memory: &mut [u16], input: &[u8], output: &mut [u8])
 // How many bytes of an input surely have room for their answers: a good line has 6 bytes or more and its answer at most 20,
 // and after the last of them `bad line` may come, with 9.
 fn count_fitting(bytes: usize, room: usize) -> usize
-    ensures { λ r. ⌜ r ≡ smaller (fitting room) bytes ⌝ }
+    ensures { λ r. ⌜ r ≡ min (fitting room) bytes ⌝ }
 {
     if room < 9 {
         return 0;
     }
     let fits = (room - 9) / 10 * 3;
-    if fits < bytes { fits } else { bytes }
+    least(fits, bytes)
 }
 
 // The whole lines of a piece of input, as far as their answers fit the output.

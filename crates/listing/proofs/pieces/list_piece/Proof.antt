@@ -6,7 +6,7 @@ use mathlib.Core.List.{List}
 use lib.ListN.{length, take}
 use lib.Seq.{length-take-le}
 use Rattle.listing.specs.Listing.{Listing, start, listing, listed, with-text, fitting}
-use Rattle.listing.proofs.Fitting.{smaller-most, taken-is, fits}
+use Rattle.listing.proofs.Fitting.{taken-is, fits}
 use borrow.Author.Needs.{needs}
 use Rattle.listing.proofs.pieces.list_piece.Statement.{statement}
 use Rattle.listing.proofs.pieces.list_piece.Tie as tie
@@ -16,18 +16,17 @@ count-fitting-requires c κs = tt
 
 slice-aggregate-list-lines : tie.Need-slice-aggregate-list-lines
 slice-aggregate-list-lines c =
-    let start = c .before .before .before .before .before .before in
-    let a = start .args in
-    let least = smaller-most (fitting (length (a .output .now))) (length (a .input .now)) in
-    sym (length-take-le (c .before .before .count-fitting .result) (a .input .now) (omega (arith, least .1, c .before .before .count-fitting .ensures)))
+    let counted = c .before .before in
+    let input = counted .before .before .before .before .args .input .now in
+    sym (length-take-le (counted .count-fitting .result) input (omega (arith, counted .count-fitting .ensures)))
 
 list-lines-requires : tie.Need-list-lines-requires
 list-lines-requires c κs =
-    let start = c .before .before .before .before .before .before .before in
-    let a = start .args in
-    let least = smaller-most (fitting (length (a .output .now))) (length (a .input .now)) in
-    let n = length-take-le (c .before .before .before .count-fitting .result) (a .input .now) (omega (arith, least .1, c .before .before .before .count-fitting .ensures)) in
-    omega (arith, n, least .0, c .before .before .before .count-fitting .ensures, fits (length (a .output .now)))
+    let counted = c .before .before .before in
+    let a = counted .before .before .before .before .args in
+    let known = counted .count-fitting .ensures in
+    let n = length-take-le (counted .count-fitting .result) (a .input .now) (omega (arith, known)) in
+    omega (arith, n, known, fits (length (a .output .now)))
 
 same-length : tie.Need-same-length
 same-length c = search needs
