@@ -1,7 +1,6 @@
 -- The whole of what `portlist` prints, and the same input in pieces: what the laws say of a listing.
 --   at-end x         what the input's end adds: "a last one without its line feed included"
 --   printed s t      what the program prints of an input t
---   joined ps        pieces of an input, joined again
 --   in-turns         what it prints when the input comes in pieces, each listed behind what is left of a line
 --   behind           a listing whose text and bytes follow those of another
 --   No-feed u        no byte of u is a line feed
@@ -25,10 +24,6 @@ at-end x = x .text ++ left-over (x .begun)
 -- "empty input prints nothing"
 abbrev pub printed : Machine → List ℕ → List ℕ
 printed s t = at-end (listing (start s) t)
-
-unfoldable pub joined : List (List ℕ) → List ℕ
-joined [] = []
-joined (piece ∷ rest) = piece ++ joined rest
 
 -- one turn for each piece: list what is left of a line with the piece behind it; go on with what is left then, unless a bad
 -- line ended it
