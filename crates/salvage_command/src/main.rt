@@ -7,9 +7,9 @@ mod pieces;
 mod report;
 
 ghost use mathlib.Core.Path.{_≡_};
-ghost use Prim.Native.Nat.{_<_, _≤_};
-ghost use lib.ListN.{length, take};
+ghost use lib.ListN.{length};
 ghost use Rattle.salvage_command.specs.Turning.{Room, SalvagedTurn};
+use input::fill;
 use pieces::Progress;
 use pieces::take_piece;
 use report::Report;
@@ -26,27 +26,6 @@ struct Turn {
     more: bool,
     // Whether the read failed.
     failed: bool,
-}
-
-// What a read leaves: how many bytes there are then, and whether it failed.
-struct Filled {
-    all: usize,
-    failed: bool,
-}
-
-// One read behind the bytes that are held, which stay. There is room for one more at least, so that none means the input's end.
-fn fill(piece: &mut [u8], held: usize) -> Filled
-    requires { ⌜ held < length (now piece) ⌝ }
-    ensures { λ r. ⌜ (held ≤ r .all) × (r .all ≤ length (now (piece .exit))) ⌝ }
-    ensures { λ r. ⌜ take held (now (piece .exit)) ≡ take held (now (piece .entry)) ⌝ }
-{
-    let got = libc::read(0, &mut piece[held..]);
-    let n = io::count(got, &piece[held..]);
-    let all = held + n;
-    Filled {
-        all,
-        failed: got < 0,
-    }
 }
 
 // One turn: a piece comes, and what is kept of it is laid out to be written.

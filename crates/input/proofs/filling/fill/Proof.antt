@@ -1,10 +1,13 @@
--- `salvage_command::fill` meets its contract: the part behind the first bytes is lent, so they stay.
-use native.Mathlib.Omega.{arith}
-use lib.Seq.{length-take-le, take-at}
-use lib.ListN.{take}
+-- `input::filling::fill` meets its contract: the part behind the first bytes is lent, so they stay.
 use borrow.Author.Needs.{needs}
-use Rattle.salvage_command.proofs.fill.Statement.{statement}
-use Rattle.salvage_command.proofs.fill.Tie as tie
+use native.Mathlib.Omega.{arith}
+use lib.ListN.{take}
+use lib.Seq.{length-take-le, take-at}
+use Rattle.input.proofs.filling.fill.Statement.{statement}
+use Rattle.input.proofs.filling.fill.Tie as tie
+
+returns : tie.Need-returns
+returns c = search needs
 
 sub-read : tie.Need-sub-read
 sub-read c = search needs
@@ -36,17 +39,26 @@ add-all c = search needs
 same-length : tie.Need-same-length
 same-length c = search needs
 
-returns : tie.Need-returns
-returns c =
-    let start = c .before .before .before .before .before .before .before .before in
-    let held = start .args .held in
-    let piece = start .args .piece .now in
-    (search needs, take-at (take held piece) _ held (length-take-le held piece (omega (arith, start .pre))))
+returns-2 : tie.Need-returns-2
+returns-2 c =
+    let came = c .before .before .before .before .before in
+    let room = came .before .before in
+    let a = room .before .before .args in
+    let held = a .held in
+    let buffer = a .buffer .now in
+    record {
+      first = take-at (take held buffer) _ held (length-take-le held buffer (omega (arith, room .if1 .left)));
+      as-long = same-length c;
+      behind = omega arith;
+      within = λ h. search needs;
+      no-room = λ h. absurd (omega (arith, h, room .if1 .left));
+    }
 
 pub fill-spec : {M : Type 1} → statement M
 fill-spec =
     tie.close
     (tie.spec
+    returns
     sub-read
     part-read-start
     part-read-end
@@ -57,4 +69,4 @@ fill-spec =
     count-requires
     add-all
     same-length
-    returns)
+    returns-2)
