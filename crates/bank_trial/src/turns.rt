@@ -7,6 +7,7 @@ use crate::printing::print_record;
 use bank_spec::Bank;
 use bank_spec::BankPort;
 use bank_spec::Banks;
+use input::read_record;
 
 // Each bank before the first record.
 const ZEROED: Bank = Bank {
@@ -46,13 +47,10 @@ pub(crate) fn run() {
     let mut turns = u64::MAX;
     while 0 < turns {
         turns -= 1;
-        let got = io::read_full(0, &mut bytes);
-        if got < 40 {
-            if 0 < got {
-                io::write_all(1, b"bad script\n");
-            }
-            return;
+        if read_record(&mut bytes) {
+            port = take_record(port, &bytes);
+            continue;
         }
-        port = take_record(port, &bytes);
+        return;
     }
 }

@@ -17,6 +17,7 @@
 mod carrying;
 
 use carrying::carry_out;
+use input::read_record;
 use salvage_spec::Salvaged;
 
 fn print_record(o: Salvaged, sound: &[u8]) {
@@ -27,26 +28,21 @@ fn print_record(o: Salvaged, sound: &[u8]) {
     io::write_all(1, sound);
 }
 
-// Record after record, each in three reads: the two numbers, the damaged transcript, the bytes to be written. A proved loop has to end,
-// and nothing says that the input does: it counts its turns down, from a number that no run uses up.
+// Record after record, each with the bytes to be written laid apart. A proved loop has to end, and nothing says that the input does: it counts
+// its turns down, from a number that no run uses up.
 fn run() {
-    let mut rooms = [0u8; 2];
-    let mut damaged = [0u8; 64];
+    let mut whole = [0u8; 130];
     let mut sound = [0u8; 64];
     let mut turns = u64::MAX;
     while 0 < turns {
         turns -= 1;
-        let first = io::read_full(0, &mut rooms);
-        let second = first + io::read_full(0, &mut damaged);
-        let got = second + io::read_full(0, &mut sound);
-        if got < 130 {
-            if 0 < got {
-                io::write_all(1, b"bad script\n");
-            }
-            return;
+        if read_record(&mut whole) {
+            bytes::copy(&whole[66..], &mut sound);
+            let answer = carry_out(whole[0], whole[1], &whole[2..66], &mut sound);
+            print_record(answer, &sound);
+            continue;
         }
-        let answer = carry_out(rooms[0], rooms[1], &damaged, &mut sound);
-        print_record(answer, &sound);
+        return;
     }
 }
 

@@ -2,20 +2,17 @@
 ghost use Rattle.sheet_trial.specs.Records.{StruckTurn, Ran};
 use crate::carrying::carry_out;
 use crate::printing::print_sheet;
+use input::read_record;
 
 // Reads a record, carries it out and prints its line. Answers whether there may be more.
 fn take_turn(room: &mut [u16], list: &mut [f64]) -> bool
     ensures { λ more. ⌜ StruckTurn (now (room .entry)) (now (list .entry)) more (now (room .exit)) (now (list .exit)) ⌝ }
 {
     let mut bytes = [0u8; 108];
-    let got = io::read_full(0, &mut bytes);
-    if got == 108 {
+    if read_record(&mut bytes) {
         let o = carry_out(room, list, &bytes);
         print_sheet(o, list);
         return true;
-    }
-    if 0 < got {
-        io::write_all(1, b"bad script\n");
     }
     false
 }

@@ -1,22 +1,14 @@
 // What the bytes of a record say.
 ghost use mathlib.Core.Path.{_≡_};
-ghost use Prim.Native.Nat.{min};
 ghost use Rattle.stream_trial.specs.Record.{number, string-lent};
+use input::places_lent;
 use words::join_four;
-use words::least;
 
 // How many bytes the stream had already.
 pub(crate) fn number_in(bytes: &[u8; 36]) -> u32
     ensures { λ n. ⌜ n ≡ number (now (bytes .entry)) ⌝ }
 {
     join_four(bytes[8], bytes[9], bytes[10], bytes[11])
-}
-
-// How many of so many places are lent, where the record says b: all of them if it says more.
-pub(crate) fn places_lent(b: u8, length: usize) -> usize
-    ensures { λ r. ⌜ r ≡ min b length ⌝ }
-{
-    least(b as usize, length)
 }
 
 // What is delivered of the string. (All bytes are made a slice first: a part of an array behind a reference has no rule in the logic.)

@@ -4,6 +4,7 @@ ghost use Rattle.stream_trial.specs.Record.{blank};
 ghost use Rattle.stream_trial.specs.CarriedOut.{answer-from};
 use crate::carrying::carry_record;
 use crate::printing::print_record;
+use input::read_record;
 use stream::start_stream;
 use stream_spec::Stream;
 
@@ -25,13 +26,10 @@ pub(crate) fn run() {
     let mut turns = u64::MAX;
     while 0 < turns {
         turns -= 1;
-        let got = io::read_full(0, &mut bytes);
-        if got < 36 {
-            if 0 < got {
-                io::write_all(1, b"bad script\n");
-            }
-            return;
+        if read_record(&mut bytes) {
+            st = take_record(st, &bytes);
+            continue;
         }
-        st = take_record(st, &bytes);
+        return;
     }
 }

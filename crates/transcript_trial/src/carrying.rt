@@ -1,14 +1,12 @@
 // A record of a script, carried out.
-ghost use mathlib.Core.Path.{_≡_};
-ghost use Prim.Native.Nat.{min};
 ghost use Rattle.transcript_spec.specs.Lists.{lists};
 ghost use Rattle.transcript_trial.specs.Record.{lists-in};
 ghost use Rattle.transcript_trial.specs.CarriedOut.{Called, CarriedOut};
 use crate::reading::column_at;
+use input::places_lent;
 use transcript::read_transcript;
 use transcript::write_transcript;
 use transcript_spec::Transcribed;
-use words::least;
 
 // What a record leaves, but for its string: what the call answered, and the four lists.
 pub(crate) struct Left {
@@ -17,13 +15,6 @@ pub(crate) struct Left {
     pub registers: [u32; 6],
     pub lanes: [u32; 6],
     pub words: [u32; 6],
-}
-
-// How many of so many places are lent, where the record says b: all of them if it says more.
-fn places_lent(b: u8, length: usize) -> usize
-    ensures { λ r. ⌜ r ≡ min b length ⌝ }
-{
-    least(b as usize, length)
 }
 
 // One call, of the reader or else of the writer.
@@ -47,7 +38,7 @@ fn call(
 
 // The record's call. What it is lent of the string and of each list is their first places, as many as the record says.
 fn carry_out(
-    bytes: &[u8; 104],
+    bytes: &[u8; 168],
     string: &mut [u8],
     kinds: &mut [u32],
     registers: &mut [u32],
@@ -75,7 +66,7 @@ fn carry_out(
 }
 
 // The record's call, with the string and with the lists that are in the record.
-pub(crate) fn carry_record(bytes: &[u8; 104], string: &mut [u8]) -> Left
+pub(crate) fn carry_record(bytes: &[u8; 168], string: &mut [u8]) -> Left
     ensures { λ d. ⌜ CarriedOut (now (bytes .entry)) (now (string .entry)) (lists-in (now (bytes .entry)))
         (d .answer) (now (string .exit)) (lists (d .kinds) (d .registers) (d .lanes) (d .words)) ⌝ }
 {

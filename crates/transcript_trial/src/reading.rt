@@ -5,7 +5,7 @@ ghost use Rattle.transcript_trial.specs.Record.{number, column};
 use words::join_four;
 
 // Number k of a record's lists.
-fn number_at(bytes: &[u8; 104], k: usize) -> u32
+fn number_at(bytes: &[u8; 168], k: usize) -> u32
     requires { ⌜ k < 24 ⌝ }
     ensures { λ n. ⌜ n ≡ number (now (bytes .entry)) k ⌝ }
 {
@@ -14,7 +14,7 @@ fn number_at(bytes: &[u8; 104], k: usize) -> u32
 }
 
 // The six numbers of a record's list from number k on.
-pub(crate) fn column_at(bytes: &[u8; 104], k: usize) -> [u32; 6]
+pub(crate) fn column_at(bytes: &[u8; 168], k: usize) -> [u32; 6]
     requires { ⌜ k < 19 ⌝ }
     ensures { λ r. ⌜ r ≡ column (now (bytes .entry)) k ⌝ }
 {

@@ -1,16 +1,15 @@
 -- `salvage_trial::run` meets its contract: its buffers keep their lengths, and its count of turns falls.
+use borrow.Author.Needs.{needs}
 use mathlib.Core.Path.{_≡_}
 use lib.ListN.{length}
-use borrow.Author.Needs.{needs}
 use Rattle.salvage_trial.proofs.run.Statement.{statement}
 use Rattle.salvage_trial.proofs.run.Tie as tie
 
 abbrev Inv-loop : tie.InvT-loop
-Inv-loop rooms₀ damaged₀ sound₀ turns₀ t9 rooms damaged sound turns =
-    (length rooms ≡ 2) × (length damaged ≡ 64) × (length sound ≡ 64)
+Inv-loop whole₀ sound₀ turns₀ whole sound turns = (length whole ≡ 130) × (length sound ≡ 64)
 
 abbrev μ-loop : tie.MeasureT-loop
-μ-loop rooms₀ damaged₀ sound₀ turns₀ t9 rooms damaged sound turns = turns
+μ-loop whole₀ sound₀ turns₀ whole sound turns = turns
 
 loop-holds : tie.Need-loop-holds Inv-loop μ-loop
 loop-holds c = search needs
@@ -18,41 +17,26 @@ loop-holds c = search needs
 sub-turns : tie.Need-sub-turns Inv-loop μ-loop
 sub-turns c = search needs
 
-slice-aggregate-read-full : tie.Need-slice-aggregate-read-full Inv-loop μ-loop
-slice-aggregate-read-full c = search needs
+slice-aggregate-read-record : tie.Need-slice-aggregate-read-record Inv-loop μ-loop
+slice-aggregate-read-record c = search needs
 
-read-full-requires : tie.Need-read-full-requires Inv-loop μ-loop
-read-full-requires c κs = search needs
+read-record-requires : tie.Need-read-record-requires Inv-loop μ-loop
+read-record-requires c κs = search needs
 
-slice-aggregate-read-full-2 : tie.Need-slice-aggregate-read-full-2 Inv-loop μ-loop
-slice-aggregate-read-full-2 c = search needs
+sub-copy : tie.Need-sub-copy Inv-loop μ-loop
+sub-copy c = search needs
 
-read-full-requires-2 : tie.Need-read-full-requires-2 Inv-loop μ-loop
-read-full-requires-2 c κs = search needs
+part-copy-start : tie.Need-part-copy-start Inv-loop μ-loop
+part-copy-start c = search needs
 
-add-second : tie.Need-add-second Inv-loop μ-loop
-add-second c = search needs
+part-copy-end : tie.Need-part-copy-end Inv-loop μ-loop
+part-copy-end c = search needs
 
-slice-aggregate-read-full-3 : tie.Need-slice-aggregate-read-full-3 Inv-loop μ-loop
-slice-aggregate-read-full-3 c = search needs
+slice-aggregate-copy : tie.Need-slice-aggregate-copy Inv-loop μ-loop
+slice-aggregate-copy c = search needs
 
-read-full-requires-3 : tie.Need-read-full-requires-3 Inv-loop μ-loop
-read-full-requires-3 c κs = search needs
-
-add-got : tie.Need-add-got Inv-loop μ-loop
-add-got c = search needs
-
-slice-aggregate-write-all : tie.Need-slice-aggregate-write-all Inv-loop μ-loop
-slice-aggregate-write-all c = search needs
-
-write-all-requires : tie.Need-write-all-requires Inv-loop μ-loop
-write-all-requires c κs = search needs
-
-returns : tie.Need-returns Inv-loop μ-loop
-returns c = search needs
-
-returns-2 : tie.Need-returns-2 Inv-loop μ-loop
-returns-2 c = search needs
+copy-requires : tie.Need-copy-requires Inv-loop μ-loop
+copy-requires c κs = search needs
 
 array-read-carry-out : tie.Need-array-read-carry-out Inv-loop μ-loop
 array-read-carry-out c = search needs
@@ -60,11 +44,17 @@ array-read-carry-out c = search needs
 array-read-carry-out-2 : tie.Need-array-read-carry-out-2 Inv-loop μ-loop
 array-read-carry-out-2 c = search needs
 
+sub-carry-out : tie.Need-sub-carry-out Inv-loop μ-loop
+sub-carry-out c = search needs
+
+part-carry-out-start : tie.Need-part-carry-out-start Inv-loop μ-loop
+part-carry-out-start c = search needs
+
+part-carry-out-end : tie.Need-part-carry-out-end Inv-loop μ-loop
+part-carry-out-end c = search needs
+
 slice-aggregate-carry-out : tie.Need-slice-aggregate-carry-out Inv-loop μ-loop
 slice-aggregate-carry-out c = search needs
-
-slice-aggregate-carry-out-2 : tie.Need-slice-aggregate-carry-out-2 Inv-loop μ-loop
-slice-aggregate-carry-out-2 c = search needs
 
 carry-out-requires : tie.Need-carry-out-requires Inv-loop μ-loop
 carry-out-requires c κs = search needs
@@ -81,8 +71,11 @@ loop-less c = search needs
 loop-again : tie.Need-loop-again Inv-loop μ-loop
 loop-again c = search needs
 
-returns-3 : tie.Need-returns-3 Inv-loop μ-loop
-returns-3 c = search needs
+returns : tie.Need-returns Inv-loop μ-loop
+returns c = search needs
+
+returns-2 : tie.Need-returns-2 Inv-loop μ-loop
+returns-2 c = search needs
 
 pub run-spec : {M : Type 1} → statement M
 run-spec =
@@ -92,25 +85,23 @@ run-spec =
     μ-loop
     loop-holds
     sub-turns
-    slice-aggregate-read-full
-    read-full-requires
-    slice-aggregate-read-full-2
-    read-full-requires-2
-    add-second
-    slice-aggregate-read-full-3
-    read-full-requires-3
-    add-got
-    slice-aggregate-write-all
-    write-all-requires
-    returns
-    returns-2
+    slice-aggregate-read-record
+    read-record-requires
+    sub-copy
+    part-copy-start
+    part-copy-end
+    slice-aggregate-copy
+    copy-requires
     array-read-carry-out
     array-read-carry-out-2
+    sub-carry-out
+    part-carry-out-start
+    part-carry-out-end
     slice-aggregate-carry-out
-    slice-aggregate-carry-out-2
     carry-out-requires
     slice-aggregate-print-record
     print-record-requires
     loop-less
     loop-again
-    returns-3)
+    returns
+    returns-2)

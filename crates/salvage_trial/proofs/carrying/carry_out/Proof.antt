@@ -6,14 +6,14 @@ use borrow.Author.Needs.{needs}
 use Rattle.salvage_trial.proofs.carrying.carry_out.Statement.{statement}
 use Rattle.salvage_trial.proofs.carrying.carry_out.Tie as tie
 
-least-requires : tie.Need-least-requires
-least-requires c κs = search needs
+places-lent-requires : tie.Need-places-lent-requires
+places-lent-requires c κs = search needs
 
-least-requires-2 : tie.Need-least-requires-2
-least-requires-2 c κs = search needs
+places-lent-requires-2 : tie.Need-places-lent-requires-2
+places-lent-requires-2 c κs = search needs
 
 slice-aggregate-salvage-transcript : tie.Need-slice-aggregate-salvage-transcript
-slice-aggregate-salvage-transcript c = sym (length-take-le _ _ (smaller-of _ _ (c .before .before .least .ensures)))
+slice-aggregate-salvage-transcript c = sym (length-take-le _ _ (smaller-of _ _ (c .before .before .places-lent .ensures)))
 
 sub-salvage-transcript : tie.Need-sub-salvage-transcript
 sub-salvage-transcript c = search needs
@@ -34,14 +34,14 @@ returns : tie.Need-returns
 returns c =
     let done = c .before .before in
     let counted = done .before .before .before in
-    carried (counted .before .least .ensures) (counted .least2 .ensures) (done .salvage-transcript .ensures)
+    carried (counted .before .places-lent .ensures) (counted .places-lent2 .ensures) (done .salvage-transcript .ensures)
 
 pub carry-out-spec : {M : Type 1} → statement M
 carry-out-spec =
     tie.close
     (tie.spec
-    least-requires
-    least-requires-2
+    places-lent-requires
+    places-lent-requires-2
     slice-aggregate-salvage-transcript
     sub-salvage-transcript
     part-salvage-transcript-start

@@ -6,13 +6,13 @@ use Rattle.stream_trial.proofs.turns.run.Statement.{statement}
 use Rattle.stream_trial.proofs.turns.run.Tie as tie
 
 abbrev Inv-loop : tie.InvT-loop
-Inv-loop bytes₀ st₀ turns₀ t7 bytes st turns = length bytes ≡ 36
+Inv-loop bytes₀ st₀ turns₀ bytes st turns = length bytes ≡ 36
 
 abbrev μ-loop : tie.MeasureT-loop
-μ-loop bytes₀ st₀ turns₀ t7 bytes st turns = turns
+μ-loop bytes₀ st₀ turns₀ bytes st turns = turns
 
 start-stream-requires : tie.Need-start-stream-requires Inv-loop μ-loop
-start-stream-requires c κs = tt
+start-stream-requires c κs = search needs
 
 loop-holds : tie.Need-loop-holds Inv-loop μ-loop
 loop-holds c = search needs
@@ -20,26 +20,14 @@ loop-holds c = search needs
 sub-turns : tie.Need-sub-turns Inv-loop μ-loop
 sub-turns c = search needs
 
-slice-aggregate-read-full : tie.Need-slice-aggregate-read-full Inv-loop μ-loop
-slice-aggregate-read-full c = search needs
+slice-aggregate-read-record : tie.Need-slice-aggregate-read-record Inv-loop μ-loop
+slice-aggregate-read-record c = search needs
 
-read-full-requires : tie.Need-read-full-requires Inv-loop μ-loop
-read-full-requires c κs = tt
-
-slice-aggregate-write-all : tie.Need-slice-aggregate-write-all Inv-loop μ-loop
-slice-aggregate-write-all c = search needs
-
-write-all-requires : tie.Need-write-all-requires Inv-loop μ-loop
-write-all-requires c κs = tt
-
-returns : tie.Need-returns Inv-loop μ-loop
-returns c = search needs
-
-returns-2 : tie.Need-returns-2 Inv-loop μ-loop
-returns-2 c = search needs
+read-record-requires : tie.Need-read-record-requires Inv-loop μ-loop
+read-record-requires c κs = search needs
 
 take-record-requires : tie.Need-take-record-requires Inv-loop μ-loop
-take-record-requires c κs = tt
+take-record-requires c κs = search needs
 
 loop-less : tie.Need-loop-less Inv-loop μ-loop
 loop-less c = search needs
@@ -47,8 +35,11 @@ loop-less c = search needs
 loop-again : tie.Need-loop-again Inv-loop μ-loop
 loop-again c = search needs
 
-returns-3 : tie.Need-returns-3 Inv-loop μ-loop
-returns-3 c = search needs
+returns : tie.Need-returns Inv-loop μ-loop
+returns c = search needs
+
+returns-2 : tie.Need-returns-2 Inv-loop μ-loop
+returns-2 c = search needs
 
 pub run-spec : {M : Type 1} → statement M
 run-spec =
@@ -59,13 +50,10 @@ run-spec =
     start-stream-requires
     loop-holds
     sub-turns
-    slice-aggregate-read-full
-    read-full-requires
-    slice-aggregate-write-all
-    write-all-requires
-    returns
-    returns-2
+    slice-aggregate-read-record
+    read-record-requires
     take-record-requires
     loop-less
     loop-again
-    returns-3)
+    returns
+    returns-2)

@@ -6,10 +6,10 @@ use Rattle.transcript_trial.proofs.turns.run.Statement.{statement}
 use Rattle.transcript_trial.proofs.turns.run.Tie as tie
 
 abbrev Inv-loop : tie.InvT-loop
-Inv-loop bytes₀ string₀ turns₀ t7 bytes string turns = (length bytes ≡ 104) × (length string ≡ 64)
+Inv-loop whole₀ string₀ turns₀ whole string turns = (length whole ≡ 168) × (length string ≡ 64)
 
 abbrev μ-loop : tie.MeasureT-loop
-μ-loop bytes₀ string₀ turns₀ t7 bytes string turns = turns
+μ-loop whole₀ string₀ turns₀ whole string turns = turns
 
 loop-holds : tie.Need-loop-holds Inv-loop μ-loop
 loop-holds c = search needs
@@ -17,32 +17,26 @@ loop-holds c = search needs
 sub-turns : tie.Need-sub-turns Inv-loop μ-loop
 sub-turns c = search needs
 
-slice-aggregate-read-full : tie.Need-slice-aggregate-read-full Inv-loop μ-loop
-slice-aggregate-read-full c = search needs
+slice-aggregate-read-record : tie.Need-slice-aggregate-read-record Inv-loop μ-loop
+slice-aggregate-read-record c = search needs
 
-read-full-requires : tie.Need-read-full-requires Inv-loop μ-loop
-read-full-requires c κs = search needs
+read-record-requires : tie.Need-read-record-requires Inv-loop μ-loop
+read-record-requires c κs = search needs
 
-slice-aggregate-read-full-2 : tie.Need-slice-aggregate-read-full-2 Inv-loop μ-loop
-slice-aggregate-read-full-2 c = search needs
+sub-copy : tie.Need-sub-copy Inv-loop μ-loop
+sub-copy c = search needs
 
-read-full-requires-2 : tie.Need-read-full-requires-2 Inv-loop μ-loop
-read-full-requires-2 c κs = search needs
+part-copy-start : tie.Need-part-copy-start Inv-loop μ-loop
+part-copy-start c = search needs
 
-add-got : tie.Need-add-got Inv-loop μ-loop
-add-got c = search needs
+part-copy-end : tie.Need-part-copy-end Inv-loop μ-loop
+part-copy-end c = search needs
 
-slice-aggregate-write-all : tie.Need-slice-aggregate-write-all Inv-loop μ-loop
-slice-aggregate-write-all c = search needs
+slice-aggregate-copy : tie.Need-slice-aggregate-copy Inv-loop μ-loop
+slice-aggregate-copy c = search needs
 
-write-all-requires : tie.Need-write-all-requires Inv-loop μ-loop
-write-all-requires c κs = search needs
-
-returns : tie.Need-returns Inv-loop μ-loop
-returns c = search needs
-
-returns-2 : tie.Need-returns-2 Inv-loop μ-loop
-returns-2 c = search needs
+copy-requires : tie.Need-copy-requires Inv-loop μ-loop
+copy-requires c κs = search needs
 
 slice-aggregate-carry-record : tie.Need-slice-aggregate-carry-record Inv-loop μ-loop
 slice-aggregate-carry-record c = search needs
@@ -62,8 +56,11 @@ loop-less c = search needs
 loop-again : tie.Need-loop-again Inv-loop μ-loop
 loop-again c = search needs
 
-returns-3 : tie.Need-returns-3 Inv-loop μ-loop
-returns-3 c = search needs
+returns : tie.Need-returns Inv-loop μ-loop
+returns c = search needs
+
+returns-2 : tie.Need-returns-2 Inv-loop μ-loop
+returns-2 c = search needs
 
 pub run-spec : {M : Type 1} → statement M
 run-spec =
@@ -73,19 +70,18 @@ run-spec =
     μ-loop
     loop-holds
     sub-turns
-    slice-aggregate-read-full
-    read-full-requires
-    slice-aggregate-read-full-2
-    read-full-requires-2
-    add-got
-    slice-aggregate-write-all
-    write-all-requires
-    returns
-    returns-2
+    slice-aggregate-read-record
+    read-record-requires
+    sub-copy
+    part-copy-start
+    part-copy-end
+    slice-aggregate-copy
+    copy-requires
     slice-aggregate-carry-record
     carry-record-requires
     slice-aggregate-print-record
     print-record-requires
     loop-less
     loop-again
-    returns-3)
+    returns
+    returns-2)
