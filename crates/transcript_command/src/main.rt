@@ -10,57 +10,64 @@
 // There is room for 32,768 accesses: as lines they have at most 360,448 bytes, and as a transcript at most 131,072.
 mod messages;
 
-ghost use Rattle.transcript_command.specs.Ways.{Named};
+ghost use Rattle.transcript_spec.specs.Lists.{lists};
+ghost use Rattle.transcript_command.specs.Ways.{TurnedTo, Named};
 use messages::say;
 use transcript_exchange::Turned;
 use transcript_exchange::bytes_to_lines;
 use transcript_exchange::lines_to_bytes;
 
-// Lines in, a transcript out. Input that fills its buffer may have more behind it, and is too long.
-fn write_bytes(
-    text: &mut [u8],
+// The input turned: lines into a transcript, or else a transcript into lines.
+fn turn(
+    to_bytes: bool,
+    input: &[u8],
     kinds: &mut [u32],
     registers: &mut [u32],
     lanes: &mut [u32],
     words: &mut [u32],
-    bytes: &mut [u8],
-) {
-    let n = io::read_full(0, text);
-    if n == text.len() {
-        io::write_all(2, b"transcript: input too long\n");
-        return;
+    output: &mut [u8],
+) -> Turned
+    ensures { λ o. ⌜ TurnedTo «to_bytes» (now (input .entry))
+        (lists (now (kinds .entry)) (now (registers .entry)) (now (lanes .entry)) (now (words .entry)))
+        (now (output .entry)) o
+        (lists (now (kinds .exit)) (now (registers .exit)) (now (lanes .exit)) (now (words .exit))) (now (output .exit)) ⌝ }
+{
+    if to_bytes {
+        return lines_to_bytes(input, kinds, registers, lanes, words, output);
     }
-    let turned = lines_to_bytes(&text[..n], kinds, registers, lanes, words, bytes);
-    match turned {
-        Turned::Done(k) => {
-            let start = 0;
-            io::write_all(1, &bytes[start..k]);
-        }
-        _ => say(turned, b"line ", 1),
-    }
+    bytes_to_lines(input, kinds, registers, lanes, words, output)
 }
 
-// A transcript in, lines out.
-fn write_lines(
-    bytes: &mut [u8],
+// The input read, turned and written; or what is wrong with it is said. Input that fills its buffer may have more behind it, and is too long.
+fn exchange(
+    to_bytes: bool,
+    input: &mut [u8],
     kinds: &mut [u32],
     registers: &mut [u32],
     lanes: &mut [u32],
     words: &mut [u32],
-    text: &mut [u8],
+    output: &mut [u8],
 ) {
-    let n = io::read_full(0, bytes);
-    if n == bytes.len() {
+    let n = io::read_full(0, input);
+    if n == input.len() {
         io::write_all(2, b"transcript: input too long\n");
         return;
     }
-    let turned = bytes_to_lines(&bytes[..n], kinds, registers, lanes, words, text);
+    let turned = turn(
+        to_bytes,
+        &input[..n],
+        kinds,
+        registers,
+        lanes,
+        words,
+        output,
+    );
     match turned {
         Turned::Done(k) => {
             let start = 0;
-            io::write_all(1, &text[start..k]);
+            io::write_all(1, &output[start..k]);
         }
-        _ => say(turned, b"byte ", 0),
+        _ => say(turned, to_bytes),
     }
 }
 
@@ -95,7 +102,8 @@ fn main() {
     let mut lanes = [0u32; 32768];
     let mut words = [0u32; 32768];
     match way {
-        Way::Bytes => write_bytes(
+        Way::Bytes => exchange(
+            true,
             &mut text,
             &mut kinds,
             &mut registers,
@@ -103,7 +111,8 @@ fn main() {
             &mut words,
             &mut bytes,
         ),
-        Way::Lines => write_lines(
+        Way::Lines => exchange(
+            false,
             &mut bytes,
             &mut kinds,
             &mut registers,
