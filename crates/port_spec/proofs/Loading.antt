@@ -30,20 +30,17 @@ module _ (s : Machine) (a : BitAddress) where
   unfolding loading ends
   run-high-last e = rw e
 
-  -- the address is one of 32 bits, so that its high half needs no remainder; t is the machine after one write, u after both
-  module _ (h : a .0 / 65536 < 65536) where
-    whole : a .0 / 65536 ≡ high-half a
-    whole = omega arith
-
+  -- l and h are the two halves; t is the machine after one write, u after both
+  module _ {l h : ℕ} (low : l ≡ low-half a) (high : h ≡ high-half a) where
     -- Where the low half fetches, it goes last.
     pub low-last : {t u : Machine} → fetches (s .registers .control) 0 ≡ true →
-        t ≡ after s (Write 1 3 (a .0 / 65536)) → u ≡ after t (Write 0 3 (a .0 % 65536)) → u ≡ loaded s a
-    low-last f x y = rw (y, x, whole) (sym (run-low-last (sym (low-fetches _) ∙ f)))
+        t ≡ after s (Write 1 3 h) → u ≡ after t (Write 0 3 l) → u ≡ loaded s a
+    low-last f x y = rw (y, x, low, high) (sym (run-low-last (sym (low-fetches _) ∙ f)))
 
     -- Where it does not, the high half does.
     pub high-last : {t u : Machine} → fetches (s .registers .control) 0 ≡ false →
-        t ≡ after s (Write 0 3 (a .0 % 65536)) → u ≡ after t (Write 1 3 (a .0 / 65536)) → u ≡ loaded s a
-    high-last f x y = rw (y, x, whole) (sym (run-high-last (sym (low-fetches _) ∙ f)))
+        t ≡ after s (Write 0 3 l) → u ≡ after t (Write 1 3 h) → u ≡ loaded s a
+    high-last f x y = rw (y, x, low, high) (sym (run-high-last (sym (low-fetches _) ∙ f)))
 
 -- ---- the memory
 half-keeps-memory : (s : Machine) (k w : ℕ) → eqb k 2 ≡ false → after s (Write k 3 w) .memory ≡ s .memory

@@ -1,8 +1,12 @@
 -- What the contracts of the calls say, taken from the contracts themselves (`Contract`): each is a statement on the call's own arguments.
 use mathlib.Core.Path.{_≡_}
-use Rattle.registers.specs.Registers.{register-word, with-latch, with-pointer, written}
+use Rattle.registers.specs.Registers.{low-half, high-half, register-word, with-latch, with-pointer, written}
 use Rattle.registers.specs.Processor.{at-reset, processor-reads, processor-writes}
 use Rattle.words.proofs.Contracts.{Contract}
+use Rattle.registers.proofs.parts.low_half_of.Kinds as low-half-of-kinds
+use Rattle.registers.proofs.parts.low_half_of.Reads as low-half-of
+use Rattle.registers.proofs.parts.high_half_of.Kinds as high-half-of-kinds
+use Rattle.registers.proofs.parts.high_half_of.Reads as high-half-of
 use Rattle.registers.proofs.parts.set_pointer.Kinds as set-pointer-kinds
 use Rattle.registers.proofs.parts.set_pointer.Reads as set-pointer
 use Rattle.registers.proofs.parts.set_latch.Kinds as set-latch-kinds
@@ -17,6 +21,20 @@ use Rattle.registers.proofs.processor.processor_write.Kinds as processo
 use Rattle.registers.proofs.processor.processor_write.Reads as processor-write
 use Rattle.registers.proofs.processor.reset.Kinds as reset-kinds
 use Rattle.registers.proofs.processor.reset.Reads as reset
+
+-- `low_half_of`: a.
+pub low-half-of-contract : Contract low-half-of-kinds.ps low-half-of-kinds.r low-half-of.Pre low-half-of.Post
+    (λ κs args x left.
+    let a = args .0 in
+    x ≡ low-half a)
+low-half-of-contract = record { takes-any = λ κs args. tt; says = λ κs args x left p. p }
+
+-- `high_half_of`: a.
+pub high-half-of-contract : Contract high-half-of-kinds.ps high-half-of-kinds.r high-half-of.Pre high-half-of.Post
+    (λ κs args x left.
+    let a = args .0 in
+    x ≡ high-half a)
+high-half-of-contract = record { takes-any = λ κs args. tt; says = λ κs args x left p. p }
 
 -- `set_pointer`: r, a.
 pub set-pointer-contract : Contract set-pointer-kinds.ps set-pointer-kinds.r set-pointer.Pre set-pointer.Post

@@ -11,6 +11,8 @@ pub use processor::processor_write;
 pub use processor::reset;
 
 // The parts that an access by the host is made of: they judge nothing.
+pub use parts::high_half_of;
+pub use parts::low_half_of;
 pub use parts::read_register;
 pub use parts::set_latch;
 pub use parts::set_pointer;

@@ -7,14 +7,14 @@ use words::BitAddress;
 use words::replace_bytes;
 
 // HSTADRL: the low half of the pointer.
-fn low_half_of(a: BitAddress) -> u16
+pub fn low_half_of(a: BitAddress) -> u16
     ensures { λ r. ⌜ r ≡ low-half a ⌝ }
 {
     (a.0 % 65536) as u16
 }
 
 // HSTADRH: the high half of the pointer.
-fn high_half_of(a: BitAddress) -> u16
+pub fn high_half_of(a: BitAddress) -> u16
     ensures { λ r. ⌜ r ≡ high-half a ⌝ }
 {
     (a.0 / 65536 % 65536) as u16

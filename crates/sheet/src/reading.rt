@@ -10,6 +10,8 @@ use control::fetches_by;
 use port::host_access;
 use port_spec::Access;
 use registers::Registers;
+use registers::high_half_of;
+use registers::low_half_of;
 use words::BitAddress;
 use words::either;
 
@@ -33,8 +35,8 @@ fn write_half(r: Registers, memory: &mut [u16], register: u32, half: u16) -> Reg
 pub(crate) fn load_pointer(r: Registers, memory: &mut [u16], a: BitAddress) -> Registers
     ensures { λ q. ⌜ machine q (now (memory .exit)) ≡ loaded (machine r (now (memory .entry))) a ⌝ }
 {
-    let low = (a.0 % 65536) as u16;
-    let high = (a.0 / 65536) as u16;
+    let low = low_half_of(a);
+    let high = high_half_of(a);
     if fetches_by(r.control, 0) {
         let q = write_half(r, memory, 1, high);
         return write_half(q, memory, 0, low);

@@ -6,11 +6,11 @@ use Rattle.port_spec.proofs.Loading.{low-last, high-last}
 use Rattle.sheet.proofs.reading.load_pointer.Statement.{statement}
 use Rattle.sheet.proofs.reading.load_pointer.Tie as tie
 
-cast-low : tie.Need-cast-low
-cast-low c = omega arith
+low-half-of-requires : tie.Need-low-half-of-requires
+low-half-of-requires c κs = tt
 
-cast-high : tie.Need-cast-high
-cast-high c = omega arith
+high-half-of-requires : tie.Need-high-half-of-requires
+high-half-of-requires c κs = tt
 
 fetches-by-requires : tie.Need-fetches-by-requires
 fetches-by-requires c κs = tt
@@ -28,8 +28,10 @@ returns : tie.Need-returns
 returns c =
     let first = c .before .before .before .before .before .before in
     let judged = first .before .before in
-    let a = judged .before .before .before .before .before .args in
-    low-last (machine (a .r) (a .memory .now)) (a .a) (omega arith) (sym (judged .before .fetches-by .ensures) ∙ judged .if1 .taken)
+    let halved = judged .before .before in
+    let a = halved .before .before .before .args in
+    low-last (machine (a .r) (a .memory .now)) (a .a) (halved .before .low-half-of .ensures) (halved .high-half-of .ensures)
+    (sym (judged .before .fetches-by .ensures) ∙ judged .if1 .taken)
     (first .write-half .ensures) (c .before .before .write-half2 .ensures)
 
 write-half-requires-3 : tie.Need-write-half-requires-3
@@ -45,16 +47,18 @@ returns-2 : tie.Need-returns-2
 returns-2 c =
     let first = c .before .before .before .before .before .before in
     let judged = first .before .before in
-    let a = judged .before .before .before .before .before .args in
-    high-last (machine (a .r) (a .memory .now)) (a .a) (omega arith) (sym (judged .before .fetches-by .ensures) ∙ judged .if1 .left)
+    let halved = judged .before .before in
+    let a = halved .before .before .before .args in
+    high-last (machine (a .r) (a .memory .now)) (a .a) (halved .before .low-half-of .ensures) (halved .high-half-of .ensures)
+    (sym (judged .before .fetches-by .ensures) ∙ judged .if1 .left)
     (first .write-half3 .ensures) (c .before .before .write-half4 .ensures)
 
 pub load-pointer-spec : {M : Type 1} → statement M
 load-pointer-spec =
     tie.close
     (tie.spec
-    cast-low
-    cast-high
+    low-half-of-requires
+    high-half-of-requires
     fetches-by-requires
     write-half-requires
     write-half-requires-2
