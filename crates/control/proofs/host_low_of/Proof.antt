@@ -26,15 +26,19 @@ join-parts-requires c κs = tt
 
 returns : tie.Need-returns
 unfolding host-low
-returns c = rw (
-  c .join-parts .ensures,
-  c .before .before .before .before .either .ensures,
-  c .before .before .before .before .before .before .int-in .ensures,
-  c .before .before .before .before .before .int-in2 .ensures,
-  c .before .both .ensures,
-  c .before .before .before .int-out .ensures,
-  c .before .before .int-out2 .ensures,
-)
+returns c =
+    let at-either = c .before .before .before .before in
+    let at-int-in2 = at-either .before in
+    let at-int-in = at-int-in2 .before in
+    rw (
+      c .join-parts .ensures,
+      at-either .either .ensures,
+      at-int-in .int-in .ensures,
+      at-int-in2 .int-in2 .ensures,
+      c .before .both .ensures,
+      c .before .before .before .int-out .ensures,
+      c .before .before .int-out2 .ensures,
+    )
 
 pub host-low-of-spec : {M : Type 1} → statement M
 host-low-of-spec =

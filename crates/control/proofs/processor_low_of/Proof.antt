@@ -26,15 +26,19 @@ join-parts-requires c κs = tt
 
 returns : tie.Need-returns
 unfolding processor-low
-returns c = rw (
-  c .join-parts .ensures,
-  c .before .before .before .before .both .ensures,
-  c .before .before .before .before .before .before .int-in .ensures,
-  c .before .before .before .before .before .int-in2 .ensures,
-  c .before .either .ensures,
-  c .before .before .before .int-out .ensures,
-  c .before .before .int-out2 .ensures,
-)
+returns c =
+    let at-both = c .before .before .before .before in
+    let at-int-in2 = at-both .before in
+    let at-int-in = at-int-in2 .before in
+    rw (
+      c .join-parts .ensures,
+      at-both .both .ensures,
+      at-int-in .int-in .ensures,
+      at-int-in2 .int-in2 .ensures,
+      c .before .either .ensures,
+      c .before .before .before .int-out .ensures,
+      c .before .before .int-out2 .ensures,
+    )
 
 pub processor-low-of-spec : {M : Type 1} → statement M
 processor-low-of-spec =

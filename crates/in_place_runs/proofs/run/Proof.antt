@@ -43,7 +43,8 @@ step-requires c κs = tt
 
 add-i : tie.Need-add-i Inv-loop μ-loop
 add-i c =
-    omega (arith, c .before .before .before .before .before .before .before .before .before .before .before .before .before .before .good)
+    let start = c .before .before .before .before .before .before .before .before .before .before .before .before .before .before in
+    omega (arith, start .good)
 
 loop-less : tie.Need-loop-less Inv-loop μ-loop
 loop-less c =
@@ -51,7 +52,8 @@ loop-less c =
 
 loop-again : tie.Need-loop-again Inv-loop μ-loop
 loop-again c =
-    record { most = omega arith; size = c .before .before .before .step .kept .1 .0 ∙ c .before .before .before .before .before .before .before .loop .inv .size }
+    let at-loop = c .before .before .before .before .before .before .before in
+    record { most = omega arith; size = c .before .before .before .step .kept .1 .0 ∙ at-loop .loop .inv .size }
 
 same-length : tie.Need-same-length Inv-loop μ-loop
 same-length c =

@@ -14,7 +14,8 @@ same-length c = search needs
 returns : tie.Need-returns
 unfolding access-in
 returns c =
-    rw (eq-eqb _ _ (c .before .before .before .before .if1 .taken)) (c .before .before .read .ensures)
+    let at-if1 = c .before .before .before .before in
+    rw (eq-eqb _ _ (at-if1 .if1 .taken)) (c .before .before .read .ensures)
 
 cast-write : tie.Need-cast-write
 cast-write c = search needs
@@ -28,7 +29,8 @@ same-length-2 c = search needs
 returns-2 : tie.Need-returns-2
 unfolding access-in
 returns-2 c =
-    rw (ne-eqb _ _ (c .before .before .before .before .if1 .left)) (c .before .before .write .ensures)
+    let at-if1 = c .before .before .before .before in
+    rw (ne-eqb _ _ (at-if1 .if1 .left)) (c .before .before .write .ensures)
 
 pub step-spec : {M : Type 1} → statement M
 step-spec =

@@ -37,17 +37,20 @@ stir-requires c κs = tt
 add-i : tie.Need-add-i Inv-loop μ-loop
 add-i c =
     let at-loop = c .before .before .before .before .before .before .before .before .before .before in
-    omega (arith, at-loop .loop .inv .fits, at-loop .before .before .before .before .before .good)
+    let start = at-loop .before .before .before .before .before in
+    omega (arith, at-loop .loop .inv .fits, start .good)
 
 loop-less : tie.Need-loop-less Inv-loop μ-loop
 loop-less c = omega arith
 
 loop-again : tie.Need-loop-again Inv-loop μ-loop
 loop-again c =
+    let at-host-access = c .before .before .before .before .before in
+    let at-loop = at-host-access .before .before .before .before .before in
     record {
       most = omega arith;
-      fits = c .before .before .before .before .before .before .before .before .before .before .loop .inv .fits;
-      size = c .before .before .before .before .before .host-access .kept .1 .0 ∙ c .before .before .before .before .before .before .before .before .before .before .loop .inv .size;
+      fits = at-loop .loop .inv .fits;
+      size = at-host-access .host-access .kept .1 .0 ∙ at-loop .loop .inv .size;
     }
 
 slice-aggregate-print-sum : tie.Need-slice-aggregate-print-sum Inv-loop μ-loop
@@ -63,7 +66,9 @@ print-digest-requires : tie.Need-print-digest-requires Inv-loop μ-loop
 print-digest-requires c κs = tt
 
 same-length : tie.Need-same-length Inv-loop μ-loop
-same-length c = c .before .before .before .before .before .before .loop .inv .size
+same-length c =
+    let at-loop = c .before .before .before .before .before .before in
+    at-loop .loop .inv .size
 
 returns : tie.Need-returns Inv-loop μ-loop
 returns c = search needs

@@ -57,21 +57,23 @@ element-write-list c = search needs
 add-i : tie.Need-add-i Inv-loop μ-loop
 add-i c =
     let at-loop = c .before .before .before .before .before .before .before in
-    omega (arith, at-loop .loop .inv .fits, at-loop .before .before .before .before .before .good)
+    let start = at-loop .before .before .before .before .before in
+    omega (arith, at-loop .loop .inv .fits, start .good)
 
 loop-less : tie.Need-loop-less Inv-loop μ-loop
 loop-less c = omega arith
 
 loop-again : tie.Need-loop-again Inv-loop μ-loop
 loop-again c =
+    let at-loop = c .before .before .before .before .before .before .before in
     record {
       most = omega arith;
-      fits = c .before .before .before .before .before .before .before .loop .inv .fits;
+      fits = at-loop .loop .inv .fits;
       size =
           ⊎-elim (λ read. ap length (read .6))
           (⊎-elim (λ written. ap length (written .11) ∙ written .6 .kept .1 .0) (λ set. ap length (set .3)))
           (c .if1 .came)
-          ∙ c .before .before .before .before .before .before .before .loop .inv .size;
+          ∙ at-loop .loop .inv .size;
     }
 
 slice-aggregate-print-sum : tie.Need-slice-aggregate-print-sum Inv-loop μ-loop
@@ -93,7 +95,9 @@ print-digest-requires-2 : tie.Need-print-digest-requires-2 Inv-loop μ-loop
 print-digest-requires-2 c κs = tt
 
 same-length : tie.Need-same-length Inv-loop μ-loop
-same-length c = c .before .before .before .before .before .before .before .before .before .before .loop .inv .size
+same-length c =
+    let at-loop = c .before .before .before .before .before .before .before .before .before .before in
+    at-loop .loop .inv .size
 
 returns : tie.Need-returns Inv-loop μ-loop
 returns c = search needs

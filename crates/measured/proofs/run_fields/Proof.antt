@@ -43,21 +43,25 @@ stir-field-requires-3 : tie.Need-stir-field-requires-3 Inv-loop μ-loop
 stir-field-requires-3 c κs = tt
 
 add-i : tie.Need-add-i Inv-loop μ-loop
-add-i c = omega (arith, c .before .before .before .before .loop .inv .fits, c .before .before .before .before .before .before .before .good)
+add-i c =
+    let at-loop = c .before .before .before .before in
+    let start = at-loop .before .before .before in
+    omega (arith, at-loop .loop .inv .fits, start .good)
 
 loop-less : tie.Need-loop-less Inv-loop μ-loop
 loop-less c = omega arith
 
 loop-again : tie.Need-loop-again Inv-loop μ-loop
 loop-again c =
+    let at-loop = c .before .before .before .before in
     record {
       most = omega arith;
-      fits = c .before .before .before .before .loop .inv .fits;
+      fits = at-loop .loop .inv .fits;
       size =
           ⊎-elim (λ taken. ap length (taken .4))
           (⊎-elim (λ taken. ap length (taken .8)) (λ put. ap length (put .8) ∙ put .4 .kept .0))
           (c .if1 .came)
-          ∙ c .before .before .before .before .loop .inv .size;
+          ∙ at-loop .loop .inv .size;
     }
 
 slice-aggregate-print-sum : tie.Need-slice-aggregate-print-sum Inv-loop μ-loop
@@ -73,7 +77,9 @@ print-digest-requires : tie.Need-print-digest-requires Inv-loop μ-loop
 print-digest-requires c κs = tt
 
 same-length : tie.Need-same-length Inv-loop μ-loop
-same-length c = c .before .before .before .before .before .before .loop .inv .size
+same-length c =
+    let at-loop = c .before .before .before .before .before .before in
+    at-loop .loop .inv .size
 
 returns : tie.Need-returns Inv-loop μ-loop
 returns c = search needs

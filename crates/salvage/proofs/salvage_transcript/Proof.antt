@@ -18,7 +18,9 @@ copy-requires : tie.Need-copy-requires
 copy-requires c κs = omega (arith, as-long _ (c .before .before .before .scan .ensures), c .before .before .if1 .left)
 
 sub-left : tie.Need-sub-left
-sub-left c = within _ (c .before .before .before .before .before .before .scan .ensures)
+sub-left c =
+    let at-scan = c .before .before .before .before .before .before in
+    within _ (at-scan .scan .ensures)
 
 same-length : tie.Need-same-length
 same-length c = search needs

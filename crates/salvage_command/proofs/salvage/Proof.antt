@@ -31,10 +31,14 @@ take-turn-requires : tie.Need-take-turn-requires Inv-loop μ-loop
 take-turn-requires c κs = ready (c .before .before .before .loop .inv) (c .before .before .loop-test .taken)
 
 slice-reshare-prefix-write-all : tie.Need-slice-reshare-prefix-write-all Inv-loop μ-loop
-slice-reshare-prefix-write-all c = c .before .before .before .before .before .take-turn .ensures .fits
+slice-reshare-prefix-write-all c =
+    let at-take-turn = c .before .before .before .before .before in
+    at-take-turn .take-turn .ensures .fits
 
 slice-aggregate-write-all : tie.Need-slice-aggregate-write-all Inv-loop μ-loop
-slice-aggregate-write-all c = sym (length-take-le _ _ (c .before .before .before .before .before .before .take-turn .ensures .fits))
+slice-aggregate-write-all c =
+    let at-take-turn = c .before .before .before .before .before .before in
+    sym (length-take-le _ _ (at-take-turn .take-turn .ensures .fits))
 
 write-all-requires : tie.Need-write-all-requires Inv-loop μ-loop
 write-all-requires c κs = tt
@@ -114,10 +118,14 @@ loop-again c =
     goes-on (test .before .loop .inv) (test .loop-test .taken) (turn .ensures) (turn .kept .1 .0) (turn .kept .1 .1 .0)
 
 same-length-7 : tie.Need-same-length-7 Inv-loop μ-loop
-same-length-7 c = c .before .loop .inv .piece-long ∙ sym (c .before .before .before .before .pre .0)
+same-length-7 c =
+    let start = c .before .before .before .before in
+    c .before .loop .inv .piece-long ∙ sym (start .pre .0)
 
 same-length-8 : tie.Need-same-length-8 Inv-loop μ-loop
-same-length-8 c = c .before .loop .inv .sound-long ∙ sym (c .before .before .before .before .pre .1)
+same-length-8 c =
+    let start = c .before .before .before .before in
+    c .before .loop .inv .sound-long ∙ sym (start .pre .1)
 
 returns-4 : tie.Need-returns-4 Inv-loop μ-loop
 returns-4 c = tt

@@ -37,10 +37,12 @@ add-result c = search needs
 returns : tie.Need-returns
 unfolding lay
 returns c =
+    let at-low-byte = c .before .before .before .before in
+    let at-selects-low = at-low-byte .before in
     rw (
       c .before .before .before .choose-byte .ensures,
-      c .before .before .before .before .before .selects-low .ensures,
-      c .before .before .before .before .low-byte .ensures,
+      at-selects-low .selects-low .ensures,
+      at-low-byte .low-byte .ensures,
       c .choose-byte2 .ensures,
       c .before .before .selects-high .ensures,
       c .before .high-byte .ensures,

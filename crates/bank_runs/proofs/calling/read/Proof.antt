@@ -19,7 +19,9 @@ print-answer-requires : tie.Need-print-answer-requires
 print-answer-requires c κs = tt
 
 returns : tie.Need-returns
-returns c = rw (c .before .before .before .before .before .read-bank-port .ensures)
+returns c =
+    let at-read-bank-port = c .before .before .before .before .before in
+    rw (at-read-bank-port .read-bank-port .ensures)
 
 pub read-spec : {M : Type 1} → statement M
 read-spec =

@@ -19,7 +19,9 @@ print-answer-requires : tie.Need-print-answer-requires
 print-answer-requires c κs = tt
 
 returns : tie.Need-returns
-returns c = rw (c .before .before .before .before .before .write-bank-port .ensures)
+returns c =
+    let at-write-bank-port = c .before .before .before .before .before in
+    rw (at-write-bank-port .write-bank-port .ensures)
 
 pub write-spec : {M : Type 1} → statement M
 write-spec =

@@ -91,7 +91,8 @@ slice-write-part c =
 
 add-hollows : tie.Need-add-hollows Inv-loop μ-loop
 add-hollows c =
-    let few = countable (c .before .before .loop .inv) (c .before .before .before .before .before .pre .1) in
+    let start = c .before .before .before .before .before in
+    let few = countable (c .before .before .loop .inv) (start .pre .1) in
     omega (arith, few)
 
 steps-reading-requires : tie.Need-steps-reading-requires Inv-loop μ-loop

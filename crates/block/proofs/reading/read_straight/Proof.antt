@@ -17,13 +17,17 @@ word-of-requires : tie.Need-word-of-requires
 word-of-requires c κs = tt
 
 -- the word where the copy begins, and that the word after it is in memory
-here : (c : tie.After-word-of) → c .word-of .result .0 ≡ word-at (c .before .before .before .before .args .r .pointer) .0
+here : (c : tie.After-word-of) →
+    let start = c .before .before .before .before in
+    c .word-of .result .0 ≡ word-at (start .args .r .pointer) .0
 here c = ap (λ (n : WordNumber). n .0) (c .word-of .ensures)
 
 past : (c : tie.After-word-of) →
     let a = c .before .before .before .before .args in
     c .word-of .result .0 + length (a .part .now) < length (a .memory .now)
-past c = omega (arith, here c, c .before .before .before .before .pre .inside)
+past c =
+    let start = c .before .before .before .before in
+    omega (arith, here c, start .pre .inside)
 
 cast-here : tie.Need-cast-here
 cast-here c = search needs
@@ -63,7 +67,8 @@ mul-t10 c = search needs
 
 shared-slice-read-t20 : tie.Need-shared-slice-read-t20
 shared-slice-read-t20 c =
-    let h = past (c .before .before .before .before .before .before .before .before) in
+    let earlier = c .before .before .before .before .before .before .before .before in
+    let h = past earlier in
     omega (arith, h)
 
 one-if-requires : tie.Need-one-if-requires
@@ -74,13 +79,14 @@ same-length c = search needs
 
 returns : tie.Need-returns
 returns c =
+    let at-copy-words = c .before .before .before .before .before in
     let w = c .before .before .before .before .before .before .before .before .before in
     let start = w .before .before .before .before in
     let a = start .args in
     let known = c .before .shared-slice-known2 .given in
     let words : Memory (a .memory .now) = record { size = start .pre .memory; words = λ i. omega (arith, known i) } in
     let count = length (a .part .now) in
-    let copied = c .before .before .before .before .before .copy-words .ensures ∙ part-is (w .word-of .result .0) count (a .memory .now) in
+    let copied = at-copy-words .copy-words .ensures ∙ part-is (w .word-of .result .0) count (a .memory .now) in
     rw (c .before .before .step-by .ensures, c .one-if .ensures .0, copied, here w)
     (copied-read (a .r) (a .memory .now) words (start .pre .stepping) count (start .pre .some) (omega arith) (omega (arith, start .pre .inside)))
 

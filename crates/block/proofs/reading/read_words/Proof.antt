@@ -74,7 +74,8 @@ starts c =
 
 mul-read-singly : tie.Need-mul-read-singly
 mul-read-singly c =
-    omega (arith, straight (c .before .before .before .before .before) .most)
+    let earlier = c .before .before .before .before .before in
+    omega (arith, straight earlier .most)
 
 sub-read-singly : tie.Need-sub-read-singly
 sub-read-singly c =

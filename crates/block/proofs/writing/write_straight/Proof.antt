@@ -15,13 +15,17 @@ word-of-requires : tie.Need-word-of-requires
 word-of-requires c κs = tt
 
 -- the word where the copy begins, and that its last word is in memory
-here : (c : tie.After-word-of) → c .word-of .result .0 ≡ word-at (c .before .before .before .before .args .r .pointer) .0
+here : (c : tie.After-word-of) →
+    let start = c .before .before .before .before in
+    c .word-of .result .0 ≡ word-at (start .args .r .pointer) .0
 here c = ap (λ (n : WordNumber). n .0) (c .word-of .ensures)
 
 room : (c : tie.After-word-of) →
     let a = c .before .before .before .before .args in
     c .word-of .result .0 + length (a .part .now) ≤ length (a .memory .now)
-room c = rw (here c) (c .before .before .before .before .pre .inside)
+room c =
+    let start = c .before .before .before .before in
+    rw (here c) (start .pre .inside)
 
 cast-here : tie.Need-cast-here
 cast-here c = search needs

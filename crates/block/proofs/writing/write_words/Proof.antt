@@ -56,15 +56,18 @@ write-straight-requires c κs =
 
 mul-write-singly : tie.Need-mul-write-singly
 mul-write-singly c =
-    omega (arith, straight (c .before .before .before .before .before .before .before) .most)
+    let earlier = c .before .before .before .before .before .before .before in
+    omega (arith, straight earlier .most)
 
 sub-write-singly : tie.Need-sub-write-singly
 sub-write-singly c =
-    straight (c .before .before .before .before .before .before .before) .most
+    let earlier = c .before .before .before .before .before .before .before in
+    straight earlier .most
 
 part-write-singly-start : tie.Need-part-write-singly-start
 part-write-singly-start c =
-    straight (c .before .before .before .before .before .before .before) .most
+    let earlier = c .before .before .before .before .before .before .before in
+    straight earlier .most
 
 part-write-singly-end : tie.Need-part-write-singly-end
 part-write-singly-end c = search needs
@@ -74,17 +77,19 @@ write-singly-requires-2 c κs = search needs
 
 -- what they leave
 first : (c : tie.After-write-straight) →
-    let a = c .before .before .before .before .before .before .before .args in
-    WrittenFrom (machine (a .r) (a .memory .now)) (take (c .before .before .before .before .straight-writes .result) (a .part .now))
+    let counted = c .before .before .before .before in
+    let a = counted .before .before .before .args in
+    WrittenFrom (machine (a .r) (a .memory .now)) (take (counted .straight-writes .result) (a .part .now))
     (c .write-straight .result) (c .write-straight .last .1 .0)
 first c = rw (first-is _ _) at (c .write-straight .ensures)
 
 -- what the others leave
 rest : (c : tie.After-write-singly2) →
     let f = c .before .before .before .before .before .before in
-    let a = f .before .before .before .before .before .before .before .args in
+    let counted = f .before .before .before .before in
+    let a = counted .before .before .before .args in
     WrittenFrom (machine (f .write-straight .result .registers) (f .write-straight .last .1 .0))
-    (drop (f .before .before .before .before .straight-writes .result) (a .part .now)) (c .write-singly2 .result)
+    (drop (counted .straight-writes .result) (a .part .now)) (c .write-singly2 .result)
     (c .write-singly2 .last .1 .0)
 rest c = rw (rest-is _ _) at (c .write-singly2 .ensures)
 

@@ -28,10 +28,14 @@ returns-2 c =
     rw (sym (m .before .is-over-limit .ensures) ∙ m .if1 .left, sym (c .before .is-no-size .ensures) ∙ c .if2 .taken)
 
 -- Memory and size have passed.
-few : (c : tie.Else2) → over-limit (c .before .before .before .before .args .words) ≡ false
+few : (c : tie.Else2) →
+    let start = c .before .before .before .before in
+    over-limit (start .args .words) ≡ false
 few c = sym (c .before .before .before .is-over-limit .ensures) ∙ c .before .before .if1 .left
 
-size : (c : tie.Else2) → no-size (c .before .before .before .before .args .size) ≡ false
+size : (c : tie.Else2) →
+    let start = c .before .before .before .before in
+    no-size (start .args .size) ≡ false
 size c = sym (c .before .is-no-size .ensures) ∙ c .if2 .left
 
 touched-by-requires : tie.Need-touched-by-requires
@@ -61,25 +65,27 @@ cast-if4 c = search needs
 returns-4 : tie.Need-returns-4
 unfolding refusal
 returns-4 c =
+    let at-touched-by = c .before .before .before .before in
     let s = c .before .before .before .before .before in
     rw (
       few s,
       size s,
-      le-ltb _ _ (rw (c .before .before .before .before .touched-by .ensures) at (c .before .before .before .if3 .left)),
+      le-ltb _ _ (rw (at-touched-by .touched-by .ensures) at (c .before .before .before .if3 .left)),
       last-is _ _ (sized _ (size s) .0),
-      le-leb _ _ (rw (c .before .before .word-of .ensures, c .before .before .before .before .touched-by .ensures) at (c .if4 .taken)),
+      le-leb _ _ (rw (c .before .before .word-of .ensures, at-touched-by .touched-by .ensures) at (c .if4 .taken)),
     )
 
 returns-5 : tie.Need-returns-5
 unfolding refusal
 returns-5 c =
+    let at-touched-by = c .before .before .before .before in
     let s = c .before .before .before .before .before in
     rw (
       few s,
       size s,
-      le-ltb _ _ (rw (c .before .before .before .before .touched-by .ensures) at (c .before .before .before .if3 .left)),
+      le-ltb _ _ (rw (at-touched-by .touched-by .ensures) at (c .before .before .before .if3 .left)),
       last-is _ _ (sized _ (size s) .0),
-      lt-leb _ _ (rw (c .before .before .word-of .ensures, c .before .before .before .before .touched-by .ensures) at (c .if4 .left)),
+      lt-leb _ _ (rw (c .before .before .word-of .ensures, at-touched-by .touched-by .ensures) at (c .if4 .left)),
     )
 
 pub refusal-of-spec : {M : Type 1} → statement M

@@ -26,7 +26,9 @@ same-length c = search needs
 returns-2 : tie.Need-returns-2
 unfolding put-answer put-memory
 returns-2 c =
-    let e = sym (c .before .before .before .before .before .refusal-of .ensures) ∙ c .before .before .before .before .if1 .left in
+    let at-if1 = c .before .before .before .before in
+    let at-refusal-of = at-if1 .before in
+    let e = sym (at-refusal-of .refusal-of .ensures) ∙ at-if1 .if1 .left in
     record { answer = rw (e, c .before .before .scatter .ensures .count); memory = rw e (c .before .before .scatter .ensures .memory) }
 
 pub put-in-spec : {M : Type 1} → statement M

@@ -21,7 +21,9 @@ there : (c : tie.After-word-of) → c .word-of .result .0 < length (c .before .b
 there c = rw (c .word-of .ensures) (omega (arith, c .before .before .pre .there))
 
 put-part-requires : tie.Need-put-part-requires
-put-part-requires c κs = (there (c .before .before .before .before), c .before .if1 .taken, omega arith)
+put-part-requires c κs =
+    let earlier = c .before .before .before .before in
+    (there earlier, c .before .if1 .taken, omega arith)
 
 cost-of-requires : tie.Need-cost-of-requires
 cost-of-requires c κs = tt
@@ -40,11 +42,14 @@ sub-first : tie.Need-sub-first
 sub-first c = search needs
 
 put-part-requires-2 : tie.Need-put-part-requires-2
-put-part-requires-2 c κs = (there (c .before .before .before .before), omega arith, omega arith)
+put-part-requires-2 c κs =
+    let earlier = c .before .before .before .before in
+    (there earlier, omega arith, omega arith)
 
 -- So is the second, with the first part put in.
-second-there : (c : tie.After-put-part2)
-    → c .before .before .before .before .before .word-of .result .0 + 1 < length (c .put-part2 .last .0)
+second-there : (c : tie.After-put-part2) →
+    let w = c .before .before .before .before .before in
+    w .word-of .result .0 + 1 < length (c .put-part2 .last .0)
 second-there c =
     let i = c .before .before in
     let w = i .before .before .before in
@@ -58,7 +63,8 @@ add-put-part c = search needs
 
 put-part-requires-3 : tie.Need-put-part-requires-3
 put-part-requires-3 c κs =
-    (second-there (c .before .before .before .before), omega (arith, c .before .if2 .taken), omega arith)
+    let earlier = c .before .before .before .before in
+    (second-there earlier, omega (arith, c .before .if2 .taken), omega arith)
 
 cost-of-requires-2 : tie.Need-cost-of-requires-2
 cost-of-requires-2 c κs = tt
@@ -93,7 +99,8 @@ add-put-part-2 c = search needs
 
 put-part-requires-4 : tie.Need-put-part-requires-4
 put-part-requires-4 c κs =
-    (second-there (c .before .before .before .before), omega arith, omega arith)
+    let earlier = c .before .before .before .before in
+    (second-there earlier, omega arith, omega arith)
 
 add-put-part-3 : tie.Need-add-put-part-3
 add-put-part-3 c = search needs

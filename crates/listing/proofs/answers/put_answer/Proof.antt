@@ -27,12 +27,13 @@ put-mark-requires c κs =
 put-cycle-requires : tie.Need-put-cycle-requires
 put-cycle-requires c κs =
     let mid = c .before .before .before .before in
+    let at-shows-mark = mid .before .before .before .before .before in
     let start = mid .before .before .before .before .before .before .before in
     let a = start .args in
     let head = mid .before .before .before .put-head .ensures in
     let mark = c .before .before .before .put-mark .ensures in
     let six = head-length (a .answer .number) (a .answer .word) in
-    let eight = mark-length (mid .before .before .before .before .before .shows-mark .result) (a .answer .hollow) in
+    let eight = mark-length (at-shows-mark .shows-mark .result) (a .answer .hollow) in
     let room = put-length (omega (arith, start .pre .0, six)) head in
     let room2 = put-length (omega (arith, start .pre .0, head .end, six, eight, room)) mark in
     omega (arith, start .pre .0, head .end, mark .end, six, eight, room, room2)

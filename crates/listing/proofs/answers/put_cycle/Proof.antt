@@ -37,7 +37,8 @@ same-length c = search needs
 returns : tie.Need-returns
 unfolding cycle-text
 returns c =
-    rw (c .before .before .before .before .before .enum-told .given .1) (c .before .before .put .ensures)
+    let at-enum-told = c .before .before .before .before .before in
+    rw (at-enum-told .enum-told .given .1) (c .before .before .put .ensures)
 
 same-length-2 : tie.Need-same-length-2
 same-length-2 c = search needs
@@ -45,7 +46,8 @@ same-length-2 c = search needs
 returns-2 : tie.Need-returns-2
 unfolding cycle-text
 returns-2 c =
-    rw (c .before .before .before .before .before .enum-told2 .given .1) (c .before .before .put2 .ensures)
+    let at-enum-told2 = c .before .before .before .before .before in
+    rw (at-enum-told2 .enum-told2 .given .1) (c .before .before .put2 .ensures)
 
 same-length-3 : tie.Need-same-length-3
 same-length-3 c = search needs
@@ -53,7 +55,8 @@ same-length-3 c = search needs
 returns-3 : tie.Need-returns-3
 unfolding cycle-text
 returns-3 c =
-    rw (c .before .before .before .before .before .enum-told3 .given .1) (c .before .before .put3 .ensures)
+    let at-enum-told3 = c .before .before .before .before .before in
+    rw (at-enum-told3 .enum-told3 .given .1) (c .before .before .put3 .ensures)
 
 pub put-cycle-spec : {M : Type 1} → statement M
 put-cycle-spec =

@@ -49,7 +49,8 @@ add-output-5 c = search needs
 
 slice-write-output-5 : tie.Need-slice-write-output-5
 slice-write-output-5 c =
-    simp length-set (omega (arith, c .before .before .before .before .pre .0))
+    let start = c .before .before .before .before in
+    simp length-set (omega (arith, start .pre .0))
 
 digit-for-requires-4 : tie.Need-digit-for-requires-4
 digit-for-requires-4 c κs = tt
@@ -59,7 +60,8 @@ add-output-6 c = search needs
 
 slice-write-output-6 : tie.Need-slice-write-output-6
 slice-write-output-6 c =
-    simp length-set (omega (arith, c .before .before .before .before .before .pre .0))
+    let start = c .before .before .before .before .before in
+    simp length-set (omega (arith, start .pre .0))
 
 add-result : tie.Need-add-result
 add-result c = search needs

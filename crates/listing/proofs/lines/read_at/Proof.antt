@@ -16,12 +16,14 @@ decimal-of-requires c κs =
 
 shared-slice-read-decimal-of-2 : tie.Need-shared-slice-read-decimal-of-2
 shared-slice-read-decimal-of-2 c =
-    let line = read-line _ (c .before .before .before .before .pre) in
+    let start = c .before .before .before .before in
+    let line = read-line _ (start .pre) in
     omega (arith, line .long)
 
 decimal-of-requires-2 : tie.Need-decimal-of-requires-2
 decimal-of-requires-2 c κs =
-    read-line _ (c .before .before .before .before .pre) .head .lanes
+    let start = c .before .before .before .before in
+    read-line _ (start .pre) .head .lanes
 
 returns : tie.Need-returns
 returns c = search needs

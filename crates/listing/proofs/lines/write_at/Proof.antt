@@ -17,16 +17,19 @@ decimal-of-requires c κs =
 
 shared-slice-read-decimal-of-2 : tie.Need-shared-slice-read-decimal-of-2
 shared-slice-read-decimal-of-2 c =
-    let line = write-line _ (c .before .before .before .before .pre) in
+    let start = c .before .before .before .before in
+    let line = write-line _ (start .pre) in
     omega (arith, line .long)
 
 decimal-of-requires-2 : tie.Need-decimal-of-requires-2
 decimal-of-requires-2 c κs =
-    write-line _ (c .before .before .before .before .pre) .head .lanes
+    let start = c .before .before .before .before in
+    write-line _ (start .pre) .head .lanes
 
 shared-slice-read-hex-value : tie.Need-shared-slice-read-hex-value
 shared-slice-read-hex-value c =
-    let line = write-line _ (c .before .before .before .before .before .before .pre) in
+    let start = c .before .before .before .before .before .before in
+    let line = write-line _ (start .pre) in
     omega (arith, line .long)
 
 hex-value-requires : tie.Need-hex-value-requires
@@ -34,7 +37,8 @@ hex-value-requires c κs = tt
 
 shared-slice-read-hex-value-2 : tie.Need-shared-slice-read-hex-value-2
 shared-slice-read-hex-value-2 c =
-    let line = write-line _ (c .before .before .before .before .before .before .before .before .pre) in
+    let start = c .before .before .before .before .before .before .before .before in
+    let line = write-line _ (start .pre) in
     omega (arith, line .long)
 
 hex-value-requires-2 : tie.Need-hex-value-requires-2

@@ -90,7 +90,8 @@ put-requires c κs =
 
 same-length : tie.Need-same-length Inv-loop μ-loop
 same-length c =
-    c .before .before .before .before .before .before .before .before .before .before .loop .inv .size
+    let at-loop = c .before .before .before .before .before .before .before .before .before .before in
+    at-loop .loop .inv .size
 
 same-length-2 : tie.Need-same-length-2 Inv-loop μ-loop
 same-length-2 c =
@@ -114,11 +115,13 @@ enum-told-2 c = search needs
 
 same-length-3 : tie.Need-same-length-3 Inv-loop μ-loop
 same-length-3 c =
-    c .before .before .before .before .before .loop .inv .size
+    let at-loop = c .before .before .before .before .before in
+    at-loop .loop .inv .size
 
 same-length-4 : tie.Need-same-length-4 Inv-loop μ-loop
 same-length-4 c =
-    c .before .before .before .before .before .loop .inv .room
+    let at-loop = c .before .before .before .before .before in
+    at-loop .loop .inv .room
 
 returns-2 : tie.Need-returns-2 Inv-loop μ-loop
 returns-2 c =
@@ -137,7 +140,8 @@ same-length-6 c =
 
 returns-3 : tie.Need-returns-3 Inv-loop μ-loop
 returns-3 c =
-    ends-even (c .before .loop .inv) (c .before .before .before .before .before .pre) (c .loop-test .left)
+    let start = c .before .before .before .before .before in
+    ends-even (c .before .loop .inv) (start .pre) (c .loop-test .left)
 
 pub list-lines-spec : {M : Type 1} → statement M
 list-lines-spec =

@@ -20,19 +20,23 @@ fetches-by-requires c κs = tt
 
 returns-2 : tie.Need-returns-2
 unfolding write-due
-returns-2 c = rw (
-  sym (c .before .before .before .before .closes-word .ensures) ∙ c .before .before .before .if1 .taken,
-  ne-eqb _ _ (c .before .before .if2 .left),
-  sym (c .before .fetches-by .ensures) ∙ c .if3 .taken,
-)
+returns-2 c =
+    let at-closes-word = c .before .before .before .before in
+    rw (
+      sym (at-closes-word .closes-word .ensures) ∙ c .before .before .before .if1 .taken,
+      ne-eqb _ _ (c .before .before .if2 .left),
+      sym (c .before .fetches-by .ensures) ∙ c .if3 .taken,
+    )
 
 returns-3 : tie.Need-returns-3
 unfolding write-due
-returns-3 c = rw (
-  sym (c .before .before .before .before .closes-word .ensures) ∙ c .before .before .before .if1 .taken,
-  ne-eqb _ _ (c .before .before .if2 .left),
-  sym (c .before .fetches-by .ensures) ∙ c .if3 .left,
-)
+returns-3 c =
+    let at-closes-word = c .before .before .before .before in
+    rw (
+      sym (at-closes-word .closes-word .ensures) ∙ c .before .before .before .if1 .taken,
+      ne-eqb _ _ (c .before .before .if2 .left),
+      sym (c .before .fetches-by .ensures) ∙ c .if3 .left,
+    )
 
 returns-4 : tie.Need-returns-4
 unfolding write-due

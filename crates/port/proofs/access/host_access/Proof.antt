@@ -54,9 +54,10 @@ same-length c = search needs
 returns-2 : tie.Need-returns-2
 unfolding done access access-memory
 returns-2 c =
+    let at-begin-read = c .before .before .before .before .before .before in
     let kind = c .before .before .before .before .before .before .before .before in
     let judged = kind .before .before in
-    let b = rw (judged .before .set-latch .ensures) at (c .before .before .before .before .before .before .begin-read .ensures) in
+    let b = rw (judged .before .set-latch .ensures) at (at-begin-read .begin-read .ensures) in
     let e = rw b at (c .before .before .before .carry .ensures) in
     let t = eq-eqb _ _ (rw (judged .before .before .number-of .ensures) at (judged .if1 .left)) in
     record {
@@ -70,10 +71,12 @@ same-length-2 c = search needs
 returns-3 : tie.Need-returns-3
 unfolding begin-access done access access-memory
 returns-3 c =
+    let at-due-of-write = c .before .before .before .before .before in
+    let at-begin-write = at-due-of-write .before .before in
     let kind = c .before .before .before .before .before .before .before .before .before in
     let judged = kind .before .before in
-    let b = rw (judged .before .set-latch .ensures) at (c .before .before .before .before .before .before .before .begin-write .ensures) in
-    let d = rw (judged .before .set-latch .ensures) at (c .before .before .before .before .before .due-of-write .ensures) in
+    let b = rw (judged .before .set-latch .ensures) at (at-begin-write .begin-write .ensures) in
+    let d = rw (judged .before .set-latch .ensures) at (at-due-of-write .due-of-write .ensures) in
     let e = rw (b, d) at (c .before .before .before .carry2 .ensures) in
     let t = eq-eqb _ _ (rw (judged .before .before .number-of .ensures) at (judged .if1 .left)) in
     record {

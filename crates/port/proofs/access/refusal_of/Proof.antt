@@ -21,19 +21,23 @@ names-lanes-requires c κs = tt
 
 returns-3 : tie.Need-returns-3
 unfolding refusal
-returns-3 c = rw (
-  sym (c .before .before .before .before .is-over-limit .ensures) ∙ c .before .before .before .if1 .left,
-  le-ltb _ _ (c .before .before .if2 .left),
-  sym (c .before .names-lanes .ensures) ∙ c .if3 .taken,
-)
+returns-3 c =
+    let at-is-over-limit = c .before .before .before .before in
+    rw (
+      sym (at-is-over-limit .is-over-limit .ensures) ∙ c .before .before .before .if1 .left,
+      le-ltb _ _ (c .before .before .if2 .left),
+      sym (c .before .names-lanes .ensures) ∙ c .if3 .taken,
+    )
 
 returns-4 : tie.Need-returns-4
 unfolding refusal
-returns-4 c = rw (
-  sym (c .before .before .before .before .is-over-limit .ensures) ∙ c .before .before .before .if1 .left,
-  le-ltb _ _ (c .before .before .if2 .left),
-  sym (c .before .names-lanes .ensures) ∙ c .if3 .left,
-)
+returns-4 c =
+    let at-is-over-limit = c .before .before .before .before in
+    rw (
+      sym (at-is-over-limit .is-over-limit .ensures) ∙ c .before .before .before .if1 .left,
+      le-ltb _ _ (c .before .before .if2 .left),
+      sym (c .before .names-lanes .ensures) ∙ c .if3 .left,
+    )
 
 pub refusal-of-spec : {M : Type 1} → statement M
 refusal-of-spec =

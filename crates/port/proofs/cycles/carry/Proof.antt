@@ -44,15 +44,17 @@ same-length c = search needs
 returns-2 : tie.Need-returns-2
 unfolding carried memory-after
 returns-2 c =
+    let at-step-if = c .before .before .before .before .before in
+    let at-due = at-step-if .before .before in
     record {
       outcome = rw (
-        c .before .before .before .before .before .before .before .due .given .1,
+        at-due .due .given .1,
         c .settle-fetch .ensures,
         c .before .fetch-word .ensures,
         c .before .before .word-of .ensures,
-        c .before .before .before .before .before .step-if .ensures,
+        at-step-if .step-if .ensures,
       );
-      memory = rw (c .before .before .before .before .before .before .before .due .given .1);
+      memory = rw (at-due .due .given .1);
     }
 
 same-length-2 : tie.Need-same-length-2
@@ -61,17 +63,19 @@ same-length-2 c = search needs
 returns-3 : tie.Need-returns-3
 unfolding carried memory-after
 returns-3 c =
+    let at-word-of2 = c .before .before .before .before in
+    let at-due2 = at-word-of2 .before .before .before .before in
     record {
       outcome = rw (
-        c .before .before .before .before .before .before .before .before .due2 .given .1,
+        at-due2 .due2 .given .1,
         c .settle-store .ensures,
         c .before .before .before .store-word .ensures .fell,
-        c .before .before .before .before .word-of2 .ensures,
+        at-word-of2 .word-of2 .ensures,
       );
       memory = rw (
-        c .before .before .before .before .before .before .before .before .due2 .given .1,
+        at-due2 .due2 .given .1,
         c .before .before .before .store-word .ensures .memory,
-        c .before .before .before .before .word-of2 .ensures,
+        at-word-of2 .word-of2 .ensures,
       );
     }
 

@@ -18,13 +18,15 @@ join-halves-requires c κs = tt
 
 returns : tie.Need-returns
 unfolding half-written
-returns c = rw (
-  eq-eqb _ _ (c .before .before .if1 .taken),
-  c .join-halves .ensures,
-  c .before .replace-bytes .ensures,
-  c .before .before .before .high-half-of .ensures,
-  c .before .before .before .before .low-half-of .ensures,
-)
+returns c =
+    let at-low-half-of = c .before .before .before .before in
+    rw (
+      eq-eqb _ _ (c .before .before .if1 .taken),
+      c .join-halves .ensures,
+      c .before .replace-bytes .ensures,
+      c .before .before .before .high-half-of .ensures,
+      at-low-half-of .low-half-of .ensures,
+    )
 
 replace-bytes-requires-2 : tie.Need-replace-bytes-requires-2
 replace-bytes-requires-2 c κs = tt
@@ -34,13 +36,15 @@ join-halves-requires-2 c κs = tt
 
 returns-2 : tie.Need-returns-2
 unfolding half-written
-returns-2 c = rw (
-  ne-eqb _ _ (c .before .before .if1 .left),
-  c .join-halves2 .ensures,
-  c .before .replace-bytes2 .ensures,
-  c .before .before .before .high-half-of .ensures,
-  c .before .before .before .before .low-half-of .ensures,
-)
+returns-2 c =
+    let at-low-half-of = c .before .before .before .before in
+    rw (
+      ne-eqb _ _ (c .before .before .if1 .left),
+      c .join-halves2 .ensures,
+      c .before .replace-bytes2 .ensures,
+      c .before .before .before .high-half-of .ensures,
+      at-low-half-of .low-half-of .ensures,
+    )
 
 pub write-half-spec : {M : Type 1} → statement M
 write-half-spec =

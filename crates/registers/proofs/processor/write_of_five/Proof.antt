@@ -26,13 +26,15 @@ set-control-requires c κs = tt
 
 returns-3 : tie.Need-returns-3
 unfolding processor-written
-returns-3 c = rw (
-  le-ltb _ _ (c .before .before .before .before .if1 .left),
-  ne-eqb _ _ (c .before .before .before .if2 .left),
-  eq-eqb _ _ (c .before .before .if3 .taken),
-  c .set-control .ensures,
-  c .before .write-by-processor .ensures,
-)
+returns-3 c =
+    let at-if1 = c .before .before .before .before in
+    rw (
+      le-ltb _ _ (at-if1 .if1 .left),
+      ne-eqb _ _ (c .before .before .before .if2 .left),
+      eq-eqb _ _ (c .before .before .if3 .taken),
+      c .set-control .ensures,
+      c .before .write-by-processor .ensures,
+    )
 
 write-by-processor-requires-2 : tie.Need-write-by-processor-requires-2
 write-by-processor-requires-2 c κs = tt
@@ -42,13 +44,15 @@ set-control-requires-2 c κs = tt
 
 returns-4 : tie.Need-returns-4
 unfolding processor-written
-returns-4 c = rw (
-  le-ltb _ _ (c .before .before .before .before .if1 .left),
-  ne-eqb _ _ (c .before .before .before .if2 .left),
-  ne-eqb _ _ (c .before .before .if3 .left),
-  c .set-control2 .ensures,
-  c .before .write-by-processor2 .ensures,
-)
+returns-4 c =
+    let at-if1 = c .before .before .before .before in
+    rw (
+      le-ltb _ _ (at-if1 .if1 .left),
+      ne-eqb _ _ (c .before .before .before .if2 .left),
+      ne-eqb _ _ (c .before .before .if3 .left),
+      c .set-control2 .ensures,
+      c .before .write-by-processor2 .ensures,
+    )
 
 pub write-of-five-spec : {M : Type 1} → statement M
 write-of-five-spec =

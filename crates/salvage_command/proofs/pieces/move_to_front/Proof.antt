@@ -29,7 +29,8 @@ array-share-prefix-four c = search needs
 slice-aggregate-copy-2 : tie.Need-slice-aggregate-copy-2
 slice-aggregate-copy-2 c =
     let filled = c .before .before in
-    as-many _ _ _ _ (filled .before .before .before .before .before .pre .1) (filled .copy .ensures .1)
+    let start = filled .before .before .before .before .before in
+    as-many _ _ _ _ (start .pre .1) (filled .copy .ensures .1)
 
 copy-requires-2 : tie.Need-copy-requires-2
 copy-requires-2 c κs =
@@ -45,7 +46,8 @@ returns : tie.Need-returns
 returns c =
     let back = c .before .before in
     let filled = back .before .before .before .before in
-    moved _ _ _ _ (filled .before .before .before .before .before .pre .1) (filled .copy .ensures .1) (back .copy2 .ensures .1)
+    let start = filled .before .before .before .before .before in
+    moved _ _ _ _ (start .pre .1) (filled .copy .ensures .1) (back .copy2 .ensures .1)
 
 pub move-to-front-spec : {M : Type 1} → statement M
 move-to-front-spec =

@@ -22,13 +22,15 @@ count-held-requires c κs = tt
 sub-wrote : tie.Need-sub-wrote
 sub-wrote c =
     let done = c .before .before .before .before in
-    left-within _ _ _ _ (done .before .before .before .before .before .pre .0) (done .salvage-transcript .ensures)
+    let start = done .before .before .before .before .before in
+    left-within _ _ _ _ (start .pre .0) (done .salvage-transcript .ensures)
 
 sub-left : tie.Need-sub-left
 sub-left c =
     let counted = c .before .before in
     let done = counted .before .before .before in
-    held-within _ _ _ _ (done .before .before .before .before .before .pre .0) (done .salvage-transcript .ensures) (counted .count-held .ensures) .1
+    let start = done .before .before .before .before .before in
+    held-within _ _ _ _ (start .pre .0) (done .salvage-transcript .ensures) (counted .count-held .ensures) .1
 
 add-kept : tie.Need-add-kept
 add-kept c =
@@ -46,7 +48,8 @@ move-to-front-requires : tie.Need-move-to-front-requires
 move-to-front-requires c κs =
     let counted = c .before .before .before .before .before in
     let done = counted .before .before .before in
-    let ready = done .before .before .before .before .before .pre .0 in (
+    let start = done .before .before .before .before .before in
+    let ready = start .pre .0 in (
       held-within _ _ _ _ ready (done .salvage-transcript .ensures) (counted .count-held .ensures) .0,
       held-there _ _ _ _ ready (done .salvage-transcript .ensures) (counted .count-held .ensures),
     )

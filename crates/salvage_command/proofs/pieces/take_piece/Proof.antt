@@ -22,7 +22,9 @@ same-length-2 : tie.Need-same-length-2
 same-length-2 c = search needs
 
 returns : tie.Need-returns
-returns c = c .before .before .before .before .salvage-piece .ensures
+returns c =
+    let at-salvage-piece = c .before .before .before .before in
+    at-salvage-piece .salvage-piece .ensures
 
 leave-piece-requires : tie.Need-leave-piece-requires
 leave-piece-requires c κs =

@@ -13,7 +13,9 @@ same-length c = search needs
 
 returns : tie.Need-returns
 unfolding with-line
-returns c = rw (eq-eqb _ 47 (c .before .before .before .before .if1 .taken)) (c .before .before .lay-line .ensures)
+returns c =
+    let at-if1 = c .before .before .before .before in
+    rw (eq-eqb _ 47 (at-if1 .if1 .taken)) (c .before .before .lay-line .ensures)
 
 returns-2 : tie.Need-returns-2
 unfolding with-line

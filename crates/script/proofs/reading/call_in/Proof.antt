@@ -22,12 +22,14 @@ number-at-requires-2 c κs =
 
 number-at-requires-3 : tie.Need-number-at-requires-3
 number-at-requires-3 c κs =
-    let shape = shape-of _ (c .before .before .before .before .pre) in
+    let start = c .before .before .before .before in
+    let shape = shape-of _ (start .pre) in
     (omega (arith, shape .long), shape .c)
 
 number-at-requires-4 : tie.Need-number-at-requires-4
 number-at-requires-4 c κs =
-    let shape = shape-of _ (c .before .before .before .before .before .pre) in
+    let start = c .before .before .before .before .before in
+    let shape = shape-of _ (start .pre) in
     (omega (arith, shape .long), shape .d)
 
 returns : tie.Need-returns

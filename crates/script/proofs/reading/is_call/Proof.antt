@@ -20,7 +20,8 @@ both-requires c κs = tt
 returns : tie.Need-returns
 unfolding is-call
 returns c =
-    rw (eq-eqb _ 38 (c .before .before .before .before .if1 .taken), c .both .ensures, c .before .before .is-letter .ensures, c .before .is-shaped .ensures)
+    let at-if1 = c .before .before .before .before in
+    rw (eq-eqb _ 38 (at-if1 .if1 .taken), c .both .ensures, c .before .before .is-letter .ensures, c .before .is-shaped .ensures)
 
 returns-2 : tie.Need-returns-2
 unfolding is-call

@@ -34,15 +34,20 @@ both-requires-4 c κs = tt
 returns : tie.Need-returns
 unfolding shaped
 returns c =
+    let at-is-number4 = c .before .before .before .before in
+    let at-is-number3 = at-is-number4 .before in
+    let at-both = at-is-number3 .before in
+    let at-is-number2 = at-both .before in
+    let at-is-number = at-is-number2 .before in
     rw (
       c .both4 .ensures,
-      c .before .before .before .before .before .before .both .ensures,
+      at-both .both .ensures,
       c .before .both3 .ensures,
       c .before .before .before .both2 .ensures,
-      c .before .before .before .before .before .before .before .before .is-number .ensures,
-      c .before .before .before .before .before .before .before .is-number2 .ensures,
-      c .before .before .before .before .before .is-number3 .ensures,
-      c .before .before .before .before .is-number4 .ensures,
+      at-is-number .is-number .ensures,
+      at-is-number2 .is-number2 .ensures,
+      at-is-number3 .is-number3 .ensures,
+      at-is-number4 .is-number4 .ensures,
     )
 
 pub is-shaped-spec : {M : Type 1} → statement M

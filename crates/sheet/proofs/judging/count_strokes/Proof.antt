@@ -39,13 +39,19 @@ add-result : tie.Need-add-result
 add-result c = omega (arith, small _ (c .before .before .before .pre))
 
 add-result-2 : tie.Need-add-result-2
-add-result-2 c = omega (arith, small _ (c .before .before .before .before .pre))
+add-result-2 c =
+    let start = c .before .before .before .before in
+    omega (arith, small _ (start .pre))
 
 cast-result : tie.Need-cast-result
-cast-result c = omega (arith, small _ (c .before .before .before .before .pre))
+cast-result c =
+    let start = c .before .before .before .before in
+    omega (arith, small _ (start .pre))
 
 returns : tie.Need-returns
-returns c = by-two _ _ (c .before .before .before .before .pre) (c .before .before .before .if1 .taken)
+returns c =
+    let start = c .before .before .before .before in
+    by-two _ _ (start .pre) (c .before .before .before .if1 .taken)
 
 add-result-3 : tie.Need-add-result-3
 add-result-3 c = omega (arith, small _ (c .before .before .pre))

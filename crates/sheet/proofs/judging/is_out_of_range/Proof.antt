@@ -14,7 +14,9 @@ either-requires-3 c κs = tt
 
 returns : tie.Need-returns
 unfolding out-of-range
-returns c = rw (c .either3 .ensures, c .before .either2 .ensures, c .before .before .before .before .either .ensures)
+returns c =
+    let at-either = c .before .before .before .before in
+    rw (c .either3 .ensures, c .before .either2 .ensures, at-either .either .ensures)
 
 pub is-out-of-range-spec : {M : Type 1} → statement M
 is-out-of-range-spec =

@@ -33,7 +33,8 @@ returns c =
 take-ticks-requires : tie.Need-take-ticks-requires
 take-ticks-requires c κs =
     let counted = c .before .before .before in
-    counted .before .before .before .before .before .before .before .before .before .before .before .before .before .pre
+    let start = counted .before .before .before .before .before .before .before .before .before .before .before .before .before in
+    start .pre
 
 same-length-2 : tie.Need-same-length-2
 same-length-2 c = omega arith

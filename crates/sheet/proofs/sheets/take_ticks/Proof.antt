@@ -112,12 +112,13 @@ same-length-3 c = omega arith
 
 returns-2 : tie.Need-returns-2
 returns-2 c =
+    let at-if1 = c .before .before .before .before in
     let j = c .before .before .before .before .before in
     let t = j .before .before .before .before .before .before .before in
     let n = t .before .before .before .before .before .args .strokes in
     let at = front-at n (t .read-ticks .last .1 .1 .0) (behind n) (read-length (read t)) in
     let filled = rw (at 0 (omega arith), at (n - 1) (omega arith)) at (c .before .before .fill-times .ensures) in
-    ticks-taken (read t) _ (judged j) (c .before .before .before .before .if1 .left) _ _ _ filled
+    ticks-taken (read t) _ (judged j) (at-if1 .if1 .left) _ _ _ filled
 
 pub take-ticks-spec : {M : Type 1} → statement M
 take-ticks-spec =

@@ -64,7 +64,9 @@ loop-less : tie.Need-loop-less Inv-loop μ-loop
 loop-less c = omega arith
 
 loop-again : tie.Need-loop-again Inv-loop μ-loop
-loop-again c = turned (c .before .before .loop .inv) (omega arith) (c .before .before .before .before .pre .1) (c .time-of .ensures)
+loop-again c =
+    let start = c .before .before .before .before in
+    turned (c .before .before .loop .inv) (omega arith) (start .pre .1) (c .time-of .ensures)
 
 same-length : tie.Need-same-length Inv-loop μ-loop
 same-length c = c .before .loop .inv .room

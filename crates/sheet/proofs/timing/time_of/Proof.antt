@@ -25,7 +25,9 @@ int-to-float-result-4 c = omega arith
 
 returns : tie.Need-returns
 unfolding even-time
-returns c = simp (lt-ltb _ _ (c .before .before .before .before .if1 .taken))
+returns c =
+    let at-if1 = c .before .before .before .before in
+    simp (lt-ltb _ _ (at-if1 .if1 .taken))
 
 int-to-float-result-5 : tie.Need-int-to-float-result-5
 int-to-float-result-5 c = omega arith

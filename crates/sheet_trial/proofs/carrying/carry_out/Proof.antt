@@ -83,6 +83,7 @@ same-length-2 c = search needs
 returns : tie.Need-returns
 returns c =
     let struck = c .before .before .before .before in
+    let at-table-of = struck .before .before .before .before in
     let named = struck .before .before .before .before .before .before in
     let lent = named .before .before .before in
     let laid = lent .before .before .before .before in
@@ -95,7 +96,7 @@ returns c =
       words-lent = words ∙ ap (λ (n : ℕ). min n (length (laid .lay-words .last .0))) (lent .before .number-at .ensures);
       places-lent = places ∙ ap (λ (n : ℕ). min n (length (args .list .now))) (named .before .before .number-at2 .ensures);
       registers = named .registers-of .ensures;
-      table = struck .before .before .before .before .table-of .ensures;
+      table = at-table-of .table-of .ensures;
       counting = struck .before .before .before .rule-of .ensures;
       time = struck .before .before .time-of .ensures;
     })

@@ -44,28 +44,34 @@ take-turn-requires : tie.Need-take-turn-requires Inv-loop μ-loop
 take-turn-requires c κs = tt
 
 loop-less : tie.Need-loop-less Inv-loop μ-loop
-loop-less c = omega (arith, c .before .before .before .before .before .before .before .before .loop-test .taken)
+loop-less c =
+    let at-loop-test = c .before .before .before .before .before .before .before .before in
+    omega (arith, at-loop-test .loop-test .taken)
 
 loop-again : tie.Need-loop-again Inv-loop μ-loop
 loop-again c =
     let turn = c .before .before .before .before .before in
+    let at-loop = turn .before .before .before .before in
     let t = turn .take-turn in
-    turned (turn .before .before .before .before .loop .inv) (t .ensures) (t .kept .0) (t .kept .1 .0)
+    turned (at-loop .loop .inv) (t .ensures) (t .kept .0) (t .kept .1 .0)
 
 same-length : tie.Need-same-length Inv-loop μ-loop
 same-length c =
     let turn = c .before .before .before .before .before in
-    turn .take-turn .kept .0 ∙ turn .before .before .before .before .loop .inv .rooms
+    let at-loop = turn .before .before .before .before in
+    turn .take-turn .kept .0 ∙ at-loop .loop .inv .rooms
 
 same-length-2 : tie.Need-same-length-2 Inv-loop μ-loop
 same-length-2 c =
     let turn = c .before .before .before .before .before in
-    turn .take-turn .kept .1 .0 ∙ turn .before .before .before .before .loop .inv .lists
+    let at-loop = turn .before .before .before .before in
+    turn .take-turn .kept .1 .0 ∙ at-loop .loop .inv .lists
 
 returns : tie.Need-returns Inv-loop μ-loop
 returns c =
     let turn = c .before .before .before .before .before in
-    on (turn .before .before .before .before .loop .inv .ran) (turn .take-turn .ensures)
+    let at-loop = turn .before .before .before .before in
+    on (at-loop .loop .inv .ran) (turn .take-turn .ensures)
 
 same-length-3 : tie.Need-same-length-3 Inv-loop μ-loop
 same-length-3 c = c .before .loop .inv .rooms

@@ -17,7 +17,8 @@ add-t7 c = search needs
 
 returns : tie.Need-returns
 returns c =
-    rw (c .before .before .before .place-of .ensures, c .before .before .before .before .from-after .ensures)
+    let at-from-after = c .before .before .before .before in
+    rw (c .before .before .before .place-of .ensures, at-from-after .from-after .ensures)
 
 pub tell-spec : {M : Type 1} → statement M
 tell-spec = tie.close (tie.spec from-after-requires place-of-requires cast-t6 add-t7 returns)

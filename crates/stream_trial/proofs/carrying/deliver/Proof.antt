@@ -56,28 +56,32 @@ array-borrow-prefix-kinds c = search needs
 
 slice-aggregate-take-delivery : tie.Need-slice-aggregate-take-delivery
 slice-aggregate-take-delivery c =
-    places-counted _ blank-list (c .before .before .before .before .before .before .before .before .places-lent .ensures)
+    let at-places-lent = c .before .before .before .before .before .before .before .before in
+    places-counted _ blank-list (at-places-lent .places-lent .ensures)
 
 array-borrow-prefix-registers : tie.Need-array-borrow-prefix-registers
 array-borrow-prefix-registers c = search needs
 
 slice-aggregate-take-delivery-2 : tie.Need-slice-aggregate-take-delivery-2
 slice-aggregate-take-delivery-2 c =
-    places-counted _ blank-list (c .before .before .before .before .before .before .before .places-lent2 .ensures)
+    let at-places-lent2 = c .before .before .before .before .before .before .before in
+    places-counted _ blank-list (at-places-lent2 .places-lent2 .ensures)
 
 array-borrow-prefix-lanes : tie.Need-array-borrow-prefix-lanes
 array-borrow-prefix-lanes c = search needs
 
 slice-aggregate-take-delivery-3 : tie.Need-slice-aggregate-take-delivery-3
 slice-aggregate-take-delivery-3 c =
-    places-counted _ blank-list (c .before .before .before .before .before .before .places-lent3 .ensures)
+    let at-places-lent3 = c .before .before .before .before .before .before in
+    places-counted _ blank-list (at-places-lent3 .places-lent3 .ensures)
 
 array-borrow-prefix-words : tie.Need-array-borrow-prefix-words
 array-borrow-prefix-words c = search needs
 
 slice-aggregate-take-delivery-4 : tie.Need-slice-aggregate-take-delivery-4
 slice-aggregate-take-delivery-4 c =
-    places-counted _ blank-list (c .before .before .before .before .before .places-lent4 .ensures)
+    let at-places-lent4 = c .before .before .before .before .before in
+    places-counted _ blank-list (at-places-lent4 .places-lent4 .ensures)
 
 take-delivery-requires : tie.Need-take-delivery-requires
 take-delivery-requires c κs = tt

@@ -77,7 +77,9 @@ abbrev μ-loop : tie.MeasureT-loop
 μ-loop kinds registers lanes words n bytes₀ at₀ i₀ bytes at i = n - i
 
 loop-holds : tie.Need-loop-holds Inv-loop μ-loop
-loop-holds c = begun (c .before .before .before .before .before .pre)
+loop-holds c =
+    let start = c .before .before .before .before .before in
+    begun (start .pre)
 
 entry-at-requires : tie.Need-entry-at-requires Inv-loop μ-loop
 entry-at-requires c κs = tt

@@ -14,7 +14,9 @@ either-requires-2 c κs = tt
 
 returns : tie.Need-returns
 unfolding unsayable
-returns c = rw (c .either2 .ensures, c .before .either .ensures, c .before .before .before .before .has-no-record .ensures)
+returns c =
+    let at-has-no-record = c .before .before .before .before in
+    rw (c .either2 .ensures, c .before .either .ensures, at-has-no-record .has-no-record .ensures)
 
 pub is-unsayable-spec : {M : Type 1} → statement M
 is-unsayable-spec = tie.close (tie.spec has-no-record-requires either-requires either-requires-2 returns)

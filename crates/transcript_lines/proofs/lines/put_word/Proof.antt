@@ -29,7 +29,9 @@ add-text-2 : tie.Need-add-text-2
 add-text-2 c = search needs
 
 slice-write-text-3 : tie.Need-slice-write-text-3
-slice-write-text-3 c = simp length-set (omega (arith, c .before .before .before .before .pre))
+slice-write-text-3 c =
+    let start = c .before .before .before .before in
+    simp length-set (omega (arith, start .pre))
 
 digit-for-requires-4 : tie.Need-digit-for-requires-4
 digit-for-requires-4 c κs = tt
@@ -38,13 +40,17 @@ add-text-3 : tie.Need-add-text-3
 add-text-3 c = search needs
 
 slice-write-text-4 : tie.Need-slice-write-text-4
-slice-write-text-4 c = simp length-set (omega (arith, c .before .before .before .before .before .pre))
+slice-write-text-4 c =
+    let start = c .before .before .before .before .before in
+    simp length-set (omega (arith, start .pre))
 
 add-text-4 : tie.Need-add-text-4
 add-text-4 c = search needs
 
 slice-write-text-5 : tie.Need-slice-write-text-5
-slice-write-text-5 c = simp length-set (omega (arith, c .before .before .before .before .before .pre))
+slice-write-text-5 c =
+    let start = c .before .before .before .before .before in
+    simp length-set (omega (arith, start .pre))
 
 add-result : tie.Need-add-result
 add-result c = search needs

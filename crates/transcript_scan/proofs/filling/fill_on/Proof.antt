@@ -118,16 +118,24 @@ enum-told : tie.Need-enum-told Inv-loop μ-loop
 enum-told c = search needs
 
 same-length : tie.Need-same-length Inv-loop μ-loop
-same-length c = lengths (c .before .before .before .before .before .loop .inv) .kinds
+same-length c =
+    let at-loop = c .before .before .before .before .before in
+    lengths (at-loop .loop .inv) .kinds
 
 same-length-2 : tie.Need-same-length-2 Inv-loop μ-loop
-same-length-2 c = lengths (c .before .before .before .before .before .loop .inv) .registers
+same-length-2 c =
+    let at-loop = c .before .before .before .before .before in
+    lengths (at-loop .loop .inv) .registers
 
 same-length-3 : tie.Need-same-length-3 Inv-loop μ-loop
-same-length-3 c = lengths (c .before .before .before .before .before .loop .inv) .lanes
+same-length-3 c =
+    let at-loop = c .before .before .before .before .before in
+    lengths (at-loop .loop .inv) .lanes
 
 same-length-4 : tie.Need-same-length-4 Inv-loop μ-loop
-same-length-4 c = lengths (c .before .before .before .before .before .loop .inv) .words
+same-length-4 c =
+    let at-loop = c .before .before .before .before .before in
+    lengths (at-loop .loop .inv) .words
 
 returns : tie.Need-returns Inv-loop μ-loop
 returns c =

@@ -130,7 +130,9 @@ fresh-part-requires : tie.Need-fresh-part-requires Inv-groups μ-groups Inv-reco
 fresh-part-requires c κs = tt
 
 records-less-2 : tie.Need-records-less-2 Inv-groups μ-groups Inv-records μ-records
-records-less-2 c = omega (arith, c .before .before .before .before .before .before .groups .inv .behind)
+records-less-2 c =
+    let at-groups = c .before .before .before .before .before .before in
+    omega (arith, at-groups .groups .inv .behind)
 
 records-again-2 : tie.Need-records-again-2 Inv-groups μ-groups Inv-records μ-records
 records-again-2 c =
@@ -150,8 +152,9 @@ returns c = all-found (c .before .records .inv) (c .records-test .left)
 
 returns-2 : tie.Need-returns-2 Inv-groups μ-groups Inv-records μ-records
 returns-2 c =
+    let at-take-byte = c .before .before .before .before in
     let test = c .before .before .before .before .before .before in
-    let says = sym (c .before .before .before .before .take-byte .ensures) ∙ c .before .before .step2 .given .1 in
+    let says = sym (at-take-byte .take-byte .ensures) ∙ c .before .before .step2 .given .1 in
     rw (c .fresh-part2 .ensures)
     (bad-found (test .before .groups .inv .on _ (test .before .before .before .records .inv)) (test .groups-test .taken) says)
 

@@ -23,8 +23,9 @@ entry-from-requires c κs = search needs
 returns-4 : tie.Need-returns-4
 unfolding head-read
 returns-4 c =
+    let at-if1 = c .before .before .before .before in
     rw (
-      c .before .before .before .before .if1 .left,
+      at-if1 .if1 .left,
       le-ltb _ _ (c .before .before .before .if2 .left),
       le-ltb _ _ (c .before .before .if3 .left),
       eq-eqb _ _ (c .before .if4 .taken),
@@ -37,8 +38,9 @@ no-number-requires c κs = search needs
 returns-5 : tie.Need-returns-5
 unfolding head-read
 returns-5 c =
+    let at-if1 = c .before .before .before .before in
     rw (
-      c .before .before .before .before .if1 .left,
+      at-if1 .if1 .left,
       le-ltb _ _ (c .before .before .before .if2 .left),
       le-ltb _ _ (c .before .before .if3 .left),
       ne-eqb _ _ (c .before .if4 .left),

@@ -17,8 +17,9 @@ judge-head-requires c κs = search needs
 returns : tie.Need-returns
 unfolding byte-taken
 returns c =
+    let at-p = c .before .before .before .before in
     rw (
-      c .before .before .before .before .p .given .1,
+      at-p .p .given .1,
       lt-ltb _ _ (c .before .if1 .taken),
       c .judge-head .ensures,
       c .before .before .grow .ensures,
@@ -36,8 +37,9 @@ judge-word-requires c κs = search needs
 returns-2 : tie.Need-returns-2
 unfolding byte-taken
 returns-2 c =
+    let at-p2 = c .before .before .before .before in
     rw (
-      c .before .before .before .before .p2 .given .1,
+      at-p2 .p2 .given .1,
       lt-ltb _ _ (c .before .if2 .taken),
       c .judge-word .ensures,
       c .before .before .grow2 .ensures,

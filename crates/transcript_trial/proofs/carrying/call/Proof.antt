@@ -30,7 +30,9 @@ same-length-5 : tie.Need-same-length-5
 same-length-5 c = search needs
 
 returns : tie.Need-returns
-returns c = by-reader (read c .before .before .before .before .before .before .if1 .taken) (read c .read-transcript .ensures)
+returns c =
+    let at-if1 = read c .before .before .before .before .before .before in
+    by-reader (at-if1 .if1 .taken) (read c .read-transcript .ensures)
 
 write-transcript-requires : tie.Need-write-transcript-requires
 write-transcript-requires c κs = tt
@@ -51,7 +53,9 @@ same-length-10 : tie.Need-same-length-10
 same-length-10 c = search needs
 
 returns-2 : tie.Need-returns-2
-returns-2 c = by-writer (wrote c .before .before .before .before .before .before .if1 .left) (wrote c .write-transcript .ensures)
+returns-2 c =
+    let at-if1 = wrote c .before .before .before .before .before .before in
+    by-writer (at-if1 .if1 .left) (wrote c .write-transcript .ensures)
 
 pub call-spec : {M : Type 1} → statement M
 call-spec =

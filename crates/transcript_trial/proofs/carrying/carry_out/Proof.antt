@@ -68,7 +68,9 @@ part-call-start : tie.Need-part-call-start
 part-call-start c = search needs
 
 part-call-end : tie.Need-part-call-end
-part-call-end c = smaller-of _ _ (c .before .before .before .before .before .before .before .before .before .places-lent .ensures)
+part-call-end c =
+    let at-places-lent = c .before .before .before .before .before .before .before .before .before in
+    smaller-of _ _ (at-places-lent .places-lent .ensures)
 
 mul-call : tie.Need-mul-call
 mul-call c = search needs
@@ -80,7 +82,9 @@ part-call-start-2 : tie.Need-part-call-start-2
 part-call-start-2 c = search needs
 
 part-call-end-2 : tie.Need-part-call-end-2
-part-call-end-2 c = smaller-of _ _ (c .before .before .before .before .before .before .before .before .places-lent2 .ensures)
+part-call-end-2 c =
+    let at-places-lent2 = c .before .before .before .before .before .before .before .before in
+    smaller-of _ _ (at-places-lent2 .places-lent2 .ensures)
 
 mul-call-2 : tie.Need-mul-call-2
 mul-call-2 c = search needs
@@ -92,7 +96,9 @@ part-call-start-3 : tie.Need-part-call-start-3
 part-call-start-3 c = search needs
 
 part-call-end-3 : tie.Need-part-call-end-3
-part-call-end-3 c = smaller-of _ _ (c .before .before .before .before .before .before .before .places-lent3 .ensures)
+part-call-end-3 c =
+    let at-places-lent3 = c .before .before .before .before .before .before .before in
+    smaller-of _ _ (at-places-lent3 .places-lent3 .ensures)
 
 mul-call-3 : tie.Need-mul-call-3
 mul-call-3 c = search needs
@@ -104,7 +110,9 @@ part-call-start-4 : tie.Need-part-call-start-4
 part-call-start-4 c = search needs
 
 part-call-end-4 : tie.Need-part-call-end-4
-part-call-end-4 c = smaller-of _ _ (c .before .before .before .before .before .before .places-lent4 .ensures)
+part-call-end-4 c =
+    let at-places-lent4 = c .before .before .before .before .before .before in
+    smaller-of _ _ (at-places-lent4 .places-lent4 .ensures)
 
 mul-call-4 : tie.Need-mul-call-4
 mul-call-4 c = search needs
@@ -116,7 +124,9 @@ part-call-start-5 : tie.Need-part-call-start-5
 part-call-start-5 c = search needs
 
 part-call-end-5 : tie.Need-part-call-end-5
-part-call-end-5 c = smaller-of _ _ (c .before .before .before .before .before .places-lent5 .ensures)
+part-call-end-5 c =
+    let at-places-lent5 = c .before .before .before .before .before in
+    smaller-of _ _ (at-places-lent5 .places-lent5 .ensures)
 
 call-requires : tie.Need-call-requires
 call-requires c κs = tt

@@ -17,7 +17,9 @@ same-length c = search needs
 returns : tie.Need-returns
 unfolding lent-answer lent-memory lent-list
 returns c =
-    let e1 = sym (c .before .before .before .before .before .is-host-letter .ensures) ∙ c .before .before .before .before .if1 .taken in
+    let at-if1 = c .before .before .before .before in
+    let at-is-host-letter = at-if1 .before in
+    let e1 = sym (at-is-host-letter .is-host-letter .ensures) ∙ at-if1 .if1 .taken in
     let d = c .before .before .call-host .ensures in
     record { answer = rw e1 (d .answer); memory = rw e1 (d .memory); list = rw e1 }
 

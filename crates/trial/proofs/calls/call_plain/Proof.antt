@@ -23,7 +23,8 @@ call-bus-requires c κs = tt
 returns-2 : tie.Need-returns-2
 unfolding plain-answer
 returns-2 c =
-    let e1 = sym (c .before .before .before .before .is-processor-letter .ensures) ∙ c .before .before .before .if1 .left in
+    let at-is-processor-letter = c .before .before .before .before in
+    let e1 = sym (at-is-processor-letter .is-processor-letter .ensures) ∙ c .before .before .before .if1 .left in
     let e2 = sym (c .before .before .is-bus-letter .ensures) ∙ c .before .if2 .taken in
     rw (e1, e2) (c .call-bus .ensures)
 

@@ -165,13 +165,19 @@ enum-told : tie.Need-enum-told Inv-loop μ-loop
 enum-told c = search needs
 
 same-length : tie.Need-same-length Inv-loop μ-loop
-same-length c = c .before .before .before .before .before .loop .inv .rooms
+same-length c =
+    let at-loop = c .before .before .before .before .before in
+    at-loop .loop .inv .rooms
 
 same-length-2 : tie.Need-same-length-2 Inv-loop μ-loop
-same-length-2 c = c .before .before .before .before .before .loop .inv .lists
+same-length-2 c =
+    let at-loop = c .before .before .before .before .before in
+    at-loop .loop .inv .lists
 
 same-length-3 : tie.Need-same-length-3 Inv-loop μ-loop
-same-length-3 c = c .before .before .before .before .before .loop .inv .size
+same-length-3 c =
+    let at-loop = c .before .before .before .before .before in
+    at-loop .loop .inv .size
 
 returns : tie.Need-returns Inv-loop μ-loop
 returns c =

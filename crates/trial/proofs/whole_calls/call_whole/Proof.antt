@@ -40,8 +40,10 @@ same-length-3 c = search needs
 returns-2 : tie.Need-returns-2
 unfolding whole-answer whole-room whole-list
 returns-2 c =
-    let e = ne-eqb _ _ (c .before .before .before .before .before .before .before .if1 .left) in
-    let f = eq-eqb _ _ (c .before .before .before .before .before .if2 .taken) in
+    let at-if2 = c .before .before .before .before .before in
+    let at-if1 = at-if2 .before .before in
+    let e = ne-eqb _ _ (at-if1 .if1 .left) in
+    let f = eq-eqb _ _ (at-if2 .if2 .taken) in
     record { answer = rw e (c .answer2 .ensures); left = rw (e, f) (c .before .before .before .fill .ensures); list-left = rw (e, f) }
 
 fill-requires-2 : tie.Need-fill-requires-2
@@ -56,8 +58,10 @@ same-length-4 c = search needs
 returns-3 : tie.Need-returns-3
 unfolding whole-answer whole-room whole-list
 returns-3 c =
-    let e = ne-eqb _ _ (c .before .before .before .before .before .before .before .if1 .left) in
-    let f = ne-eqb _ _ (c .before .before .before .before .before .if2 .left) in
+    let at-if2 = c .before .before .before .before .before in
+    let at-if1 = at-if2 .before .before in
+    let e = ne-eqb _ _ (at-if1 .if1 .left) in
+    let f = ne-eqb _ _ (at-if2 .if2 .left) in
     record { answer = rw e (c .answer3 .ensures); left = rw (e, f); list-left = rw (e, f) (c .before .before .before .fill2 .ensures) }
 
 pub call-whole-spec : {M : Type 1} → statement M
