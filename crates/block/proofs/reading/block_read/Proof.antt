@@ -1,7 +1,7 @@
 -- `block::reading::block_read` meets its contract: a refused block by its number, an accepted one by its reads, whose words lie
 -- where the lent part of the list came back.
 use borrow.Author.Needs.{needs}
-use Prim.Native.Nat.{ℕ, _+_, _-_, _≤_}
+use Prim.Native.Nat.{ℕ, _+_, _≤_}
 use native.Mathlib.Omega.{arith}
 use mathlib.Core.Path.{_≡_, sym, ap, _∙_}
 use mathlib.Core.Logic.{_≢_}

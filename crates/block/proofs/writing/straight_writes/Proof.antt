@@ -1,5 +1,4 @@
 -- `block::writing::straight_writes` meets its contract, with the step that the control word says and without.
-use borrow.Author.Needs.{needs}
 use mathlib.Core.Path.{sym, _∙_}
 use Rattle.block_spec.specs.Parts.{straight-writes}
 use Rattle.block.proofs.writing.straight_writes.Statement.{statement}
