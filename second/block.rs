@@ -1,11 +1,11 @@
-//! Block reads and writes over a stretch of the caller's list: document 01, "Blocks and the two
+//! Block reads and writes over a part of the caller's list: document 01, "Blocks and the two
 //! doors".
 
 use crate::fault::{planted, Fault};
 use crate::port::{too_long, Cycle, Port};
 use std::ops::Range;
 
-/// The stretch of the list, or the number of the refusal; the sum in 128 bits, where it never wraps.
+/// The part of the list, or the number of the refusal; the sum in 128 bits, where it never wraps.
 fn part(memory: &[u16], list: &[u16], place: u64, count: u32) -> Result<Range<usize>, u8> {
     let end = u128::from(place) + u128::from(count);
     if too_long(memory) {

@@ -1,4 +1,5 @@
--- What is shown of a bank depends on its own registers and control bits alone, and in each kind of cycle on those bits alone that are for it.
+-- What is shown of a bank depends on its own registers and control bits alone, and in each kind of cycle on those bits alone that are for
+-- it.
 use Prim.Native.Nat.{ℕ, zero, suc, _+_, _*_, _/_, _<_, _≤_}
 use native.Mathlib.Nat.{add-assoc}
 use native.Mathlib.Omega.{arith}

@@ -1,5 +1,5 @@
--- What a place of the registers holds: what was written there last, whatever was written elsewhere. A place is a bank, one of its two values,
--- and a half of that; each is shown to change by itself, then a place.
+-- What a place of the registers holds: what was written there last, whatever was written elsewhere. A place is a bank, one of its two
+-- values, and a half of that; each is shown to change by itself, then a place.
 use Prim.Native.Nat.{ℕ, zero, suc, _%_, _<_, _≤_}
 use native.Mathlib.Omega.{arith}
 use mathlib.Core.Path.{_≡_, refl, sym, ap, _∙_}

@@ -45,8 +45,8 @@ with-half high v w = cond high (w * 65536 + v % 65536) (v / 65536 * 65536 + w)
 
 -- ---- the sixteen places
 
--- "0000b Bank Address 0 Low", "0001b Bank Address 0 High" (printed 0000b again), "0010b Bank Address 1 Low", .. "0111b Bank Address 3 High",
--- "1000b Bank Select Mask 0 Low", .. "1111b Bank Select Mask 3 High"
+-- "0000b Bank Address 0 Low", "0001b Bank Address 0 High" (printed 0000b again), "0010b Bank Address 1 Low", .. "0111b Bank Address 3
+-- High", "1000b Bank Select Mask 0 Low", .. "1111b Bank Select Mask 3 High"
 abbrev pub bank-of : ℕ → ℕ
 bank-of i = i / 2 % 4
 

@@ -1,6 +1,6 @@
-// The bank selects of the TMS34094, the bridge to an ISA bus: document 02, request (vi), taken from source document 001. They tell up to four
-// banks of devices on a board's local bus whether a cycle is for them, each by its own compare value and mask. Here stand the types, what the
-// port to these registers and a decode answer (specs/) and the laws of that (proofs/); the code is crate `bank`.
+// The bank selects of the TMS34094, the bridge to an ISA bus: document 02, request (vi), taken from source document 001. They tell up to
+// four banks of devices on a board's local bus whether a cycle is for them, each by its own compare value and mask. Here stand the types,
+// what the port to these registers and a decode answer (specs/) and the laws of that (proofs/); the code is crate `bank`.
 
 // One bank: what the local address is compared with.
 pub struct Bank {

@@ -1,8 +1,7 @@
-// Document 01's ten checked examples, carried out by the code itself, and its cases to run: "Checked examples". With them a field of 24 bits
-// that reaches a third word, which a well-known emulator of this chip gets wrong.
-// An access by the host prints "number, word, hollow or held, cycle", as `portlist` does but with small letters, and then the registers that it leaves; any
-// other call prints its number first.
-// The stored output was worked out by hand from document 01.
+// Document 01's ten checked examples, carried out by the code itself, and its cases to run: "Checked examples". With them a field of 24
+// bits that reaches a third word, which a well-known emulator of this chip gets wrong. An access by the host prints "number, word, hollow
+// or held, cycle", as `portlist` does but with small letters, and then the registers that it leaves; any other call prints its number
+// first. The stored output was worked out by hand from document 01.
 ghost use mathlib.Core.Path.{_≡_};
 ghost use Rattle.words.specs.Addresses.{address};
 ghost use Rattle.bus.specs.Order.{granted};

@@ -1,6 +1,6 @@
--- The checked examples of document 01 one by one, in the words of the definitions; their sentences stand in specs/Examples. Each law is read
--- off the table's single statement. What it opens are the words that the table is told with and the port's names for runs of accesses, and not
--- what an access, a field or a grant does.
+-- The checked examples of document 01 one by one, in the words of the definitions; their sentences stand in specs/Examples. Each law is
+-- read off the table's single statement. What it opens are the words that the table is told with and the port's names for runs of accesses,
+-- and not what an access, a field or a grant does.
 use Prim.Native.Nat.{ℕ}
 use mathlib.Core.Path.{_≡_, refl}
 use mathlib.Core.Bool.{Bool}

@@ -1,6 +1,6 @@
 -- The ten checked examples: document 01, 'Checked examples', each row under its sentence. A step is what is done or looked at, ⇒, and what
--- must come out. A host's access is `Read register lanes` or `Write register lanes word`. The pointer is loaded by writes of its two halves; with
--- LBL 0 the high one fetches. A row that goes on where another ended starts with what that one left.
+-- must come out. A host's access is `Read register lanes` or `Write register lanes word`. The pointer is loaded by writes of its two
+-- halves; with LBL 0 the high one fetches. A row that goes on where another ended starts with what that one left.
 --   INCW, INCR         the control word with that bit alone: "INCW 11, INCR 12"
 --   held, hollow       the hollow mark of a read of HSTDATA
 --   no-mark            that of any other access

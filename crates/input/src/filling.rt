@@ -2,8 +2,8 @@
 ghost use Rattle.input.specs.Filling.{FilledBehind};
 use crate::Filled;
 
-// One read behind the first `held` bytes of a buffer, which stay. Where it brings nothing and has not failed, the input has ended. Without room
-// for a byte more nothing is read, and it has failed.
+// One read behind the first `held` bytes of a buffer, which stay. Where it brings nothing and has not failed, the input has ended. Without
+// room for a byte more nothing is read, and it has failed.
 pub fn fill(buffer: &mut [u8], held: usize) -> Filled
     ensures { λ r. ⌜ FilledBehind (now (buffer .entry)) held r (now (buffer .exit)) ⌝ }
 {

@@ -1,5 +1,5 @@
-// Standard input, as the programs read it: a read behind the bytes that are held, or a record of a script at a time. No contract can say what is
-// read; these say how much there is then, and what stays.
+// Standard input, as the programs read it: a read behind the bytes that are held, or a record of a script at a time. No contract can say
+// what is read; these say how much there is then, and what stays.
 mod filling;
 mod records;
 

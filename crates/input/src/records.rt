@@ -4,8 +4,8 @@ ghost use Prim.Native.Nat.{min};
 ghost use lib.ListN.{length};
 use words::least;
 
-// Reads the next record of a script, as many bytes as are lent, and answers whether it came whole. Bytes that are no whole record end a script
-// too, and are told of.
+// Reads the next record of a script, as many bytes as are lent, and answers whether it came whole. Bytes that are no whole record end a
+// script too, and are told of.
 pub fn read_record(bytes: &mut [u8]) -> bool
     ensures { λ _. ⌜ length (now (bytes .exit)) ≡ length (now (bytes .entry)) ⌝ }
 {

@@ -1,2 +1,3 @@
--- What the contracts of the calls say. The laws of an access are crate `port_spec`; proofs of single functions are in the folders beside this.
+-- What the contracts of the calls say. The laws of an access are crate `port_spec`; proofs of single functions are in the folders beside
+-- this.
 pub mod Promised

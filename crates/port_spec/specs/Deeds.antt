@@ -1,5 +1,5 @@
--- Whatever is done to the port or its memory, in any order, and the onlooker who judges HSTDATA from what is said of the cycles alone: the words of
--- the keeper's law. Document 01, 'Memory and addresses', 'The four host registers' and 'The processor's side'.
+-- Whatever is done to the port or its memory, in any order, and the onlooker who judges HSTDATA from what is said of the cycles alone: the
+-- words of the keeper's law. Document 01, 'Memory and addresses', 'The four host registers' and 'The processor's side'.
 --   Deed, does, ran           what is done, and the machine after one deed and after a run of them
 --   woken m                   the machine that a reset leaves
 --   Content, content r        HSTDATA: its word, and whether that is hollow

@@ -1,5 +1,5 @@
--- Between two turns of `salvage`: the progress is that of the pieces that came, the buffers keep their lengths, and the counts have room for
--- every turn that is left.
+-- Between two turns of `salvage`: the progress is that of the pieces that came, the buffers keep their lengths, and the counts have room
+-- for every turn that is left.
 use Prim.Native.Nat.{ℕ, _+_, _*_, _-_, _≤_, _<_}
 use native.Mathlib.Omega.{arith}
 use mathlib.Core.Path.{_≡_, refl, sym, ap, _∙_}

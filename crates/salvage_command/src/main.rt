@@ -1,5 +1,5 @@
-// The program `salvage`: it reads a damaged transcript from standard input, of any length, writes the longest run of whole good records from
-// its start to standard output, and reports on standard error what was kept, what was left and why. Document 02, request (xii).
+// The program `salvage`: it reads a damaged transcript from standard input, of any length, writes the longest run of whole good records
+// from its start to standard output, and reports on standard error what was kept, what was left and why. Document 02, request (xii).
 //
 // The input comes in pieces of at most 65,540 bytes, as each read brings them. What is done with a piece is `pieces`; here are the reads,
 // the writes and the loop.

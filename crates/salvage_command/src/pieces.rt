@@ -1,5 +1,5 @@
-// One piece of an input that is salvaged piece by piece. What that means stands in crate `salvage_spec`, specs/Pieces, and that it ends like the
-// salvage of the whole in proofs/InPieces there.
+// One piece of an input that is salvaged piece by piece. What that means stands in crate `salvage_spec`, specs/Pieces, and that it ends
+// like the salvage of the whole in proofs/InPieces there.
 ghost use mathlib.Core.Path.{_≡_};
 ghost use Prim.Native.Nat.{_+_, _<_, _≤_};
 ghost use mathlib.Core.Bool.{true};

@@ -1,5 +1,5 @@
--- However an input is cut into pieces, and salvaged piece by piece, it ends like the salvage of the whole: what is written, the records kept,
--- the bytes left and what stopped it.
+-- However an input is cut into pieces, and salvaged piece by piece, it ends like the salvage of the whole: what is written, the records
+-- kept, the bytes left and what stopped it.
 use Prim.Native.Nat.{ℕ, _+_}
 use mathlib.Core.Path.{_≡_, refl, sym, ap, _∙_, subst}
 use mathlib.Core.List.{List, [], _∷_, _++_, append-assoc, append-nil, flatten}

@@ -1,5 +1,5 @@
--- What was written, said of any salvage that is done: it is the front of the string, sound, and no longer one is; what the reader says of it,
--- and a second salvage. And when it is done.
+-- What was written, said of any salvage that is done: it is the front of the string, sound, and no longer one is; what the reader says of
+-- it, and a second salvage. And when it is done.
 use Prim.Native.Nat.{ℕ, _-_, _≤_}
 use native.Mathlib.Omega.{arith}
 use mathlib.Core.Path.{_≡_, sym, ap, _∙_, subst}

@@ -1,4 +1,5 @@
--- Worked examples of salvage, worked out by hand from document 02, requests (ii) and (xii): what is lent, what is answered, and what is left.
+-- Worked examples of salvage, worked out by hand from document 02, requests (ii) and (xii): what is lent, what is answered, and what is
+-- left.
 --   blank                  what lies in the bytes before a call
 --   Row                    whole s out o out′: the string s is salvaged into the bytes out; the answer is o, and these are out′
 --                          pieces vs out o: an input that comes in the pieces vs; out is written in all, and o is reported at the end

@@ -1,5 +1,6 @@
-// Salvage of a damaged transcript: document 02, request (xii). Here stand its type, what is salvaged, at once or piece by piece (specs/), and
-// the laws of that (proofs/); the code is crate `salvage`. What a transcript is, and its refusals 20 to 23, are crate `transcript_spec`.
+// Salvage of a damaged transcript: document 02, request (xii). Here stand its type, what is salvaged, at once or piece by piece (specs/),
+// and the laws of that (proofs/); the code is crate `salvage`. What a transcript is, and its refusals 20 to 23, are crate
+// `transcript_spec`.
 
 // What salvage answers. Under number 24 the other parts are 0.
 pub struct Salvaged {

@@ -1,6 +1,6 @@
-// Carries out a script of damaged transcripts, read from standard input, and prints what the salvage of each answers and leaves: document 02,
-// request (xii). A second program, written in plain Rust from document 02, does the same; `second/compare` holds what both print against
-// each other.
+// Carries out a script of damaged transcripts, read from standard input, and prints what the salvage of each answers and leaves: document
+// 02, request (xii). A second program, written in plain Rust from document 02, does the same; `second/compare` holds what both print
+// against each other.
 //
 // A SCRIPT
 // is records of exactly 130 bytes. It ends with the input. Bytes after the last whole record end the run with the line `bad script`;
@@ -28,8 +28,8 @@ fn print_record(o: Salvaged, sound: &[u8]) {
     io::write_all(1, sound);
 }
 
-// Record after record, each with the bytes to be written laid apart. A proved loop has to end, and nothing says that the input does: it counts
-// its turns down, from a number that no run uses up.
+// Record after record, each with the bytes to be written laid apart. A proved loop has to end, and nothing says that the input does: it
+// counts its turns down, from a number that no run uses up.
 fn run() {
     let mut whole = [0u8; 130];
     let mut sound = [0u8; 64];

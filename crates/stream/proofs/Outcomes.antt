@@ -1,5 +1,5 @@
--- What a delivery leaves, by the tests that it came through: refused, with stream and lists as they were, or its entries put into the lists. And what
--- the end answers.
+-- What a delivery leaves, by the tests that it came through: refused, with stream and lists as they were, or its entries put into the
+-- lists. And what the end answers.
 use Prim.Native.Nat.{ℕ, _+_, _≤_, _<_}
 use native.Mathlib.Omega.{arith}
 use mathlib.Core.Path.{_≡_, refl, sym, ap, _∙_}

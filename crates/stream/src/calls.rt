@@ -26,7 +26,8 @@ pub fn start_stream() -> Stream
 }
 
 // The bytes that come next. The entries of the good records that they finish go to the first places of the four lists, which hold as many
-// as the shortest of them. Nothing is put there before all of these are known to fit; a bad record behind them is told when they are handed out.
+// as the shortest of them. Nothing is put there before all of these are known to fit; a bad record behind them is told when they are handed
+// out.
 pub fn take_delivery(
     st: Stream,
     bytes: &[u8],

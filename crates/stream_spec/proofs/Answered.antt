@@ -1,5 +1,5 @@
--- Demand 1 for a delivery and for the end of an open stream, record by record: the number, the entries handed out and the place are these exactly if
--- the begun record and the delivery together, in plain words, say so (`AnsweredAs`, `EndedAs`).
+-- Demand 1 for a delivery and for the end of an open stream, record by record: the number, the entries handed out and the place are these
+-- exactly if the begun record and the delivery together, in plain words, say so (`AnsweredAs`, `EndedAs`).
 use Prim.Native.Nat.{ℕ, _+_, _≤_}
 use native.Mathlib.Omega.{arith}
 use mathlib.Core.Path.{_≡_, refl, sym, ap, _∙_, subst}

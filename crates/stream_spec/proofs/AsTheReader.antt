@@ -1,5 +1,5 @@
--- What comes off the line is what the reader of request (ii) says of the joined bytes, 24 aside: in plain words, and of any outcome that the contracts
--- of both allow.
+-- What comes off the line is what the reader of request (ii) says of the joined bytes, 24 aside: in plain words, and of any outcome that
+-- the contracts of both allow.
 use Prim.Native.Nat.{ℕ, _≤_}
 use mathlib.Core.Path.{_≡_, refl, sym, ap, _∙_, subst}
 use mathlib.Core.Bool.{Bool, true, false, cond}

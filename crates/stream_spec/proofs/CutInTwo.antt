@@ -1,5 +1,5 @@
--- Cutting a delivery in two changes nothing, whatever the stream: the entries handed out, the refusal that is told, and the stream afterwards are
--- the same. The second part is read on from where the first one ended.
+-- Cutting a delivery in two changes nothing, whatever the stream: the entries handed out, the refusal that is told, and the stream
+-- afterwards are the same. The second part is read on from where the first one ended.
 use Prim.Native.Nat.{ℕ, _+_, _≤_}
 use native.Mathlib.Omega.{arith}
 use mathlib.Core.Path.{_≡_, refl, sym, ap, _∙_, subst}

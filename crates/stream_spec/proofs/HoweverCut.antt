@@ -1,5 +1,5 @@
--- Where each list has a place for each byte that comes with it, and the stream stays within its limit, nothing is sent back: then the joined bytes
--- are all bytes that were delivered.
+-- Where each list has a place for each byte that comes with it, and the stream stays within its limit, nothing is sent back: then the
+-- joined bytes are all bytes that were delivered.
 use Prim.Native.Nat.{ℕ, _+_, _≤_}
 use native.Mathlib.Omega.{arith}
 use mathlib.Core.Path.{_≡_, refl, ap, _∙_, subst}

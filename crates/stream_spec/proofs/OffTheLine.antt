@@ -1,6 +1,6 @@
--- However the bytes of a stream are cut into deliveries, empty ones among them: the accesses handed out are the good records before the first bad
--- one in the joined bytes, and the final refusal with its place is that of the reader of request (ii) on them. A stream stands for the bytes
--- that are joined so far, and each delivery joins its own.
+-- However the bytes of a stream are cut into deliveries, empty ones among them: the accesses handed out are the good records before the
+-- first bad one in the joined bytes, and the final refusal with its place is that of the reader of request (ii) on them. A stream stands
+-- for the bytes that are joined so far, and each delivery joins its own.
 use Prim.Native.Nat.{ℕ}
 use mathlib.Core.Path.{_≡_, refl, sym, ap, _∙_, subst}
 use mathlib.Core.Bool.{Bool, cond}

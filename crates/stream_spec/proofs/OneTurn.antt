@@ -1,5 +1,5 @@
--- One delivery to a stream that stands for the bytes w: the stream then stands for those bytes with the delivery's, what was handed out is what the
--- reader finds more in them, and if a record's refusal was told, it is that of the first bad record in them.
+-- One delivery to a stream that stands for the bytes w: the stream then stands for those bytes with the delivery's, what was handed out is
+-- what the reader finds more in them, and if a record's refusal was told, it is that of the first bad record in them.
 use Prim.Native.Nat.{ℕ}
 use mathlib.Core.Path.{_≡_, refl, sym, ap, _∙_, subst}
 use mathlib.Core.Bool.{Bool, true, false, cond}

@@ -1,4 +1,5 @@
--- An open stream, record by record: what it stands for, and that a delivery to it is read as the begun record and the delivery together are.
+-- An open stream, record by record: what it stands for, and that a delivery to it is read as the begun record and the delivery together
+-- are.
 use Prim.Native.Nat.{ℕ, _+_}
 use native.Mathlib.Nat.{zero-add, add-assoc}
 use native.Mathlib.Omega.{arith}

@@ -1,6 +1,6 @@
--- Which streams calls come to from a fresh start: exactly those that stand for some bytes, at most 4,294,967,295 of them, as they are read or ended
--- there by the sender; and the open ones among them, record by record. Any other that a caller makes is answered too (`comes-exactly`,
--- `ends-exactly`), but stands for no bytes.
+-- Which streams calls come to from a fresh start: exactly those that stand for some bytes, at most 4,294,967,295 of them, as they are read
+-- or ended there by the sender; and the open ones among them, record by record. Any other that a caller makes is answered too
+-- (`comes-exactly`, `ends-exactly`), but stands for no bytes.
 use Prim.Native.Nat.{ℕ, _+_, _≤_}
 use native.Mathlib.Nat.{zero-add}
 use native.Mathlib.Omega.{arith}

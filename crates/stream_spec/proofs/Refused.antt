@@ -1,5 +1,5 @@
--- What a refused delivery leaves, and that it can be sent again; which numbers there are, and when 24 and 26; and that what is handed out fits the
--- lists, whose later places stay.
+-- What a refused delivery leaves, and that it can be sent again; which numbers there are, and when 24 and 26; and that what is handed out
+-- fits the lists, whose later places stay.
 use Prim.Native.Nat.{ℕ, _+_, _<_, _≤_}
 use native.Mathlib.Omega.{arith}
 use mathlib.Core.Path.{_≡_, refl, sym, ap, _∙_, subst}

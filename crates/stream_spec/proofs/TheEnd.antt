@@ -1,5 +1,5 @@
--- Demand 1 for the end, whatever the stream: what it comes to, each answer when and only then (`EndCame`); and what it tells of the bytes that
--- the stream stands for.
+-- Demand 1 for the end, whatever the stream: what it comes to, each answer when and only then (`EndCame`); and what it tells of the bytes
+-- that the stream stands for.
 use Prim.Native.Nat.{ℕ}
 use mathlib.Core.Path.{_≡_, refl, sym, ap, _∙_, subst}
 use mathlib.Core.Bool.{Bool, true, false, cond}

@@ -1,4 +1,5 @@
--- Worked examples of streams, worked out by hand from document 02, requests (ii) and (vii): the calls, what each answers, and what it leaves.
+-- Worked examples of streams, worked out by hand from document 02, requests (ii) and (vii): the calls, what each answers, and what it
+-- leaves.
 --   entry k r l w       an entry; spare, what lies in the lists before a call
 --   Told                what is told of a call: number, count, place, and of the stream afterwards where its record begins, how many bytes are
 --                       read, and whether it has ended; told n c p f t b is that by its parts, said o that of an answer
@@ -81,7 +82,8 @@ behind n = record { part = fresh; from = n; taken = n; ended = false }
 abbrev pub new : Stream
 new = behind 0
 
--- a read of register 3 on both lanes, 1Eh; a read of register 0 on the low lane, 08h; a write of 1234h to register 2 on both lanes, 1Dh A4h 34h
+-- a read of register 3 on both lanes, 1Eh; a read of register 0 on the low lane, 08h; a write of 1234h to register 2 on both lanes, 1Dh A4h
+-- 34h
 abbrev pub high-read : Entry
 high-read = entry 0 3 3 0
 
@@ -121,7 +123,8 @@ cuts =
 
 unfoldable pub bad : List Row
 bad =
-    -- 21: a zero group at the end of one delivery, of a head and of a word; the place is that of the record's first byte in the whole stream
+    -- 21: a zero group at the end of one delivery, of a head and of a word; the place is that of the record's first byte in the whole
+    -- stream
     row new (brings (0x80 ∷ []) (told 0 0 0 0 1 false) ∷ brings (0x1E ∷ []) (told 21 0 0 0 2 true) ∷ []) ∷
     row new
     (delivers (0x1E ∷ 0x1D ∷ 0x80 ∷ []) (spare ∷ []) (told 0 1 0 1 3 false) (high-read ∷ []) ∷

@@ -1,5 +1,5 @@
--- The reader of deliveries in plain words: what the laws say of it. Document 02, request (vii). Answers and ended streams are made here anew
--- (`answer`, `shut`), so that a lie about those of the definitions is seen.
+-- The reader of deliveries in plain words: what the laws say of it. Document 02, request (vii). Answers and ended streams are made here
+-- anew (`answer`, `shut`), so that a lie about those of the definitions is seen.
 --   answer n count place st   an answer, by its parts
 --   stream-after st s b       the stream when a delivery is read, ended or not
 --   Came st s l o l′          what a delivery comes to, whatever the stream: each answer, when and only then, and the lists

@@ -3,8 +3,8 @@
 // (proofs/); the code is crate `stream`. What a transcript is, and its refusals 20 to 24, are crate `transcript_spec`.
 use transcript_spec::Part;
 
-// How far a stream is read, between two deliveries. It starts fresh, and each call hands it back. A caller could make any other, and is answered
-// too, as if the stream had come to just this.
+// How far a stream is read, between two deliveries. It starts fresh, and each call hands it back. A caller could make any other, and is
+// answered too, as if the stream had come to just this.
 pub struct Stream {
     // How far the record is read that is being read.
     pub part: Part,

@@ -1,5 +1,5 @@
--- A record is carried out by one of the three calls: a delivery on the first places of its string and of the lists, which then come back; or
--- a fresh start or the end, which leave the lists.
+-- A record is carried out by one of the three calls: a delivery on the first places of its string and of the lists, which then come back;
+-- or a fresh start or the end, which leave the lists.
 use Prim.Native.Nat.{ℕ, _+_, _-_, min}
 use native.Mathlib.Omega.{arith}
 use mathlib.Core.Path.{_≡_, ap, _∙_}

@@ -13,7 +13,8 @@
 //                     fresh start): `from` and `taken` begin with that number
 //   bytes 12 to 35    the string, 24 bytes
 //
-// Before the first record the stream is freshly started. Before each record every place of the four lists, six places each, holds EEEEEEEEh.
+// Before the first record the stream is freshly started. Before each record every place of the four lists, six places each, holds
+// EEEEEEEEh.
 //
 // WHAT IS PRINTED
 // is one line for each record, lower-case hexadecimal digits with nothing between them: the number, two digits; the count, four; the place,

@@ -38,7 +38,8 @@ fn turn(
     bytes_to_lines(input, kinds, registers, lanes, words, output)
 }
 
-// The input read, turned and written; or what is wrong with it is said. Input that fills its buffer may have more behind it, and is too long.
+// The input read, turned and written; or what is wrong with it is said. Input that fills its buffer may have more behind it, and is too
+// long.
 fn exchange(
     to_bytes: bool,
     input: &mut [u8],

@@ -1,5 +1,5 @@
--- What is found in short strings, by computation: records of one byte and of three, a bad one behind them, and one that is cut off; and strings
--- that go on with a record.
+-- What is found in short strings, by computation: records of one byte and of three, a bad one behind them, and one that is cut off; and
+-- strings that go on with a record.
 use mathlib.Core.Path.{_≡_, refl}
 use mathlib.Core.Bool.{true, false}
 use mathlib.Core.List.{[], _∷_}

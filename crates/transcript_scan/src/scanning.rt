@@ -1,4 +1,5 @@
-// The longest run of whole good records from the start of a string, and what ends it. The string may go on with a record that was begun before it.
+// The longest run of whole good records from the start of a string, and what ends it. The string may go on with a record that was begun
+// before it.
 ghost use mathlib.Core.Path.{_≡_};
 ghost use mathlib.Core.Bool.{cond};
 ghost use lib.Dec.{eqb};
@@ -10,8 +11,8 @@ use crate::steps::take_byte;
 use transcript_spec::Part;
 use transcript_spec::Step;
 
-// How far a string is read: how many good records it finishes, up to its first bad one; where the record begins that is read last, 0 if that
-// one was begun before the string; how many bytes are read; how far that record is read; and its refusal, or 0. Behind a bad record
+// How far a string is read: how many good records it finishes, up to its first bad one; where the record begins that is read last, 0 if
+// that one was begun before the string; how many bytes are read; how far that record is read; and its refusal, or 0. Behind a bad record
 // nothing is read.
 pub struct ScannedOn {
     pub entries: usize,

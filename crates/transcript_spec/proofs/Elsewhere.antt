@@ -1,5 +1,5 @@
--- A string is read on alike wherever the reading stands: with entries before it, and at other places of a longer string, the reader finds the
--- same records in it. And a string in two parts is read one after the other.
+-- A string is read on alike wherever the reading stands: with entries before it, and at other places of a longer string, the reader finds
+-- the same records in it. And a string in two parts is read one after the other.
 use Prim.Native.Nat.{ℕ, _+_}
 use native.Mathlib.Nat.{add-zero, add-assoc}
 use native.Mathlib.Omega.{arith}

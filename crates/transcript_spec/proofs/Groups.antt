@@ -1,5 +1,5 @@
--- A number's groups are the one way to spell it: written in groups it says what it was, and whatever says a number below 65,536 is its groups.
--- By how many groups there are; four or more with no leading zero group make 2,097,152 at least.
+-- A number's groups are the one way to spell it: written in groups it says what it was, and whatever says a number below 65,536 is its
+-- groups. By how many groups there are; four or more with no leading zero group make 2,097,152 at least.
 use Prim.Native.Nat.{ℕ, _+_, _*_, _/_, _%_, _^_, _<_, _≤_}
 use native.Mathlib.Nat.{mul-le-mul, pow-le-pow-right}
 use native.Mathlib.Omega.{arith}

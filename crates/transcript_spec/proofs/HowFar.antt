@@ -1,5 +1,5 @@
--- How far a string is read: no further than it reaches, and to its end where no record is bad; each record begins behind the one before, and has a
--- byte of its own. A record that turns out to be bad has 21, 22 or 23: 20 comes only with the end.
+-- How far a string is read: no further than it reaches, and to its end where no record is bad; each record begins behind the one before,
+-- and has a byte of its own. A record that turns out to be bad has 21, 22 or 23: 20 comes only with the end.
 use Prim.Native.Nat.{ℕ, suc, _+_, _≤_}
 use native.Mathlib.Omega.{arith}
 use mathlib.Core.Path.{_≡_, refl, sym, ap, _∙_}

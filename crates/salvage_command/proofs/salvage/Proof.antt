@@ -1,4 +1,5 @@
--- `salvage_command::salvage` meets its contract: at each turn what stands between two turns holds (`Going`), and the turns that are left fall.
+-- `salvage_command::salvage` meets its contract: at each turn what stands between two turns holds (`Going`), and the turns that are left
+-- fall.
 use native.Mathlib.Omega.{arith}
 use mathlib.Core.Path.{sym, _∙_}
 use lib.Seq.{length-take-le}

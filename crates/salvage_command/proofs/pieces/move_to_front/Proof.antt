@@ -1,4 +1,5 @@
--- `salvage_command::pieces::move_to_front` meets its contract: the bytes go by way of four others, so none is lost where the two places overlap.
+-- `salvage_command::pieces::move_to_front` meets its contract: the bytes go by way of four others, so none is lost where the two places
+-- overlap.
 use native.Mathlib.Omega.{arith}
 use borrow.Author.Needs.{needs}
 use Rattle.salvage_command.proofs.Fronts.{as-many, moved}

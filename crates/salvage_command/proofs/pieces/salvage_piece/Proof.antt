@@ -1,4 +1,5 @@
--- `salvage_command::pieces::salvage_piece` meets its contract: what is salvaged of the bytes at hand makes the progress and what is written.
+-- `salvage_command::pieces::salvage_piece` meets its contract: what is salvaged of the bytes at hand makes the progress and what is
+-- written.
 use native.Mathlib.Omega.{arith}
 use mathlib.Core.Path.{sym}
 use lib.Seq.{length-take-le}

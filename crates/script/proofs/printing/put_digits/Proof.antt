@@ -1,4 +1,5 @@
--- `script::printing::put_digits` meets its contract: the digits of the value are those of what is left of it, before those already laid down.
+-- `script::printing::put_digits` meets its contract: the digits of the value are those of what is left of it, before those already laid
+-- down.
 use borrow.Author.Needs.{needs}
 use Prim.Native.Nat.{ℕ, suc, _-_, _/_, _%_, _≤_, _<_}
 use native.Mathlib.Omega.{arith}

@@ -1,4 +1,5 @@
--- `stream_trial::carrying::start_from` meets its contract: where no bytes have come, what it answers is the stream that `start_stream` makes.
+-- `stream_trial::carrying::start_from` meets its contract: where no bytes have come, what it answers is the stream that `start_stream`
+-- makes.
 use Prim.Native.Nat.{ℕ}
 use mathlib.Core.Path.{sym, ap, _∙_}
 use Rattle.stream_spec.specs.Stream.{streamed}

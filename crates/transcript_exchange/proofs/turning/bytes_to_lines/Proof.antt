@@ -1,4 +1,5 @@
--- `transcript_exchange::turning::bytes_to_lines` meets its contract: by what was judged nothing is changed, or what is read is put as lines.
+-- `transcript_exchange::turning::bytes_to_lines` meets its contract: by what was judged nothing is changed, or what is read is put as
+-- lines.
 use native.Mathlib.Omega.{arith}
 use Rattle.transcript_exchange.proofs.Results.{lines-refused, has-read, lines-done}
 use borrow.Author.Needs.{needs}

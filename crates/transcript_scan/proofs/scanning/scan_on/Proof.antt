@@ -1,5 +1,5 @@
--- `transcript_scan::scanning::scan_on` meets its contract: at each turn of both loops the records are counted of the bytes that are read. The
--- inner loop counts on from where it was entered, whatever the string began with.
+-- `transcript_scan::scanning::scan_on` meets its contract: at each turn of both loops the records are counted of the bytes that are read.
+-- The inner loop counts on from where it was entered, whatever the string began with.
 use Prim.Native.Nat.{ℕ, _+_, _-_, _≤_, _<_}
 use native.Mathlib.Omega.{arith}
 use mathlib.Core.Path.{_≡_, refl, sym, ap, _∙_}
