@@ -8,7 +8,8 @@ use mathlib.Core.Logic.{⊎-elim, _≢_}
 use lib.Dec.{eqb}
 use borrow.Author.Tests.{eq-eqb, ne-eqb, eqb-true, eqb-false, ltb-true, ltb-false}
 use Rattle.words.proofs.Choices.{either-way, both-true, come-out-alike, same-or-not}
-use Rattle.bank_spec.specs.Registers.{bank, bank-at, with-bank, half, with-half, bank-of, is-mask, is-high, value-of, with-value, half-at, with-half-at}
+use Rattle.bank_spec.specs.Registers.{bank, bank-at, with-bank, half, with-half, bank-of, is-mask, is-high, value-of, with-value}
+use Rattle.bank_spec.specs.Registers.{half-at, with-half-at}
 use Rattle.bank_spec.specs.declared.Bank.{Bank}
 use Rattle.bank_spec.specs.declared.Banks.{Banks}
 
@@ -106,7 +107,8 @@ module _ (b : Banks) (i w : ℕ) (l : w < 65536) (j : ℕ) where
 
 -- After a write the same place reads back what was written.
 pub reads-back : (b : Banks) (i w : ℕ) → w < 65536 → half-at (with-half-at b i w) i ≡ w
-reads-back b i w l = this-bank b i w l i refl ∙ rw (come-out-alike (is-mask i) (is-mask i) .1 refl, come-out-alike (is-high i) (is-high i) .1 refl)
+reads-back b i w l = this-bank b i w l i refl ∙
+    rw (come-out-alike (is-mask i) (is-mask i) .1 refl, come-out-alike (is-high i) (is-high i) .1 refl)
 
 -- No other place is changed.
 pub others-stay : (b : Banks) (i w j : ℕ) → w < 65536 → i < 16 → j < 16 → i ≢ j → half-at (with-half-at b i w) j ≡ half-at b j

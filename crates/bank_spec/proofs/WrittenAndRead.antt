@@ -90,7 +90,8 @@ all-counted (w ∷ ws) = rw (all-counted ws) (omega arith)
 pub written-and-read : (p : BankPort) (ws : List ℕ) → AreWords ws → length ws ≡ 16 → words-read (after p (writes ws)) 16 ≡ ws
 written-and-read p ws a e =
     subst (λ (n : ℕ). words-read (after p (writes ws)) n ≡ ws) e
-    (row-read (after p (writes ws)) ws (λ k l. ap (half-at (after p (writes ws) .banks)) (returned k) ∙ row-written p ws a (omega (arith, e)) k l))
+    (row-read (after p (writes ws)) ws (λ k l. ap (half-at (after p (writes ws) .banks)) (returned k) ∙
+    row-written p ws a (omega (arith, e)) k l))
   where
     returned : (k : ℕ) → (after p (writes ws) .index + k) % 16 ≡ (p .index + k) % 16
     returned k = rw (sixteen-return p (writes ws) (all-counted ws ∙ e)) (omega arith)

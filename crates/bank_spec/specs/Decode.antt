@@ -79,4 +79,5 @@ decoded-as number s0 s1 s2 s3 = record { number = number; bank0 = s0; bank1 = s1
 unfoldable pub decoded : Banks → ℕ → BitAddress → ℕ → Decoded
 decoded b c a kind =
     cond (ltb 2 kind) (decoded-as 31 false false false false)
-    (decoded-as 0 (selects (b .bank0) c a kind 0) (selects (b .bank1) c a kind 1) (selects (b .bank2) c a kind 2) (selects (b .bank3) c a kind 3))
+    (decoded-as 0 (selects (b .bank0) c a kind 0) (selects (b .bank1) c a kind 1) (selects (b .bank2) c a kind 2)
+    (selects (b .bank3) c a kind 3))

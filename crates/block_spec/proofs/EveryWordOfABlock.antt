@@ -64,7 +64,8 @@ module _ (s : Machine) (k : Memory (s .memory)) (i : incr (s .registers .control
   -- Every word of a table that lies in memory is handed out.
   pub every-word-of-a-block : (n : ℕ) → Lies (s .memory) a n → Fits l place n → EveryWord s a l place n
   every-word-of-a-block n h f =
-      let given-so = ap (λ (t : Machine). map given (answers t (reading n))) (just-loaded (omega (arith, k .size))) ∙ every-word s k i a n h .words in
+      let given-so = ap (λ (t : Machine). map given (answers t (reading n))) (just-loaded (omega (arith, k .size))) ∙
+      every-word s k i a n h .words in
       let told = handed-out n (table (s .memory) a n) 0 f (all-held _ _ given-so) in
       record { number = told .0; words = told .1; hollows = told .2 }
 

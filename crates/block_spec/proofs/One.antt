@@ -15,7 +15,8 @@ use Rattle.block_spec.specs.declared.BlockWrite.{BlockWrite}
 -- the two fields of what some accesses leave
 one-run : {o p : Run} → o .registers ≡ p .registers → o .tallied ≡ p .tallied → o ≡ p
 one-run {o} {p} e d =
-    ap (λ (q : Registers). record { registers = q; tallied = o .tallied }) e ∙ ap (λ (n : ℕ). record { registers = p .registers; tallied = n }) d
+    ap (λ (q : Registers). record { registers = q; tallied = o .tallied }) e ∙
+    ap (λ (n : ℕ). record { registers = p .registers; tallied = n }) d
 
 module _ {r : Registers} {m l : List ℕ} {place count : ℕ} where
   -- A block read has one outcome.
@@ -34,6 +35,7 @@ one-read-into a b =
     (one-run (one-value (a .registers) (b .registers)) (one-value (a .tallied) (b .tallied)), one-value (a .words) (b .words))
 
 -- Some writes leave one outcome and one memory.
-pub one-written-from : {s : Machine} {ws : List ℕ} {o p : Run} {x y : List ℕ} → WrittenFrom s ws o x → WrittenFrom s ws p y → (o ≡ p) × (x ≡ y)
+pub one-written-from : {s : Machine} {ws : List ℕ} {o p : Run} {x y : List ℕ} → WrittenFrom s ws o x → WrittenFrom s ws p y →
+    (o ≡ p) × (x ≡ y)
 one-written-from a b =
     (one-run (one-value (a .registers) (b .registers)) (one-value (a .tallied) (b .tallied)), one-value (a .memory) (b .memory))

@@ -82,7 +82,8 @@ module _ (r : Registers) (m l : List ℕ) (place n : ℕ) (k : Memory m) (i : in
         empties = ap (λ (b : BlockWrite). b .empties) o ∙ sym (written .tallied);
         control = ap (λ (b : BlockWrite). b .registers .control) o ∙ ap (λ (q : Registers). q .control) (sym (written .registers));
         pointer =
-            ap (λ (b : BlockWrite). b .registers .pointer .0) o ∙ ap (λ (q : Registers). q .pointer .0) (sym (written .registers)) ∙ no-wrap;
+            ap (λ (b : BlockWrite). b .registers .pointer .0) o ∙ ap (λ (q : Registers). q .pointer .0) (sym (written .registers)) ∙
+            no-wrap;
         words = rw memory-is (laid-part x n m ws there size-of);
         before = λ j h. rw memory-is (laid-before x n m ws there size-of j h);
         behind = λ j h. rw memory-is (laid-behind x n m ws there size-of j h);

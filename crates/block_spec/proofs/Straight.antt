@@ -110,7 +110,8 @@ module _ (r : Registers) (m : List ℕ) (k : Memory m) (i : incr (r .control) �
 
   -- The same by a copy from the pointer's word on, with the word already held laid over the first.
   pub copied-read : (n : ℕ) → 0 < n → r .latch < 65536 → word-at (r .pointer) .0 + n < length m →
-      ReadInto s n (record { registers = moved n; tallied = counted (r .hollow) }) (set (take n (drop (word-at (r .pointer) .0) m)) 0 (r .latch))
+      ReadInto s n (record { registers = moved n; tallied = counted (r .hollow) })
+      (set (take n (drop (word-at (r .pointer) .0) m)) 0 (r .latch))
   copied-read zero p f h = absurd (omega (arith, p))
   copied-read (suc n) p f h =
       let x = word-at (r .pointer) .0 in

@@ -21,7 +21,8 @@ use Rattle.port_spec.specs.declared.Access.the-variants.{Read, Write}
 use Rattle.port_spec.specs.declared.Cycle.{Cycle}
 use Rattle.port_spec.specs.declared.Cycle.the-variants.{None, Inside, Empty}
 use Rattle.checked_spec.specs.Acts.{World, Seen, Example, _⇒_, left}
-use Rattle.checked_spec.specs.Acts.{host, processor, put, take, take-signed, grant, release, pointer, hstdata, low-control-byte, memory}
+use Rattle.checked_spec.specs.Acts.{host, processor, put, take, take-signed, grant, release, pointer, hstdata, low-control-byte}
+use Rattle.checked_spec.specs.Acts.{memory}
 use Rattle.checked_spec.specs.Acts.{answered, put-in, taken-out, taken-out-signed, granted-to, number, is, words}
 
 abbrev pub INCW : ℕ

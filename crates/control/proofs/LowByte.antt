@@ -60,7 +60,8 @@ unfolding host-low
 host-byte old new = byte new old (intin old || intin new) (intout old && intout new)
 
 -- The processor leaves MSGIN, can clear INTIN and not raise it, replaces MSGOUT, can raise INTOUT and not clear it.
-pub processor-parts : (old new : ℕ) → Parts (processor-low old new) (msgin old) (intin old && intin new) (msgout new) (intout old || intout new)
+pub processor-parts : (old new : ℕ) →
+    Parts (processor-low old new) (msgin old) (intin old && intin new) (msgout new) (intout old || intout new)
 unfolding processor-low
 processor-parts old new = parts old new (intin old && intin new) (intout old || intout new)
 

@@ -78,11 +78,29 @@ module _ (lanes c w : ℕ) (e : takes-low lanes ≡ true) where
   host-write-parts =
       let p = host-parts (lo c) (lo w) in
       parts-of-low
-      (rw (low-lane host-low host-byte lanes c w, e, ← message-in-low w, ← interrupt-in-low c, ← interrupt-in-low w, ← message-out-low c, ← interrupt-out-low c, ← interrupt-out-low w) p)
+      (rw (
+        low-lane host-low host-byte lanes c w,
+        e,
+        ← message-in-low w,
+        ← interrupt-in-low c,
+        ← interrupt-in-low w,
+        ← message-out-low c,
+        ← interrupt-out-low c,
+        ← interrupt-out-low w,
+      ) p)
 
   -- "a write replaces MSGOUT, makes INTIN old AND written and INTOUT old OR written, and keeps MSGIN."
   pub processor-write-parts : Parts (control-laid processor-low lanes c w) (msgin c) (intin c && intin w) (msgout w) (intout c || intout w)
   processor-write-parts =
       let p = processor-parts (lo c) (lo w) in
       parts-of-low
-      (rw (low-lane processor-low processor-byte lanes c w, e, ← message-in-low c, ← interrupt-in-low c, ← interrupt-in-low w, ← message-out-low w, ← interrupt-out-low c, ← interrupt-out-low w) p)
+      (rw (
+        low-lane processor-low processor-byte lanes c w,
+        e,
+        ← message-in-low c,
+        ← interrupt-in-low c,
+        ← interrupt-in-low w,
+        ← message-out-low w,
+        ← interrupt-out-low c,
+        ← interrupt-out-low w,
+      ) p)

@@ -19,7 +19,8 @@ not-between low high b f = go (either-way (leb low b && leb b high))
   where
     go : (leb low b && leb b high ≡ true) ⊎ (leb low b && leb b high ≡ false) → leb low b && leb b high ≡ false
     go (inr e) = e
-    go (inl e) = absurd (f (leb-true low b (both-true (leb low b) (leb b high) e .0)) (leb-true b high (both-true (leb low b) (leb b high) e .1)))
+    go (inl e) = absurd (f (leb-true low b (both-true (leb low b) (leb b high) e .0))
+        (leb-true b high (both-true (leb low b) (leb b high) e .1)))
 
 -- ---- "decimal digit"
 
@@ -121,7 +122,8 @@ table-digit n = in-table (n % 16) (omega arith)
 -- A hex digit is no line feed.
 pub hex-apart : (b : ℕ) → is-hex b ≡ true → b ≢ 10
 hex-apart b e g =
-    let v : value-of b ≡ 16 = ap value-of g ∙ value-none 10 (not-decimal 10 (λ p q. absurd (omega (arith, p)))) (λ p q. absurd (omega (arith, p))) in
+    let v : value-of b ≡ 16 = ap value-of g ∙ value-none 10 (not-decimal 10 (λ p q. absurd (omega (arith, p))))
+    (λ p q. absurd (omega (arith, p))) in
     let h = ltb-true (value-of b) 16 e in
     absurd (omega (arith, h, v))
 

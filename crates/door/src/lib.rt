@@ -93,7 +93,8 @@ pub extern "C" fn host_port_write(
     lanes: u32,
     word: u16,
 ) -> u64
-    ensures { λ r. ⌜ Called (now (image .entry)) (now (memory .entry)) (Write register lanes word) r (now (image .exit)) (now (memory .exit)) ⌝ }
+    ensures { λ r. ⌜ Called (now (image .entry)) (now (memory .entry)) (Write register lanes word) r (now (image .exit))
+        (now (memory .exit)) ⌝ }
 {
     let a = Access::Write {
         register,

@@ -38,7 +38,8 @@ behind-line t n x (good a) =
     ap (λ (k : ℕ). record { machine = s; text = t ++ (x .text ++ said); used = k; begun = []; ended = false })
     (add-assoc n (x .used) long)
 behind-line t n x bad =
-    ap (λ (y : List ℕ). record { machine = x .machine; text = y; used = n + x .used; begun = []; ended = true }) (append-assoc t (x .text) bad-line)
+    ap (λ (y : List ℕ). record { machine = x .machine; text = y; used = n + x .used; begun = []; ended = true })
+    (append-assoc t (x .text) bad-line)
 
 behind-if : (t : List ℕ) (n : ℕ) (e : Bool) (x y : Listing) {x′ y′ : Listing} → x′ ≡ behind t n x → y′ ≡ behind t n y →
     cond e x′ y′ ≡ behind t n (cond e x y)
@@ -52,7 +53,8 @@ behind-next t n x b =
     let full : Bool = eqb (length (x .begun)) 31 in
     let goes : Listing = cond full (stopped x) (line-goes-on x b) in
     let last = behind-if t n full (stopped x) (line-goes-on x b) (behind-line t n x bad) refl in
-    behind-if t n (x .ended) x (cond (eqb b 10) ends goes) refl (behind-if t n (eqb b 10) ends goes (behind-line t n x (line-of (x .begun))) last)
+    behind-if t n (x .ended) x (cond (eqb b 10) ends goes) refl
+    (behind-if t n (eqb b 10) ends goes (behind-line t n x (line-of (x .begun))) last)
 
 pub behind-all : (t : List ℕ) (n : ℕ) (x : Listing) (v : List ℕ) → listing (behind t n x) v ≡ behind t n (listing x v)
 unfolding listing
@@ -110,7 +112,8 @@ line-ended x t b (good a) e c =
           λ f.
           record {
             lines = more t b;
-            size = all ∙ whole ∙ ap (λ (k : ℕ). k + length (more (x .begun) b)) (p .size) ∙ ap (λ (k : ℕ). x .used + k) (longer (x .begun) b);
+            size = all ∙ whole ∙ ap (λ (k : ℕ). k + length (more (x .begun) b)) (p .size) ∙
+                ap (λ (k : ℕ). x .used + k) (longer (x .begun) b);
             is = sym (append-nil (more t b));
           };
       most = omega (arith, all, whole, p .size, longer (x .begun) b);
@@ -181,7 +184,8 @@ pub come : (s : Machine) (t : List ℕ) → Come (listing (start s) t) t
 come s t = comes (start s) [] t (begins s)
 
 -- What is begun is what lies behind the bytes used.
-pub begun-is : (s : Machine) (t : List ℕ) → listing (start s) t .ended ≡ false → drop (listing (start s) t .used) t ≡ listing (start s) t .begun
+pub begun-is : (s : Machine) (t : List ℕ) → listing (start s) t .ended ≡ false →
+    drop (listing (start s) t .used) t ≡ listing (start s) t .begun
 begun-is s t e =
     let x = listing (start s) t in
     let p = come s t .place e in
@@ -197,8 +201,10 @@ cut s u v e =
     let c = come s u in
     let here : x ≡ behind (x .text) (x .used) (within (x .machine) [] 0 (x .begun)) =
     ap (λ (f : Bool). record { machine = x .machine; text = x .text; used = x .used; begun = x .begun; ended = f }) e ∙
-    ap (λ (t : List ℕ). record { machine = x .machine; text = t; used = x .used; begun = x .begun; ended = false }) (sym (append-nil (x .text))) ∙
-    ap (λ (n : ℕ). record { machine = x .machine; text = x .text ++ []; used = n; begun = x .begun; ended = false }) (sym (add-zero (x .used)))
+    ap (λ (t : List ℕ). record { machine = x .machine; text = t; used = x .used; begun = x .begun; ended = false })
+    (sym (append-nil (x .text))) ∙
+    ap (λ (n : ℕ). record { machine = x .machine; text = x .text ++ []; used = n; begun = x .begun; ended = false })
+    (sym (add-zero (x .used)))
     in
     parts (start s) u v ∙
     ap (λ (y : Listing). listing y v) here ∙

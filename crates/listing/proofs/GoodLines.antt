@@ -141,7 +141,8 @@ spells u = go (either-way (eqb (length u) 5 && headed 82 u)) (either-way (eqb (l
   where
     go : (eqb (length u) 5 && headed 82 u ≡ true) ⊎ (eqb (length u) 5 && headed 82 u ≡ false) →
         (eqb (length u) 10 && (headed 87 u && tailed u) ≡ true) ⊎ (eqb (length u) 10 && (headed 87 u && tailed u) ≡ false) →
-        Spells u (cond (eqb (length u) 5 && headed 82 u) (good (read-in u)) (cond (eqb (length u) 10 && (headed 87 u && tailed u)) (good (write-in u)) bad))
+        Spells u (cond (eqb (length u) 5 && headed 82 u) (good (read-in u))
+        (cond (eqb (length u) 10 && (headed 87 u && tailed u)) (good (write-in u)) bad))
     go (inl e) f =
         let p = both-true (eqb (length u) 5) (headed 82 u) e in
         rw e (read-spelled u (eqb-true (length u) 5 (p .0)) (head-is 82 u (p .1)))

@@ -25,7 +25,8 @@ laid-behind o at t u h =
     length-append p t ∙ ap (λ (n : ℕ). n + length t) (length-take-le at o (omega (arith, h)))
     in
     let joined : p ++ (t ++ d) ≡ p ++ t ++ d = sym (append-assoc p t d) in
-    let before : take (at + length t) (p ++ (t ++ d)) ≡ p ++ t = ap (take (at + length t)) joined ∙ take-at (p ++ t) d (at + length t) front in
+    let before : take (at + length t) (p ++ (t ++ d)) ≡ p ++ t = ap (take (at + length t)) joined ∙
+    take-at (p ++ t) d (at + length t) front in
     let behind : drop far (p ++ (t ++ d)) ≡ drop far o =
     ap (drop far) joined ∙
     ap (λ (n : ℕ). drop (n + length u) (p ++ t ++ d)) (sym front) ∙
@@ -44,7 +45,8 @@ pub put-behind : {o o′ o″ : List ℕ} {at e f : ℕ} {t u : List ℕ} → at
     Put o at t e o′ → Put o′ e u f o″ → Put o at (t ++ u) f o″
 put-behind {o = o} {o′ = o′} {at = at} {e = e} {t = t} {u = u} h x y =
     record {
-      end = y .end ∙ ap (λ (n : ℕ). n + length u) (x .end) ∙ add-assoc at (length t) (length u) ∙ ap (λ (n : ℕ). at + n) (sym (length-append t u));
+      end = y .end ∙ ap (λ (n : ℕ). n + length u) (x .end) ∙ add-assoc at (length t) (length u) ∙
+          ap (λ (n : ℕ). at + n) (sym (length-append t u));
       output =
           y .output ∙
           ap (λ (l : List ℕ). laid l e u) (x .output) ∙
@@ -76,7 +78,8 @@ copied-in o at t ys h e =
     ap (drop (length t)) part ∙ drop-drop (length t) at o
     in
     ap (λ (x : List ℕ). take at o ++ (ys ++ x)) none ∙
-    ap (λ (x : List ℕ). take at o ++ x) (append-nil ys ∙ e ∙ ap (λ (x : List ℕ). x ++ drop (length t) (take (length o - at) (drop at o))) (take-length t)) ∙
+    ap (λ (x : List ℕ). take at o ++ x) (append-nil ys ∙ e ∙ ap (λ (x : List ℕ). x ++ drop (length t) (take (length o - at) (drop at o)))
+    (take-length t)) ∙
     ap (λ (x : List ℕ). take at o ++ (t ++ x)) behind
 
 pub put-length : {o o′ t : List ℕ} {at e : ℕ} → at + length t ≤ length o → Put o at t e o′ → length o′ ≡ length o

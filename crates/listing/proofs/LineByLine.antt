@@ -12,7 +12,8 @@ use borrow.Author.Tests.{eqb-true, eqb-false, ne-eqb, eq-eqb, ltb-true, ltb-fals
 use Rattle.words.proofs.Choices.{either-way, both-true, both-false, less-or-not}
 use Rattle.port_spec.specs.Sequences.{Machine, after, answer-of}
 use Rattle.port_spec.specs.declared.Access.{Access}
-use Rattle.listing.specs.Line.{Line, good, bad, headed, tailed, read-in, write-in, line-of, before-feed, has-feed, with-length, front-line}
+use Rattle.listing.specs.Line.{Line, good, bad, headed, tailed, read-in, write-in, line-of, before-feed, has-feed, with-length}
+use Rattle.listing.specs.Line.{front-line}
 use Rattle.listing.specs.Answer.{answer-text}
 use Rattle.listing.specs.Listing.{Listing, stopped, line-ends, next, listing}
 use Rattle.listing.specs.Pieces.{No-feed}
@@ -147,7 +148,8 @@ fronts t = go (either-way (has-feed t)) (either-way (ltb 31 (length t))) (line-o
   where
     go : (has-feed t ≡ true) ⊎ (has-feed t ≡ false) → (ltb 31 (length t) ≡ true) ⊎ (ltb 31 (length t) ≡ false) →
         (l : Line) → line-of (before-feed t) ≡ l →
-        Fronts t (cond (has-feed t) (with-length (length (before-feed t) + 1) (line-of (before-feed t))) (cond (ltb 31 (length t)) Bad Open))
+        Fronts t (cond (has-feed t) (with-length (length (before-feed t) + 1) (line-of (before-feed t)))
+        (cond (ltb 31 (length t)) Bad Open))
     go (inl e) k (good a) f =
         let p = split-feed t e in
         rw (e, f) (record { line = before-feed t; rest = p .rest; is = p .is; none = none-before t; says = f; size = refl })
@@ -170,7 +172,8 @@ good-length u = go (either-way (eqb (length u) 5 && headed 82 u)) (either-way (e
   where
     go : (eqb (length u) 5 && headed 82 u ≡ true) ⊎ (eqb (length u) 5 && headed 82 u ≡ false) →
         (eqb (length u) 10 && (headed 87 u && tailed u) ≡ true) ⊎ (eqb (length u) 10 && (headed 87 u && tailed u) ≡ false) →
-        is-good (cond (eqb (length u) 5 && headed 82 u) (good (read-in u)) (cond (eqb (length u) 10 && (headed 87 u && tailed u)) (good (write-in u)) bad)) ≡ true →
+        is-good (cond (eqb (length u) 5 && headed 82 u) (good (read-in u))
+        (cond (eqb (length u) 10 && (headed 87 u && tailed u)) (good (write-in u)) bad)) ≡ true →
         (5 ≤ length u) × (length u ≤ 10)
     go (inl e) k h =
         let five = eqb-true (length u) 5 (both-true (eqb (length u) 5) (headed 82 u) e .0) in

@@ -58,7 +58,8 @@ module _ {r₀ r : Registers} {m₀ input out₀ m out : List ℕ} {used wrote :
   good-lies {a = a} {n = n} e =
       let g = front-is e in
       let short = good-size (g .line) a (g .says) in
-      let all : length (drop used input) ≡ length (g .line) + suc (length (g .rest)) = ap length (g .is) ∙ length-append (g .line) (10 ∷ g .rest) in
+      let all : length (drop used input) ≡ length (g .line) + suc (length (g .rest)) = ap length (g .is) ∙
+      length-append (g .line) (10 ∷ g .rest) in
       let here = length-drop used input in
       (omega (arith, short .0, g .size), omega (arith, all, here, g .size, k .most, short .0))
 
@@ -157,7 +158,8 @@ module _ {r₀ r : Registers} {m₀ input out₀ m out : List ℕ} {used wrote :
       leaves (drop used input) (k .come ∙ never-ends (machine r m) (k .text) used (drop used input) (p .0) (p .1))
 
   -- and the input's end.
-  pub ends-even : length input ≤ used → ListedLines r₀ m₀ input out₀ (record { registers = r; used = used; wrote = wrote; ended = false }) m out
+  pub ends-even : length input ≤ used →
+      ListedLines r₀ m₀ input out₀ (record { registers = r; used = used; wrote = wrote; ended = false }) m out
   unfolding listing
   ends-even h = leaves [] (k .come ∙ ap (listing (between (machine r m) (k .text) used)) (drop-of-length-le input h))
 

@@ -36,10 +36,11 @@ pub record Put (out : List ℕ) (at : ℕ) (text : List ℕ) (e : ℕ) (out′ :
   pub end : e ≡ at + length text
   pub output : out′ ≡ laid out at text
 
-pub record AnsweredLine (r : Registers) (m : List ℕ) (a : Access) (out : List ℕ) (wrote : ℕ) (o : Answered) (m′ out′ : List ℕ) : Type 0 where
-  pub registers : o .registers ≡ access r m a .registers
-  pub memory : m′ ≡ access-memory r m a
-  pub text : Put out wrote (answer-text a (access r m a .answer)) (o .wrote) out′
+pub record AnsweredLine (r : Registers) (m : List ℕ) (a : Access) (out : List ℕ) (wrote : ℕ) (o : Answered) (m′ out′ : List ℕ) : Type 0
+  where
+    pub registers : o .registers ≡ access r m a .registers
+    pub memory : m′ ≡ access-memory r m a
+    pub text : Put out wrote (answer-text a (access r m a .answer)) (o .wrote) out′
 
 pub record ListedLines (r : Registers) (m input out : List ℕ) (o : Listed) (m′ out′ : List ℕ) : Type 0 where
   pub outcome : o ≡ listed (listing (start (record { registers = r; memory = m })) input)

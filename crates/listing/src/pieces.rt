@@ -39,7 +39,8 @@ fn answer_line(
 // The lines of an input whose answers have room.
 fn list_lines(r: Registers, memory: &mut [u16], input: &[u8], output: &mut [u8]) -> Listed
     requires { ⌜ 10 * length (now input) ≤ 3 * (length (now output) - 9) ⌝ }
-    ensures { λ o. ⌜ ListedLines r (now (memory .entry)) (now (input .entry)) (now (output .entry)) o (now (memory .exit)) (now (output .exit)) ⌝ }
+    ensures { λ o. ⌜ ListedLines r (now (memory .entry)) (now (input .entry)) (now (output .entry)) o (now (memory .exit))
+        (now (output .exit)) ⌝ }
 {
     let mut registers = r;
     let mut used = 0;
@@ -94,7 +95,8 @@ fn count_fitting(bytes: usize, room: usize) -> usize
 
 // The whole lines of a piece of input, as far as their answers fit the output.
 pub fn list_piece(r: Registers, memory: &mut [u16], input: &[u8], output: &mut [u8]) -> Listed
-    ensures { λ o. ⌜ ListedPiece r (now (memory .entry)) (now (input .entry)) (now (output .entry)) o (now (memory .exit)) (now (output .exit)) ⌝ }
+    ensures { λ o. ⌜ ListedPiece r (now (memory .entry)) (now (input .entry)) (now (output .entry)) o (now (memory .exit))
+        (now (output .exit)) ⌝ }
 {
     let n = count_fitting(input.len(), output.len());
     list_lines(r, memory, &input[..n], output)

@@ -15,7 +15,8 @@ use Rattle.words.proofs.Choices.{either-way}
 use Rattle.control.specs.Control.{lbl, first-lane, last-lane}
 use Rattle.port_spec.specs.Cycle.{carried, memory-after}
 use Rattle.port_spec.specs.Host.{begin-access, refusal, number-for, refused, finished, done}
-use Rattle.port_spec.specs.Sequences.{Machine, answer-of, after, Sixteen, load, save, on, opening, closing, between, together, answers, ends, byte-answers, byte-ends}
+use Rattle.port_spec.specs.Sequences.{Machine, answer-of, after, Sixteen, load, save, on, opening, closing, between, together}
+use Rattle.port_spec.specs.Sequences.{answers, ends, byte-answers, byte-ends}
 use Rattle.port_spec.specs.declared.Access.{Access}
 use Rattle.port_spec.specs.declared.Cycle.the-variants.{None}
 use Rattle.port_spec.specs.declared.Begun.{Begun}
@@ -111,7 +112,11 @@ module _ (s : Machine) (a : Sixteen) where
     unfolding answer-of
     whole-answer = ap (λ (o : Outcome). o .answer) (taken (s .registers) m (on 3 a) z)
 
-    last-end : after (between s a) (closing s a) ≡ record { registers = done b₂ m .registers; memory = memory-after (b₂ .registers) (b₂ .due) m }
+    last-end : after (between s a) (closing s a) ≡ record {
+      registers = done b₂ m .registers;
+      memory = memory-after (b₂ .registers)
+          (b₂ .due) m;
+    }
     unfolding after
     last-end =
         let z₂ = number-last ∙ z in
@@ -141,7 +146,8 @@ module _ (s : Machine) (a : Sixteen) where
         let n′ : number-for m x ≢ 0 = λ z. n (sym e ∙ z) in
         rw (barred (s .registers) m x n′, barred-memory (s .registers) m x n′)
 
-    refusing : (x : Access) → number-for m x ≡ number-for m (on 3 a) → answer-of s x ≡ refused (number-for m (on 3 a)) (s .registers) .answer
+    refusing : (x : Access) → number-for m x ≡ number-for m (on 3 a) →
+        answer-of s x ≡ refused (number-for m (on 3 a)) (s .registers) .answer
     unfolding answer-of
     refusing x e = ap (λ (o : Outcome). o .answer) (barred (s .registers) m x (λ z. n (sym e ∙ z))) ∙ rw e
 

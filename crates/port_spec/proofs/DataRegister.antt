@@ -37,18 +37,22 @@ module _ (r : Registers) (m : List ℕ) where
 
   module _ (lanes w : ℕ) (n : access r m (Write 2 lanes w) .answer .number ≡ 0) where
     -- "the whole of HSTDATA is stored at the pointer": with the written bytes in it, and at the pointer as it stood before any step.
-    pub write-stores : closes c lanes ≡ true → access-memory r m (Write 2 lanes w) ≡ store-at m (word-at (r .pointer)) (replaced lanes (r .latch) w)
+    pub write-stores : closes c lanes ≡ true →
+        access-memory r m (Write 2 lanes w) ≡ store-at m (word-at (r .pointer)) (replaced lanes (r .latch) w)
     unfolding begin-access write-due written memory-after
     write-stores e = as-done-memory r m (Write 2 lanes w) n ∙ rw e
 
     -- "the hollow mark clears, then with INCW 1 the pointer gains 16", wherever the pointer was: the registers after that store
     -- have HSTDATA as written, held, and the pointer stepped where INCW is set.
-    pub write-steps : closes c lanes ≡ true → access r m (Write 2 lanes w) .registers ≡ after-storing r (replaced lanes (r .latch) w) (incw c)
+    pub write-steps : closes c lanes ≡ true →
+        access r m (Write 2 lanes w) .registers ≡ after-storing r (replaced lanes (r .latch) w) (incw c)
     unfolding begin-access write-due written
-    write-steps e = left-by r m (Write 2 lanes w) n ∙ rw e (store-leaves (with-latch r (replaced lanes (r .latch) w) (r .hollow)) m (incw c))
+    write-steps e = left-by r m (Write 2 lanes w) n ∙
+        rw e (store-leaves (with-latch r (replaced lanes (r .latch) w) (r .hollow)) m (incw c))
 
     -- A byte that does not close the word is laid into HSTDATA; the mark and the other registers stay.
-    pub write-open : closes c lanes ≡ false → access r m (Write 2 lanes w) .registers ≡ with-latch r (replaced lanes (r .latch) w) (r .hollow)
+    pub write-open : closes c lanes ≡ false →
+        access r m (Write 2 lanes w) .registers ≡ with-latch r (replaced lanes (r .latch) w) (r .hollow)
     unfolding begin-access write-due written carried
     write-open e = left-by r m (Write 2 lanes w) n ∙ rw e
 
@@ -63,12 +67,14 @@ module _ (r : Registers) (m : List ℕ) where
       go false u s = refl
 
   -- "The pointer gains 16 modulo 2^32: after FFFFFFF0h comes 0": before a fetch.
-  pub read-wraps : (lanes : ℕ) → access r m (Read 2 lanes) .answer .number ≡ 0 → closes c lanes ≡ true → incr c ≡ true → r .pointer ≡ address 0xfffffff0 →
+  pub read-wraps : (lanes : ℕ) → access r m (Read 2 lanes) .answer .number ≡ 0 → closes c lanes ≡ true → incr c ≡ true →
+      r .pointer ≡ address 0xfffffff0 →
       access r m (Read 2 lanes) .registers ≡ standing m c (address 0)
   read-wraps lanes n e i p = read-fetches lanes n e ∙ rw (i, p)
 
   -- And after a store.
-  pub write-wraps : (lanes w : ℕ) → access r m (Write 2 lanes w) .answer .number ≡ 0 → closes c lanes ≡ true → incw c ≡ true → r .pointer ≡ address 0xfffffff0 →
+  pub write-wraps : (lanes w : ℕ) → access r m (Write 2 lanes w) .answer .number ≡ 0 → closes c lanes ≡ true → incw c ≡ true →
+      r .pointer ≡ address 0xfffffff0 →
       access r m (Write 2 lanes w) .registers .pointer ≡ address 0
   write-wraps lanes w n e i p = ap (λ (q : Registers). q .pointer) (write-steps lanes w n e) ∙ rw (i, p)
 
@@ -76,6 +82,7 @@ module _ (r : Registers) (m : List ℕ) where
   -- HSTDATA is read back as it was written, held, on whatever lanes and whatever memory holds, also where the store was dropped.
   pub written-read-back : (lanes w : ℕ) → access r m (Write 2 lanes w) .answer .number ≡ 0 → closes c lanes ≡ true →
       (m′ : List ℕ) (lanes′ : ℕ) → access (access r m (Write 2 lanes w) .registers) m′ (Read 2 lanes′) .answer .number ≡ 0 →
-      Says (access (access r m (Write 2 lanes w) .registers) m′ (Read 2 lanes′) .answer) lanes′ (record { word = replaced lanes (r .latch) w; hollow = false })
+      Says (access (access r m (Write 2 lanes w) .registers) m′ (Read 2 lanes′) .answer) lanes′
+      (record { word = replaced lanes (r .latch) w; hollow = false })
   written-read-back lanes w n e m′ lanes′ n′ =
       says (access r m (Write 2 lanes w) .registers) m′ lanes′ n′ (ap content (write-steps lanes w n e))

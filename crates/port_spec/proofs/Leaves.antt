@@ -18,7 +18,8 @@ abbrev pub after-storing : Registers → ℕ → Bool → Registers
 after-storing r w s = record { pointer = stepped-from s (r .pointer); latch = w; control = r .control; hollow = false }
 
 -- A fetch leaves the registers standing at its address, stepped to or not.
-pub fetch-leaves : (r : Registers) (m : List ℕ) (s : Bool) → carried r (Fetch s) m .registers ≡ standing m (r .control) (stepped-from s (r .pointer))
+pub fetch-leaves : (r : Registers) (m : List ℕ) (s : Bool) →
+    carried r (Fetch s) m .registers ≡ standing m (r .control) (stepped-from s (r .pointer))
 unfolding carried after-fetch stepped fetch-at standing
 fetch-leaves r m s = refl
 

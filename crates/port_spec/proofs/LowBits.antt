@@ -127,7 +127,8 @@ module _ (r : Registers) (m : List ℕ) (a b : BitAddress) (e : word-at a ≡ wo
       pointers true = same .next
       pointers false = e
 
-      memories : (t : Bool) → cond t (memory-after (at a .registers) (at a .due) m) m ≡ cond t (memory-after (at b .registers) (at b .due) m) m
+      memories : (t : Bool) → cond t (memory-after (at a .registers) (at a .due) m) m ≡ cond t
+          (memory-after (at b .registers) (at b .due) m) m
       memories true = rw (h .due) (memory-by-word m (at a .registers) (at b .registers) (h .aim) (h .data-left) (at b .due))
       memories false = refl
 
@@ -135,9 +136,11 @@ module _ (r : Registers) (m : List ℕ) (a b : BitAddress) (e : word-at a ≡ wo
   -- A read of HSTDATA does not use the low bits.
   pub read-low-bits-unused : (lanes : ℕ) → Unused r m a b (Read 2 lanes)
   unfolding begin-access register-word
-  read-low-bits-unused lanes = unused r m a b e (Read 2 lanes) (record { word = refl; hollow = refl; data-left = refl; due = refl; aim = e })
+  read-low-bits-unused lanes = unused r m a b e (Read 2 lanes)
+      (record { word = refl; hollow = refl; data-left = refl; due = refl; aim = e })
 
   -- Nor does a write of it.
   pub write-low-bits-unused : (lanes w : ℕ) → Unused r m a b (Write 2 lanes w)
   unfolding begin-access written
-  write-low-bits-unused lanes w = unused r m a b e (Write 2 lanes w) (record { word = refl; hollow = refl; data-left = refl; due = refl; aim = e })
+  write-low-bits-unused lanes w = unused r m a b e (Write 2 lanes w)
+      (record { word = refl; hollow = refl; data-left = refl; due = refl; aim = e })

@@ -22,7 +22,8 @@ use Rattle.registers.specs.declared.ProcessorWrite.{ProcessorWrite}
 use Rattle.port_spec.specs.Cycle.{stepped, cycle-of, after-fetch, after-store, carried}
 use Rattle.port_spec.specs.Host.{read-due, write-due, begin-access, done}
 use Rattle.port_spec.specs.Sequences.{Machine, answer-of, after}
-use Rattle.port_spec.specs.Deeds.{Deed, host, processor, reset, elsewhere, does, Content, content, reads-data, writes-data, has-cycle, word-used, judged, expected, Shows}
+use Rattle.port_spec.specs.Deeds.{Deed, host, processor, reset, elsewhere, does, Content, content, reads-data, writes-data, has-cycle}
+use Rattle.port_spec.specs.Deeds.{word-used, judged, expected, Shows}
 use Rattle.port_spec.specs.declared.Access.{Access}
 use Rattle.port_spec.specs.declared.Access.the-variants.{Read, Write}
 use Rattle.port_spec.specs.declared.Due.the-variants.{Nothing, Fetch, Store}
@@ -57,10 +58,12 @@ module _ (r : Registers) (m : List ℕ) where
       go true s = record { cycle = refl; data-left = refl }
       go false s = record { cycle = refl; data-left = refl }
   leaves (Write register lanes w) =
-      go (written r register lanes w) (closes (r .control) lanes) (eqb register 2) (fetches (r .control) register) (incw (r .control)) _ refl
+      go (written r register lanes w) (closes (r .control) lanes) (eqb register 2) (fetches (r .control) register) (incw (r .control)) _
+      refl
     where
       go : (q : Registers) (t b f s u : Bool) → stepped u q .pointer ≡ q .pointer →
-          CycleLeaves q m (t && (b || f)) b (word-at (q .pointer)) (carried q (cond t (cond b (Store s) (cond f (Fetch u) Nothing)) Nothing) m)
+          CycleLeaves q m (t && (b || f)) b (word-at (q .pointer))
+          (carried q (cond t (cond b (Store s) (cond f (Fetch u) Nothing)) Nothing) m)
       go q true true f s u e = record { cycle = refl; data-left = refl }
       go q true false true s u e = record { cycle = rw e; data-left = rw e }
       go q true false false s u e = record { cycle = refl; data-left = refl }

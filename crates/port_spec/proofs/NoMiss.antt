@@ -24,7 +24,8 @@ use Rattle.port_spec.specs.Cycle.{cycle-of}
 use Rattle.port_spec.specs.Host.{begin-access, done, access}
 use Rattle.port_spec.specs.Sequences.{Machine, answer-of}
 use Rattle.port_spec.specs.Deeds.{Deed, woken, does, ran, Content, content, Says, writes-data, has-cycle, ahead, word-used, Agree}
-use Rattle.port_spec.specs.Origin.{Origin, unset, missed, memory, by-processor, laid, stored, value, is-held, as-content, story, Came, from-memory, from-processor, from-host, under-bytes}
+use Rattle.port_spec.specs.Origin.{Origin, unset, missed, memory, by-processor, laid, stored, value, is-held, as-content, story, Came}
+use Rattle.port_spec.specs.Origin.{from-memory, from-processor, from-host, under-bytes}
 use Rattle.port_spec.specs.declared.Access.{Access}
 use Rattle.port_spec.specs.declared.Access.the-variants.{Read}
 use Rattle.port_spec.specs.declared.Cycle.{Cycle}

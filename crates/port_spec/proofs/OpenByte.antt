@@ -48,7 +48,8 @@ open-calls-none r (Read k lanes) e = rw e (go (eqb k 2) _)
 open-calls-none r (Write k lanes w) e = rw e
 
 -- "Starting the cycle on the first byte" is a mistake: an access without the closing byte has no cycle.
-pub open-has-no-cycle : (r : Registers) (m : List ℕ) (a : Access) → closes (r .control) (lanes-of a) ≡ false → access r m a .answer .cycle ≡ None
+pub open-has-no-cycle : (r : Registers) (m : List ℕ) (a : Access) → closes (r .control) (lanes-of a) ≡ false →
+    access r m a .answer .cycle ≡ None
 open-has-no-cycle r m a e = uncalled-cycle r m a (open-calls-none r a e)
 
 -- And it leaves the memory.

@@ -12,19 +12,23 @@ use Rattle.words.specs.declared.WordNumber.{WordNumber}
 use Rattle.registers.specs.declared.Registers.{Registers}
 use Rattle.port_spec.specs.Host.{begin-access, number-for, refused, done, access}
 use Rattle.port_spec.specs.Sequences.{Machine, after}
-use Rattle.port_spec.specs.Deeds.{Deed, host, processor, reset, elsewhere, does, ran, Content, content, writes-data, has-cycle, word-used}
-use Rattle.port_spec.specs.Origin.{Origin, missed, memory, by-processor, laid, stored, value, is-held, as-content, landed, looked, story-after, story}
+use Rattle.port_spec.specs.Deeds.{Deed, host, processor, reset, elsewhere, does, ran, Content, content, writes-data, has-cycle}
+use Rattle.port_spec.specs.Deeds.{word-used}
+use Rattle.port_spec.specs.Origin.{Origin, missed, memory, by-processor, laid, stored, value, is-held, as-content, landed, looked}
+use Rattle.port_spec.specs.Origin.{story-after, story}
 use Rattle.port_spec.specs.declared.Access.{Access}
 use Rattle.port_spec.specs.declared.Access.the-variants.{Read, Write}
 use Rattle.port_spec.proofs.Marks.{found, kept, leaves, data-begun, data-put}
 
 -- ---- the host
-landed-told : (r : Registers) (a : Access) (o : Origin) → content r ≡ as-content o → content (begin-access r a .registers) ≡ as-content (landed a o)
+landed-told : (r : Registers) (a : Access) (o : Origin) → content r ≡ as-content o →
+    content (begin-access r a .registers) ≡ as-content (landed a o)
 unfolding begin-access landed value is-held
 landed-told r (Read register lanes) o k = k
 landed-told r (Write register lanes w) o k = data-begun r (Write register lanes w) ∙ go (eqb register 2)
   where
-    go : (t : Bool) → record { word = cond t (replaced lanes (r .latch) w) (r .latch); hollow = r .hollow } ≡ as-content (cond t (laid lanes w o) o)
+    go : (t : Bool) → record { word = cond t (replaced lanes (r .latch) w) (r .latch); hollow = r .hollow } ≡ as-content
+        (cond t (laid lanes w o) o)
     go true = ap (λ (c : Content). record { word = replaced lanes (c .word) w; hollow = c .hollow }) k
     go false = k
 
@@ -32,7 +36,8 @@ looked-told : (m : List ℕ) (n : WordNumber) → found m n ≡ as-content (look
 unfolding looked value is-held fetch-at
 looked-told m n = go (in-memory m n)
   where
-    go : (t : Bool) → record { word = cond t (getD m (n .0) 0) 0xffff; hollow = not t } ≡ as-content (cond t (memory n (getD m (n .0) 0)) missed)
+    go : (t : Bool) → record { word = cond t (getD m (n .0) 0) 0xffff; hollow = not t } ≡ as-content
+        (cond t (memory n (getD m (n .0) 0)) missed)
     go true = refl
     go false = refl
 
@@ -44,7 +49,8 @@ cycle-told r m n o k true false = looked-told m n
 cycle-told r m n o k false stores = k
 
 -- ---- one deed
-deed-told : (s : Machine) (d : Deed) (o : Origin) → content (s .registers) ≡ as-content o → content (does s d .registers) ≡ as-content (story-after s d o)
+deed-told : (s : Machine) (d : Deed) (o : Origin) → content (s .registers) ≡ as-content o →
+    content (does s d .registers) ≡ as-content (story-after s d o)
 unfolding does after access done story-after value is-held
 deed-told s (host a) o k = go (eqb (number-for (s .memory) a) 0)
   where
@@ -72,7 +78,8 @@ deed-told s (elsewhere m) o k = k
 -- ---- any run of deeds
 
 -- After any run of deeds HSTDATA is the word of its story, hollow as the story has it.
-pub run-told : (s : Machine) (l : List Deed) (o : Origin) → content (s .registers) ≡ as-content o → content (ran s l .registers) ≡ as-content (story s l o)
+pub run-told : (s : Machine) (l : List Deed) (o : Origin) → content (s .registers) ≡ as-content o →
+    content (ran s l .registers) ≡ as-content (story s l o)
 unfolding ran story
 run-told s [] o k = k
 run-told s (d ∷ rest) o k = run-told (does s d) rest (story-after s d o) (deed-told s d o k)

@@ -27,7 +27,8 @@ module _ (r : Registers) (m : List ℕ) where
 
   module _ (k lanes w : ℕ) (h : eqb k 2 ≡ false) (n : access r m (Write k lanes w) .answer .number ≡ 0) where
     -- "memory is fetched at the new pointer. This fetch doesn't increment, whatever INCR says."
-    pub load-fetches : closes c lanes ≡ true → fetches c k ≡ true → access r m (Write k lanes w) .registers ≡ standing m (written r k lanes w .control) (written r k lanes w .pointer)
+    pub load-fetches : closes c lanes ≡ true → fetches c k ≡ true →
+        access r m (Write k lanes w) .registers ≡ standing m (written r k lanes w .control) (written r k lanes w .pointer)
     unfolding begin-access write-due
     load-fetches e f = left-by r m (Write k lanes w) n ∙ rw (e, h, f) (fetch-leaves (written r k lanes w) m false)
 

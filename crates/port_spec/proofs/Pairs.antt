@@ -50,7 +50,11 @@ module _ (b : Bool) (a : BitAddress) (w : ℕ) where
   unfolding half-written
   high-both =
       let p = replaced-word (cond b 2 1) (high-half a) w in
-      rw (low-of-halves (low-half a) (replaced (cond b 2 1) (high-half a) w) (omega arith), high-of-halves (low-half a) _ (omega arith) p, replaced-both b (high-half a) w)
+      rw (
+        low-of-halves (low-half a) (replaced (cond b 2 1) (high-half a) w) (omega arith),
+        high-of-halves (low-half a) _ (omega arith) p,
+        replaced-both b (high-half a) w,
+      )
 
 -- ---- the control register, which takes what is none of the first three
 module _ (k : ℕ) (h : 2 < k) where

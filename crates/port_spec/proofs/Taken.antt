@@ -49,7 +49,8 @@ module _ (r : Registers) (m : List ℕ) (a : Access) where
   unfolding access done
   number-is = go (eqb (number-for m a) 0) refl
     where
-      go : (t : Bool) → eqb (number-for m a) 0 ≡ t → cond t (done (begin-access r a) m) (refused (number-for m a) r) .answer .number ≡ number-for m a
+      go : (t : Bool) → eqb (number-for m a) 0 ≡ t →
+          cond t (done (begin-access r a) m) (refused (number-for m a) r) .answer .number ≡ number-for m a
       go true e = sym (eqb-true _ _ e)
       go false e = refl
 
@@ -58,5 +59,6 @@ module _ (r : Registers) (m : List ℕ) (a : Access) where
   as-done n = taken (sym number-is ∙ n)
 
   -- So the memory is what its cycle left.
-  pub as-done-memory : access r m a .answer .number ≡ 0 → access-memory r m a ≡ memory-after (begin-access r a .registers) (begin-access r a .due) m
+  pub as-done-memory : access r m a .answer .number ≡ 0 →
+      access-memory r m a ≡ memory-after (begin-access r a .registers) (begin-access r a .due) m
   as-done-memory n = taken-memory (sym number-is ∙ n)

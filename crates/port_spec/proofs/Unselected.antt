@@ -14,6 +14,7 @@ module _ (lanes v w : ℕ) (e : AgreeOn lanes v w) where
 
   -- An unselected byte of the written word changes neither the outcome nor the memory, whatever the register, done or refused.
   pub unselected-ignored : (r : Registers) (m : List ℕ) (k : ℕ) →
-      (access r m (Write k lanes v) ≡ access r m (Write k lanes w)) × (access-memory r m (Write k lanes v) ≡ access-memory r m (Write k lanes w))
+      (access r m (Write k lanes v) ≡ access r m (Write k lanes w)) ×
+      (access-memory r m (Write k lanes v) ≡ access-memory r m (Write k lanes w))
   unfolding access access-memory
   unselected-ignored r m k = (rw (begun-alike r k), rw (begun-alike r k))

@@ -18,7 +18,8 @@ use Rattle.port_spec.specs.Cycle.{stepped, cycle-of, after-fetch, after-
 use Rattle.port_spec.specs.Host.{read-due, write-due, begin-access, refusal, number-for, done, access, access-memory}
 use Rattle.port_spec.specs.Sequences.{Machine, answer-of, after}
 use Rattle.port_spec.specs.Deeds.{Deed, host, processor, reset, elsewhere, woken, does, ran, writes-data, has-cycle, word-used}
-use Rattle.port_spec.specs.Origin.{Origin, unset, missed, memory, by-processor, laid, stored, value, is-held, landed, looked, story-after, story, real, BothReal, Real, Whole, All-whole}
+use Rattle.port_spec.specs.Origin.{Origin, unset, missed, memory, by-processor, laid, stored, value, is-held, landed, looked}
+use Rattle.port_spec.specs.Origin.{story-after, story, real, BothReal, Real, Whole, All-whole}
 use Rattle.port_spec.specs.declared.Access.{Access}
 use Rattle.port_spec.specs.declared.Access.the-variants.{Read, Write}
 use Rattle.port_spec.specs.declared.Cycle.the-variants.{Empty}

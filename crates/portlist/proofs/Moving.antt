@@ -6,7 +6,8 @@ use native.Mathlib.Omega.{arith}
 use mathlib.Core.Path.{_≡_, sym, ap, _∙_}
 use mathlib.Core.List.{List, _∷_, _++_}
 use lib.ListN.{length, getD, take, drop, set}
-use lib.Seq.{slice, length-slice, length-take-le, take-suc, drop-cons, append-snoc, set-at, getD-take, getD-drop, getD-append-add, take-all, take-at}
+use lib.Seq.{slice, length-slice, length-take-le, take-suc, drop-cons, append-snoc, set-at, getD-take, getD-drop, getD-append-add, take-all}
+use lib.Seq.{take-at}
 use Rattle.portlist.specs.Turning.{moved}
 
 -- the first i bytes moved
@@ -29,7 +30,8 @@ module _ (s : List ℕ) (from to : ℕ) (h : from ≤ to) (k : to ≤ length s) 
       sym (getD-drop from (take to s) i 0 ∙ getD-take to s (from + i) 0 (omega (arith, m, h)))
 
   -- It is moved.
-  pub one-moved : (i : ℕ) → i < to - from → set (part-moved s from to i) i (getD (part-moved s from to i) (from + i) 0) ≡ part-moved s from to (i + 1)
+  pub one-moved : (i : ℕ) → i < to - from →
+      set (part-moved s from to i) i (getD (part-moved s from to i) (from + i) 0) ≡ part-moved s from to (i + 1)
   one-moved i m =
       let sl : List ℕ = slice from to s in
       let p : List ℕ = take i sl in

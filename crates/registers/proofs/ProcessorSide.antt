@@ -11,7 +11,8 @@ use borrow.Author.Tests.{ltb-true, ltb-false, le-ltb}
 use Rattle.words.specs.Bytes.{lo, hi, takes-low, takes-high, lay}
 use Rattle.words.proofs.Lanes.{replaced-whole}
 use Rattle.control.specs.Control.{bare, processor-low, control-laid}
-use Rattle.registers.specs.Registers.{low-half, high-half, halves, with-pointer, with-latch, with-control, register-word, half-written, written}
+use Rattle.registers.specs.Registers.{low-half, high-half, halves, with-pointer, with-latch, with-control, register-word}
+use Rattle.registers.specs.Registers.{half-written, written}
 use Rattle.registers.specs.Processor.{processor-word, processor-written, processor-reads, processor-writes}
 use Rattle.registers.specs.declared.Registers.{Registers}
 use Rattle.registers.specs.declared.ProcessorRead.{ProcessorRead}
@@ -52,7 +53,8 @@ pub write-says : (r : Registers) (k w : ℕ) → WriteSays r k (processor-writes
 unfolding processor-writes
 write-says r k w = go (ltb 4 k) refl
   where
-    go : (t : Bool) → ltb 4 k ≡ t → WriteSays r k (cond t (record { number = 2; registers = r }) (record { number = 0; registers = processor-written r k w }))
+    go : (t : Bool) → ltb 4 k ≡ t →
+        WriteSays r k (cond t (record { number = 2; registers = r }) (record { number = 0; registers = processor-written r k w }))
     go true e = record { number = away k (ltb-true 4 k e); refused = λ _. refl }
     go false e = record { number = served k (ltb-false 4 k e); refused = λ n. absurd (n refl) }
 
@@ -99,7 +101,8 @@ unfolding processor-writes processor-written
 pointer-stays r k w h = rw (le-ltb k 2 (omega arith)) (go (ltb 4 k) (eqb k 2) (eqb k 3) _ _ _ refl refl refl)
   where
     go : (s t u : Bool) (x y z : Registers) → x .pointer ≡ r .pointer → y .pointer ≡ r .pointer → z .pointer ≡ r .pointer →
-        cond {A = ProcessorWrite} s (record { number = 2; registers = r }) (record { number = 0; registers = cond t x (cond u y z) }) .registers .pointer ≡ r .pointer
+        cond {A = ProcessorWrite} s (record { number = 2; registers = r })
+        (record { number = 0; registers = cond t x (cond u y z) }) .registers .pointer ≡ r .pointer
     go true t u x y z e f g = refl
     go false true u x y z e f g = e
     go false false true x y z e f g = f

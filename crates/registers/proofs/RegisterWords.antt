@@ -7,7 +7,8 @@ use mathlib.Core.Path.{_≡_, refl}
 use Rattle.words.specs.Bytes.{replaced}
 use Rattle.words.proofs.Lanes.{replaced-word}
 use Rattle.control.specs.Control.{bare, host-low, control-laid}
-use Rattle.registers.specs.Registers.{low-half, high-half, halves, with-pointer, with-latch, with-control, register-word, half-written, written}
+use Rattle.registers.specs.Registers.{low-half, high-half, halves, with-pointer, with-latch, with-control, register-word}
+use Rattle.registers.specs.Registers.{half-written, written}
 use Rattle.registers.specs.declared.Registers.{Registers}
 
 -- "0 HSTADRL, low half of the pointer; 1 HSTADRH, high half; 2 HSTDATA; 3 HSTCTL", and bit 10 "reads as 0"

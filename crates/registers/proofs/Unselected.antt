@@ -19,7 +19,8 @@ chosen : (t : Bool) (x y old : ℕ) → (t ≡ true → x ≡ y) → cond t x ol
 chosen true x y old e = e refl
 chosen false x y old e = refl
 
-laid-alike : (lanes old l l′ h h′ : ℕ) → (takes-low lanes ≡ true → l ≡ l′) → (takes-high lanes ≡ true → h ≡ h′) → lay lanes old l h ≡ lay lanes old l′ h′
+laid-alike : (lanes old l l′ h h′ : ℕ) → (takes-low lanes ≡ true → l ≡ l′) → (takes-high lanes ≡ true → h ≡ h′) →
+    lay lanes old l h ≡ lay lanes old l′ h′
 unfolding lay
 laid-alike lanes old l l′ h h′ p q = rw (chosen (takes-low lanes) l l′ (lo old) p, chosen (takes-high lanes) h h′ (hi old) q)
 

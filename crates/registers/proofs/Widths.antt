@@ -67,7 +67,8 @@ module _ (r : Registers) (k w : ℕ) where
   unfolding processor-writes
   either P p q = go (ltb 4 k)
     where
-      go : (t : Bool) → P (cond {A = ProcessorWrite} t (record { number = 2; registers = r }) (record { number = 0; registers = processor-written r k w }) .registers)
+      go : (t : Bool) → P (cond {A = ProcessorWrite} t (record { number = 2; registers = r })
+          (record { number = 0; registers = processor-written r k w }) .registers)
       go true = p
       go false = q
 

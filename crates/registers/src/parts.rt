@@ -1,6 +1,7 @@
 // The register record: one part of it replaced, a register read, a register written.
 ghost use mathlib.Core.Path.{_≡_};
-ghost use Rattle.registers.specs.Registers.{low-half, high-half, halves, with-pointer, with-latch, with-control, register-word, half-written, written};
+ghost use Rattle.registers.specs.Registers.{low-half, high-half, halves, with-pointer, with-latch, with-control, register-word};
+ghost use Rattle.registers.specs.Registers.{half-written, written};
 use crate::Registers;
 use control::hide_bit_10;
 use words::BitAddress;

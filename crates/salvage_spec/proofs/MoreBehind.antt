@@ -65,7 +65,8 @@ module _ (u v : List ℕ) (l : 4 ≤ length u) (n : ℕ) (b : BadRecord (u ++ v)
         held =
             ap (λ (k : ℕ). cond (may-go-on k) (take 4 (rest (u ++ v))) []) (x .refusal ∙ sym (y .refusal)) ∙
             ap (λ (t : List ℕ). cond (may-go-on (refusal-read (h ++ v))) t [])
-            (ap (take 4) (x .left) ∙ take-append-le 4 u v l ∙ sym (take-take 4 4 u (omega arith)) ∙ sym (take-append-le 4 h v (omega arith)) ∙
+            (ap (take 4) (x .left) ∙ take-append-le 4 u v l ∙ sym (take-take 4 4 u (omega arith)) ∙ sym (take-append-le 4 h v (omega arith))
+            ∙
             sym (ap (take 4) (y .left)));
       }
     where

@@ -100,7 +100,8 @@ module _ {s out : List ℕ} {o : Salvaged} {out′ : List ℕ} (p : SalvagedTran
   pub as-the-writer : AreBytes s → written s o out′ ≡ transcript-of (entries-read s)
   as-the-writer b =
       let parted : AreBytes (written s o out′ ++ drop (length s - o .left) s) = λ i. rw (sym front) (b i) in
-      sound-is (written s o out′) (entries-read s) (bytes-first (written s o out′) (drop (length s - o .left) s) parted) (written-sound .0) .1
+      sound-is (written s o out′) (entries-read s) (bytes-first (written s o out′) (drop (length s - o .left) s) parted)
+      (written-sound .0) .1
 
   -- No front of the string that is sound is longer.
   pub none-longer : (t v : List ℕ) {es : List Entry} → s ≡ t ++ v → Sound t es → length t ≤ length s - o .left
@@ -127,7 +128,10 @@ module _ {s out : List ℕ} {o : Salvaged} {out′ : List ℕ} (p : SalvagedTran
   pub again : {out₂ out₂′ : List ℕ} {q : Salvaged} → SalvagedTranscript (written s o out′) out₂ q out₂′ →
       length (written s o out′) ≤ length out₂ →
       (q ≡ answer 0 (o .kept) 0 0) × (take (length (written s o out′)) out₂′ ≡ written s o out′)
-  again p₂ room = let x = written-sound in (comes-out p₂ (x .0) room .0 ∙ ap (λ (n : ℕ). answer 0 n 0 0) (x .1), comes-out p₂ (x .0) room .1)
+  again p₂ room = let x = written-sound in (
+    comes-out p₂ (x .0) room .0 ∙ ap (λ (n : ℕ). answer 0 n 0 0) (x .1),
+    comes-out p₂ (x .0) room .1,
+  )
 
 -- It is done exactly if every front of the string that is whole good records fits the bytes that are lent.
 pub done-exactly : {s out : List ℕ} {o : Salvaged} {out′ : List ℕ} → SalvagedTranscript s out o out′ →

@@ -29,7 +29,8 @@ answer n kept left k = record { number = n; kept = kept; left = left; stop = k }
 
 -- "24 when that run doesn't fit the caller's bytes": all parts 0
 pub data SalvagedAs (s : List ℕ) (room : ℕ) : Salvaged → Type 0 where
-  done : {es : List Entry} {t u : List ℕ} {n : ℕ} → Divides s es t u n → length t ≤ room → SalvagedAs s room (answer 0 (length es) (length u) n)
+  done : {es : List Entry} {t u : List ℕ} {n : ℕ} → Divides s es t u n → length t ≤ room →
+      SalvagedAs s room (answer 0 (length es) (length u) n)
   too-small : {es : List Entry} {t u : List ℕ} {n : ℕ} → Divides s es t u n → room < length t → SalvagedAs s room (answer 24 0 0 0)
 
 -- the entries and the bytes that were kept, and the bytes that were left

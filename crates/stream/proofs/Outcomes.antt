@@ -42,25 +42,27 @@ module _ (st : Stream) (s : List ℕ) where
     pub refused-ended : {o : Streamed} → st .ended ≡ true → o ≡ streamed 25 0 0 st → TookDelivery st s l o l
     refused-ended z e = alike (comes-exactly .1 (ended-before z)) e refl
 
-    pub refused-long : {o : Streamed} → st .ended ≡ false → 4294967295 < st .taken + length s → o ≡ streamed 26 0 0 st → TookDelivery st s l o l
+    pub refused-long : {o : Streamed} → st .ended ≡ false → 4294967295 < st .taken + length s → o ≡ streamed 26 0 0 st →
+        TookDelivery st s l o l
     refused-long z h e = alike (comes-exactly .1 (too-long z h)) e refl
 
     -- ---- looked through
-    module _ {f : ScannedOn} (still : st .ended ≡ false) (short : st .taken + length s ≤ 4294967295) (found : f ≡ scanned-on (st .part) s) where
-      entries-found : f .entries ≡ length (heard st s .got)
-      entries-found =
-          ap (λ (x : ScannedOn). x .entries) found ∙ sym (ap (λ (r : Reading). length (r .got)) heard-found)
+    module _ {f : ScannedOn} (still : st .ended ≡ false) (short : st .taken + length s ≤ 4294967295) (found : f ≡ scanned-on (st .part) s)
+      where
+        entries-found : f .entries ≡ length (heard st s .got)
+        entries-found =
+            ap (λ (x : ScannedOn). x .entries) found ∙ sym (ap (λ (r : Reading). length (r .got)) heard-found)
 
-      pub refused-small : {o : Streamed} → size l < f .entries → o ≡ streamed 24 0 0 st → TookDelivery st s l o l
-      refused-small h e = alike (comes-exactly .1 (too-small still short (omega (arith, entries-found)))) e refl
+        pub refused-small : {o : Streamed} → size l < f .entries → o ≡ streamed 24 0 0 st → TookDelivery st s l o l
+        refused-small h e = alike (comes-exactly .1 (too-small still short (omega (arith, entries-found)))) e refl
 
-      pub taken-in : {o : Streamed} {l′ : Lists} → f .entries ≤ size l → l′ ≡ with-each l 0 (read-on (st .part) s .got) → o ≡ told-of st f →
-          TookDelivery st s l o l′
-      taken-in h p e =
-          let fits : length (heard st s .got) ≤ size l = omega (arith, entries-found) in
-          alike (takes-in st s l still short fits)
-          (e ∙ ap (told-of st) found ∙ ap answered (sym heard-found))
-          (p ∙ ap (λ (r : Reading). with-each l 0 (r .got)) (sym heard-found) ∙ each-fits (heard st s .got) l fits)
+        pub taken-in : {o : Streamed} {l′ : Lists} → f .entries ≤ size l → l′ ≡ with-each l 0 (read-on (st .part) s .got) → o ≡ told-of st f →
+            TookDelivery st s l o l′
+        taken-in h p e =
+            let fits : length (heard st s .got) ≤ size l = omega (arith, entries-found) in
+            alike (takes-in st s l still short fits)
+            (e ∙ ap (told-of st) found ∙ ap answered (sym heard-found))
+            (p ∙ ap (λ (r : Reading). with-each l 0 (r .got)) (sym heard-found) ∙ each-fits (heard st s .got) l fits)
 
 -- ---- the end
 module _ (st : Stream) {o : Streamed} where

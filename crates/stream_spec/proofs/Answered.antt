@@ -75,7 +75,8 @@ module _ {t u : List ℕ} {st : Stream} (a : OpenAt t u st) (s : List ℕ) where
 
   -- ---- each row decides the answer
   module _ {l l′ : Lists} {o : Streamed} (p : TookDelivery st s l o l′) where
-    says-by : {b : Streamed} {k : Lists} {n place : ℕ} {es : List Entry} → Came st s l b k → AnswerSays b k n es place → AnswerSays o l′ n es place
+    says-by : {b : Streamed} {k : Lists} {n place : ℕ} {es : List Entry} → Came st s l b k → AnswerSays b k n es place →
+        AnswerSays o l′ n es place
     says-by {b} {k} {n} {place} {es} c x =
         let same = one-delivery (comes-exactly .1 c) p in
         subst (λ (y : Lists). AnswerSays o y n es place) (same .1) (subst (λ (y : Streamed). AnswerSays y k n es place) (same .0) x)

@@ -27,7 +27,8 @@ spare-size n = let e : length {A = ℕ} (replicate n 0) ≡ n = length-replicate
 
 -- Any parts can be delivered so that each list has a place for each byte, and all bytes that are delivered are those of the parts.
 pub any-cut : (st : Stream) (parts : List (List ℕ)) →
-    (ts : List Turn) × (st′ : Stream) × Took st ts st′ × Roomy ts × (map (λ (t : Turn). t .bytes) ts ≡ parts) × (delivered ts ≡ flatten parts)
+    (ts : List Turn) × (st′ : Stream) × Took st ts st′ × Roomy ts × (map (λ (t : Turn). t .bytes) ts ≡ parts) ×
+    (delivered ts ≡ flatten parts)
 unfolding delivered flatten
 any-cut st [] = ([], st, none, tt, refl, refl)
 any-cut st (s ∷ rest) =

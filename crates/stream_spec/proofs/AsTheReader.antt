@@ -66,7 +66,8 @@ number-and-place s room fits = either (eqb (refusal-read s) 0) refl
   where
     either : (t : Bool) → eqb (refusal-read s) 0 ≡ t →
         (cond t (accepted-if-fits (length (entries-read s)) room) (refused (refusal-read s) (place-read s)) .number ≡ refusal-read s)
-        × (cond t (accepted-if-fits (length (entries-read s)) room) (refused (refusal-read s) (place-read s)) .place ≡ cond t 0 (place-read s))
+        × (cond t (accepted-if-fits (length (entries-read s)) room) (refused (refusal-read s) (place-read s)) .place ≡ cond t 0
+        (place-read s))
     either true e =
         let few = le-ltb room (length (entries-read s)) (fits (eqb-true (refusal-read s) 0 e)) in
         let a = ap (λ (b : Bool). cond b (refused 24 0) (accepted (length (entries-read s)))) few in
@@ -98,7 +99,8 @@ module _ {ts : List Turn} {st : Stream} {e : Streamed} (p : Took fresh-stream ts
         )
 
 -- What was written comes back: the bytes of a list of good entries, however they are cut, hand out that list, and nothing is refused.
-pub written-comes-back : {ts : List Turn} {st : Stream} {es : List Entry} → Took fresh-stream ts st → AllGood es → joined ts ≡ transcript-of es →
+pub written-comes-back : {ts : List Turn} {st : Stream} {es : List Entry} → Took fresh-stream ts st → AllGood es →
+    joined ts ≡ transcript-of es →
     (handed-out ts ≡ es) × (verdict-of (answers-of ts ++ (end-answer st ∷ [])) ≡ record { number = 0; place = 0 })
 written-comes-back {ts} {es = es} p g e =
     let q = subst (λ (s : List ℕ). Sound s es) (sym e) (transcript-sound es g) in

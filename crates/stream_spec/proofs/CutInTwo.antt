@@ -48,7 +48,8 @@ module _ (st : Stream) (v w : List ℕ) where
 
   -- the first part has a bad record: the second is refused, and of the whole nothing more is read
   stops-in-the-first : heard st v .refusal ≢ 0 → (l k₁ k₂ : Lists) →
-      CutAlike (answered (heard st (v ++ w))) (with-entries (heard st (v ++ w) .got) l) (answered (heard st v)) (with-entries (heard st v .got) k₁)
+      CutAlike (answered (heard st (v ++ w))) (with-entries (heard st (v ++ w) .got) l) (answered (heard st v))
+      (with-entries (heard st v .got) k₁)
       (answer 25 0 0 (standing (heard st v))) k₂
   unfolding verdict-of
   stops-in-the-first d l k₁ k₂ =
@@ -71,7 +72,8 @@ module _ (st : Stream) (v w : List ℕ) where
 
   -- the first part has none: the second is read on from there
   goes-on-in-the-second : heard st v .refusal ≡ 0 → (l k₁ k₂ : Lists) →
-      CutAlike (answered (heard st (v ++ w))) (with-entries (heard st (v ++ w) .got) l) (answered (heard st v)) (with-entries (heard st v .got) k₁)
+      CutAlike (answered (heard st (v ++ w))) (with-entries (heard st (v ++ w) .got) l) (answered (heard st v))
+      (with-entries (heard st v .got) k₁)
       (answered (heard (standing (heard st v)) w)) (with-entries (heard (standing (heard st v)) w .got) k₂)
   goes-on-in-the-second z l k₁ k₂ =
       let first = heard st v in
@@ -87,7 +89,8 @@ module _ (st : Stream) (v w : List ℕ) where
             sym (handed-all (heard st (v ++ w)) l);
         refusal =
             early-verdict first first-early (answered second ∷ []) ∙
-            ap (λ (b : Bool). cond b (verdict-of (answered second ∷ [])) (verdict (first .refusal) (first .from))) (eq-eqb (first .refusal) 0 z) ∙
+            ap (λ (b : Bool). cond b (verdict-of (answered second ∷ [])) (verdict (first .refusal) (first .from)))
+            (eq-eqb (first .refusal) 0 z) ∙
             early-verdict second second-early [] ∙
             ap (λ (r : Reading). or-else (verdict (r .refusal) (r .from)) (verdict-of [])) (sym more) ∙
             sym (early-verdict (heard st (v ++ w)) whole-early []);

@@ -8,6 +8,7 @@ use Rattle.stream_spec.specs.Examples.{worked, cuts, bad, small, after-t
 
 pub examples-hold : map worked examples ≡ examples
 unfolding
-    examples cuts bad small after-the-end limit made-up entries-from with-group head-read word-read byte-taken feed feeds barred delivery-answer lists-after
+    examples cuts bad small after-the-end limit made-up entries-from with-group head-read word-read byte-taken feed feeds barred
+    delivery-answer lists-after
     end-answer
 examples-hold = refl

@@ -10,7 +10,8 @@ use borrow.Author.Tests.{ne-eqb}
 use Rattle.words.proofs.Choices.{same-or-not}
 use Rattle.transcript_spec.specs.Reading.{feeds, entries-read}
 use Rattle.transcript_spec.specs.declared.Entry.{Entry}
-use Rattle.stream_spec.specs.InPlainWords.{Came, handed, Turn, Took, none, and-then, kept, joined, handed-out, answers-of, verdict-of, read-verdict}
+use Rattle.stream_spec.specs.InPlainWords.{Came, handed, Turn, Took, none, and-then, kept, joined, handed-out, answers-of, verdict-of}
+use Rattle.stream_spec.specs.InPlainWords.{read-verdict}
 use Rattle.stream_spec.specs.Stream.{fresh-stream, end-answer}
 use Rattle.stream_spec.specs.declared.Stream.{Stream}
 use Rattle.stream_spec.specs.declared.Streamed.{Streamed}

@@ -117,7 +117,8 @@ opens s z = by-parts (divided s)
 -- what is read of a string behind i bytes, of which k are those of its first record, is what is read behind these k, but for the places
 further : (p : Part) (s : List ℕ) (i k : ℕ) →
     feeds (at [] i (i + k) p 0) s ≡
-    at (feeds (at [] 0 k p 0) s .got) (i + feeds (at [] 0 k p 0) s .from) (i + feeds (at [] 0 k p 0) s .next) (feeds (at [] 0 k p 0) s .part)
+    at (feeds (at [] 0 k p 0) s .got) (i + feeds (at [] 0 k p 0) s .from) (i + feeds (at [] 0 k p 0) s .next)
+    (feeds (at [] 0 k p 0) s .part)
     (feeds (at [] 0 k p 0) s .refusal)
 further p s i k =
     let r = feeds (at [] 0 0 p 0) s in
@@ -136,11 +137,13 @@ module _ {t u : List ℕ} {st : Stream} (a : OpenAt t u st) (s : List ℕ) where
   behind-begun : feeds (at [] 0 (length u) (read u .part) 0) s ≡ read (u ++ s)
   behind-begun =
       let x = reads-to [] u [] nothing (a .begun) in
-      (λ i. feeds (at (sym (x .got) i) (sym (x .from) i) (sym (x .next) i) (read u .part) (sym (x .refusal) i)) s) ∙ sym (feeds-joined start u s)
+      (λ i. feeds (at (sym (x .got) i) (sym (x .from) i) (sym (x .next) i) (read u .part) (sym (x .refusal) i)) s) ∙
+      sym (feeds-joined start u s)
 
   -- The record that is begun and the delivery are read together, behind the good records t.
   pub heard-together : heard st s ≡
-      at (read (u ++ s) .got) (length t + read (u ++ s) .from) (length t + read (u ++ s) .next) (read (u ++ s) .part) (read (u ++ s) .refusal)
+      at (read (u ++ s) .got) (length t + read (u ++ s) .from) (length t + read (u ++ s) .next) (read (u ++ s) .part)
+      (read (u ++ s) .refusal)
   heard-together =
       let taken = a .taken ∙ length-append t u in
       (λ i. feeds (at [] (a .from i) (taken i) (a .part i) 0) s)

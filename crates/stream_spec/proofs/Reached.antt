@@ -36,7 +36,8 @@ use Rattle.stream_spec.proofs.Told.{early-kept}
 module _ (w : List ℕ) (bytes : AreBytes w) (short : length w ≤ 4294967295) where
   -- a delivery that is read joins its bytes
   joins : {s : List ℕ} {l l′ : Lists} {o : Streamed} → AreBytes s → stands-for w .ended ≡ false →
-      stands-for w .taken + length s ≤ 4294967295 → sent-back (o .number) ≡ false → Came (stands-for w) s l o l′ → StandsForBytes (o .stream)
+      stands-for w .taken + length s ≤ 4294967295 → sent-back (o .number) ≡ false → Came (stands-for w) s l o l′ →
+      StandsForBytes (o .stream)
   joins {s} {o = o} b z h k c =
       let all = goes-further start w .all (good-if-open (read w) z) ∙ zero-add (length w) in
       let n = length-append w s in

@@ -34,7 +34,8 @@ module _ {st : Stream} {s : List ℕ} {l l′ : Lists} {o : Streamed} (p : TookD
   -- So whatever is delivered next comes to what it would have come to at first.
   pub sent-again : 24 ≤ o .number → {t : List ℕ} {k k′ : Lists} {a : Streamed} → TookDelivery (o .stream) t k a k′ →
       TookDelivery st t k a k′
-  sent-again h {t} {k} {k′} {a} q = subst (λ (x : Stream). TookDelivery x t k a k′) (ap (λ (x : Streamed). x .stream) (refused-leaves h .0)) q
+  sent-again h {t} {k} {k′} {a} q = subst (λ (x : Stream). TookDelivery x t k a k′) (ap (λ (x : Streamed). x .stream) (refused-leaves h .0))
+      q
 
   -- The number is 0, 21, 22, 23, 24, 25 or 26: never 20.
   pub delivery-numbers : (o .number ≡ 0) ⊎ ((21 ≤ o .number) × (o .number ≤ 26))

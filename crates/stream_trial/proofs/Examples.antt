@@ -98,7 +98,8 @@ pub record Leaves : Type 0 where
 -- They leave so.
 pub they-leave : Leaves
 unfolding
-    answer-from lists-from delivered-answer delivered-lists barred delivery-answer lists-after end-answer with-group head-read word-read byte-taken
+    answer-from lists-from delivered-answer delivered-lists barred delivery-answer lists-after end-answer with-group head-read word-read
+    byte-taken
     feed feeds
 they-leave =
     record {

@@ -130,9 +130,11 @@ module _ (t : List ℕ) (room out : ℕ) where
 
 -- ---- bytes to lines
 module _ (s : List ℕ) (room out : ℕ) where
-  by-reader : {b : Transcribed} → ReadAs s room b → lines-turned s room out ≡ by-answer b (done-if-fits (length (text-of (entries-read s))) out)
+  by-reader : {b : Transcribed} → ReadAs s room b →
+      lines-turned s room out ≡ by-answer b (done-if-fits (length (text-of (entries-read s))) out)
   unfolding lines-turned
-  by-reader {b} r = ap (λ (y : Transcribed). by-answer y (done-if-fits (length (text-of (entries-read s))) out)) (reads-exactly s room b .1 r)
+  by-reader {b} r = ap (λ (y : Transcribed). by-answer y (done-if-fits (length (text-of (entries-read s))) out))
+      (reads-exactly s room b .1 r)
 
   by-records : {es : List Entry} → Sound s es → length es ≤ room → lines-turned s room out ≡ done-if-fits (length (text-of es)) out
   by-records {es} q h =

@@ -26,7 +26,8 @@ use Rattle.transcript_lines.specs.declared.LinesPut.{LinesPut}
 use Rattle.transcript_lines.specs.declared.LinesTaken.{LinesTaken}
 use Rattle.transcript_lines.specs.declared.LinesTaken.the-variants as taken
 use Rattle.transcript_lines.proofs.ThereAndBack.{took-entries}
-use Rattle.transcript_exchange.specs.Turning.{by-answer, by-taken, entries-written, done-if-fits, bytes-turned, lines-turned, is-done, ToBytes, ToLines}
+use Rattle.transcript_exchange.specs.Turning.{by-answer, by-taken, entries-written, done-if-fits, bytes-turned, lines-turned, is-done}
+use Rattle.transcript_exchange.specs.Turning.{ToBytes, ToLines}
 use Rattle.transcript_exchange.specs.declared.Turned.{Turned}
 use Rattle.transcript_exchange.specs.declared.Turned.the-variants.{Done, BadLine, Refused, TooMany}
 use Rattle.transcript_exchange.proofs.Turned.{the-type}
@@ -57,11 +58,13 @@ module _ (t : List ℕ) (l : Lists) (out : List ℕ) where
 
     -- A bad line changes nothing,
     pub bad-line : {k : ℕ} → x ≡ taken.BadLine k → ToBytes t l out (BadLine k) l out
-    bad-line e = left-alone (sym (turned-is ∙ ap (λ (y : LinesTaken). by-taken y (entries-written (taking t .entries) (length out))) e)) refl
+    bad-line e = left-alone (sym (turned-is ∙ ap (λ (y : LinesTaken). by-taken y (entries-written (taking t .entries) (length out))) e))
+        refl
 
     -- nor do more lines than have places,
     pub no-places : x ≡ taken.NoPlaces → ToBytes t l out TooMany l out
-    no-places e = left-alone (sym (turned-is ∙ ap (λ (y : LinesTaken). by-taken y (entries-written (taking t .entries) (length out))) e)) refl
+    no-places e = left-alone (sym (turned-is ∙ ap (λ (y : LinesTaken). by-taken y (entries-written (taking t .entries) (length out))) e))
+        refl
 
     module _ {n : ℕ} {o : Turned} (e : x ≡ taken.Taken n) (w : o ≡ entries-written (taking t .entries) (length out)) where
       answer-is : o ≡ bytes-turned t (size l) (length out)

@@ -24,7 +24,8 @@ use Rattle.transcript_lines.specs.declared.LinesTaken.the-variants as taken
 use Rattle.transcript_lines.proofs.GoodEntries.{all-sayable}
 use Rattle.transcript_lines.proofs.TakeAnswers.{take-answers, then-taken}
 use Rattle.transcript_lines.proofs.TakenLines.{taken-back, nothing-there}
-use Rattle.transcript_exchange.specs.Turning.{by-answer, by-taken, entries-written, done-if-fits, bytes-turned, lines-turned, output-left, ToBytes, ToLines}
+use Rattle.transcript_exchange.specs.Turning.{by-answer, by-taken, entries-written, done-if-fits, bytes-turned, lines-turned}
+use Rattle.transcript_exchange.specs.Turning.{output-left, ToBytes, ToLines}
 use Rattle.transcript_exchange.specs.declared.Turned.{Turned}
 use Rattle.transcript_exchange.specs.declared.Turned.the-variants.{Done}
 use Rattle.transcript_exchange.proofs.Done.{bytes-are-done, lines-are-done}

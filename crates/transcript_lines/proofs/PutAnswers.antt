@@ -32,7 +32,8 @@ unfolding first-unsayable
 none-unsayable k [] done h = refl
 none-unsayable k (e ∷ rest) done h = rw (h .0) (none-unsayable (suc k) rest done (h .1))
 
-one-unsayable : (k : ℕ) (before : List Entry) (e : Entry) (after : List Entry) (done : LinesPut) → AllHaveLines before → unsayable e ≡ true →
+one-unsayable : (k : ℕ) (before : List Entry) (e : Entry) (after : List Entry) (done : LinesPut) → AllHaveLines before →
+    unsayable e ≡ true →
     first-unsayable k (before ++ e ∷ after) done ≡ Unsayable (k + length before)
 unfolding first-unsayable
 one-unsayable k [] e after done h f = rw f (ap Unsayable (omega arith))

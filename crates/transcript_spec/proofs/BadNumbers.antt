@@ -37,7 +37,8 @@ head-numbered n =
 
 word-numbered : (h : ℕ) (n : Number) → Numbered (word-read h n)
 unfolding word-read
-word-numbered h n = either-numbered (n .padded) _ _ (omega arith, omega arith) (either-numbered (ltb 65535 (n .value)) _ _ (omega arith, omega arith) tt)
+word-numbered h n = either-numbered (n .padded) _ _ (omega arith, omega arith)
+    (either-numbered (ltb 65535 (n .value)) _ _ (omega arith, omega arith) tt)
 
 step-numbered : (p : Part) (b : ℕ) → Numbered (byte-taken p b)
 unfolding byte-taken

@@ -49,7 +49,8 @@ module _ (got : List Entry) (from next : ℕ) where
   byte-elsewhere a b = either (eqb (a .refusal) 0)
     where
       either : (t : Bool) →
-          cond t (fed (got ++ a .got) (elsewhere got from next a .from) (next + a .next + 1) (byte-taken (a .part) b)) (elsewhere got from next a) ≡
+          cond t (fed (got ++ a .got) (elsewhere got from next a .from) (next + a .next + 1) (byte-taken (a .part) b))
+          (elsewhere got from next a) ≡
           elsewhere got from next (cond t (fed (a .got) (a .from) (a .next + 1) (byte-taken (a .part) b)) a)
       either true = step-elsewhere a (byte-taken (a .part) b)
       either false = refl

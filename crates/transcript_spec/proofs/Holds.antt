@@ -10,7 +10,8 @@ use Rattle.transcript_spec.specs.Examples.{entry, worked, reads, writes,
 
 pub examples-hold : map worked examples ≡ examples
 unfolding
-    examples reads writes are-lanes groups record-of transcript-of entries-from with-group head-read word-read byte-taken feed feeds read-answer
+    examples reads writes are-lanes groups record-of transcript-of entries-from with-group head-read word-read byte-taken feed feeds
+    read-answer
     lists-after no-record entry-refusal first-bad write-answer bytes-after
 examples-hold = refl
 

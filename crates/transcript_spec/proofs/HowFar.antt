@@ -33,10 +33,12 @@ byte-further : (r : Reading) (b : ℕ) → Further r 1 (feed r b)
 unfolding feed
 byte-further r b = ⊎-elim goes stays (either-way (eqb (r .refusal) 0))
   where
-    goes : eqb (r .refusal) 0 ≡ true → Further r 1 (cond (eqb (r .refusal) 0) (fed (r .got) (r .from) (r .next + 1) (byte-taken (r .part) b)) r)
+    goes : eqb (r .refusal) 0 ≡ true →
+        Further r 1 (cond (eqb (r .refusal) 0) (fed (r .got) (r .from) (r .next + 1) (byte-taken (r .part) b)) r)
     goes e = rw e (step-further r (byte-taken (r .part) b))
 
-    stays : eqb (r .refusal) 0 ≡ false → Further r 1 (cond (eqb (r .refusal) 0) (fed (r .got) (r .from) (r .next + 1) (byte-taken (r .part) b)) r)
+    stays : eqb (r .refusal) 0 ≡ false →
+        Further r 1 (cond (eqb (r .refusal) 0) (fed (r .got) (r .from) (r .next + 1) (byte-taken (r .part) b)) r)
     stays e =
         rw e
         (record {

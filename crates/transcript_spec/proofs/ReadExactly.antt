@@ -39,7 +39,8 @@ module _ (s : List ℕ) (room : ℕ) where
   answers-sound : (es : List Entry) → Sound s es → read-answer s room ≡ accepted-if-fits (length es) room
   unfolding read-answer
   answers-sound es q =
-      ap (λ (a : Reading). cond (eqb (ended a) 0) (accepted-if-fits (length (a .got)) room) (refused (ended a) (a .from))) (reads-sound s es q)
+      ap (λ (a : Reading). cond (eqb (ended a) 0) (accepted-if-fits (length (a .got)) room) (refused (ended a) (a .from)))
+      (reads-sound s es q)
 
   says : (o : Transcribed) → ReadAs s room o → read-answer s room ≡ o
   unfolding read-answer
@@ -56,7 +57,8 @@ module _ (s : List ℕ) (room : ℕ) where
   -- ---- one row or another always holds
   some : Divided s → (o : Transcribed) × ReadAs s room o
   some (all-good es q) =
-      ⊎-elim (λ h. (refused 24 0, plain.ReadAs.too-small q h)) (λ h. (accepted (length es), plain.ReadAs.done q h)) (less-or-not room (length es))
+      ⊎-elim (λ h. (refused 24 0, plain.ReadAs.too-small q h)) (λ h. (accepted (length es), plain.ReadAs.done q h))
+      (less-or-not room (length es))
   some (then-bad es t u n e q b) = (refused n (length t), plain.ReadAs.bad-record e q b)
 
   -- The reader's answer is o exactly if o's row holds: accepted, 24, or the refusal of the first bad record and its place.

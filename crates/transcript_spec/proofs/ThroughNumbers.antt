@@ -75,6 +75,7 @@ pub head-rule : (n : Number) (b : ℕ) → byte-taken (Head n) b ≡ cond (ltb b
 unfolding byte-taken
 head-rule n b = refl
 
-pub word-rule : (h : ℕ) (n : Number) (b : ℕ) → byte-taken (Word h n) b ≡ cond (ltb b 128) (word-read h (grown n b)) (Goes (Word h (grown n b)))
+pub word-rule : (h : ℕ) (n : Number) (b : ℕ) →
+    byte-taken (Word h n) b ≡ cond (ltb b 128) (word-read h (grown n b)) (Goes (Word h (grown n b)))
 unfolding byte-taken
 word-rule h n b = refl

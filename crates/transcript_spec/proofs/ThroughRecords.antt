@@ -68,7 +68,8 @@ module _ (got : List Entry) (i : ℕ) where
       ∙ reads-number (Word v) (word-read v) (word-rule v) got i (i + length h) w rest (p .spelled)
       ∙ ap (λ (t : Step). feeds (fed got i (i + length h + length w) t) rest) (word-accepted w (e .word) p v (g .word))
       ∙ ap (λ (x : Entry). feeds (between (got ++ (x ∷ [])) (i + length h + length w)) rest) (head-back e g)
-      ∙ ap (λ (j : ℕ). feeds (between (got ++ (e ∷ [])) j) rest) (add-assoc i (length h) (length w) ∙ ap (λ (n : ℕ). i + n) (sym (length-append h w)))
+      ∙ ap (λ (j : ℕ). feeds (between (got ++ (e ∷ [])) j) rest)
+      (add-assoc i (length h) (length w) ∙ ap (λ (n : ℕ). i + n) (sym (length-append h w)))
 
   -- A good record adds its entry, and the next one begins.
   pub adds-entry : (s rest : List ℕ) (e : Entry) → GoodRecord s e →
@@ -142,7 +143,8 @@ module _ (got : List Entry) (i : ℕ) where
   stops-at _ _ (head-cut {b} {s} c) = cut-head b s c
   stops-at _ n (head-bad {h} s p q) =
       subst (Stopped got i n)
-      (sym (reads-number Head head-read head-rule got i i h s p ∙ ap (λ (t : Step). feeds (fed got i (i + length h) t) s) (head-refused h p n q)))
+      (sym (reads-number Head head-read head-rule got i i h s p ∙ ap (λ (t : Step). feeds (fed got i (i + length h) t) s)
+      (head-refused h p n q)))
       (stops (i + length h) n s (head-number h n q))
   stops-at _ _ (word-cut {h} s p c) =
       subst (Stopped got i 20)

@@ -54,7 +54,8 @@ module _ {b s : List ℕ} {l : Lists} {m k r n w : ℕ} (y : LendsBoth b s l m k
         answer = c .answer ∙ (λ i. called-answer (is-read b) (string-is i) (parts-lent (y .of-lists) i));
         string = back-is (byte b 1) m s (y .of-string) s′
             ∙ ap (string-back b s) (c .string ∙ (λ i. called-string (is-read b) (string-is i) (parts-lent (y .of-lists) i)));
-        lists = parts-back (y .of-lists) l′ ∙ ap (lists-returned b l) (c .lists ∙ (λ i. called-lists (is-read b) (string-is i) (parts-lent (y .of-lists) i)));
+        lists = parts-back (y .of-lists) l′ ∙
+            ap (lists-returned b l) (c .lists ∙ (λ i. called-lists (is-read b) (string-is i) (parts-lent (y .of-lists) i)));
       }
 
 -- The lists may be those that the record holds.

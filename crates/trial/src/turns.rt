@@ -24,7 +24,8 @@ struct Turn {
 // Carries out the whole lines of the input, up to the first that is no call, and puts down a line of output for each.
 fn run_lines(s: State, room: &mut [u16], list: &mut [u16], input: &[u8], output: &mut [u8]) -> Ran
     requires { ⌜ 47 * (length (now input) / 38) ≤ length (now output) ⌝ }
-    ensures { λ r. ⌜ RanLines (world s (now (room .entry)) (now (list .entry))) (now (input .entry)) r (now (room .exit)) (now (list .exit)) (now (output .exit)) ⌝ }
+    ensures { λ r. ⌜ RanLines (world s (now (room .entry)) (now (list .entry))) (now (input .entry)) r (now (room .exit)) (now (list .exit))
+        (now (output .exit)) ⌝ }
 {
     let mut state = s;
     let mut i: usize = 0;

@@ -37,7 +37,10 @@ lanes-named n = go (eqb n 1) (eqb n 2) (eqb n 3) refl refl refl
     go true b c p q r = (λ _. omega (arith, eqb-true n 1 p), λ _. refl)
     go false true c p q r = (λ _. omega (arith, eqb-true n 2 q), λ _. refl)
     go false false true p q r = (λ _. omega (arith, eqb-true n 3 r), λ _. refl)
-    go false false false p q r = (λ x. absurd (false≢true x), λ h. absurd (omega (arith, h .0, h .1, eqb-false n 1 p, eqb-false n 2 q, eqb-false n 3 r)))
+    go false false false p q r = (
+      λ x. absurd (false≢true x),
+      λ h. absurd (omega (arith, h .0, h .1, eqb-false n 1 p, eqb-false n 2 q, eqb-false n 3 r)),
+    )
 
 -- Any number that does not is none of the three.
 pub lanes-unnamed : (n : ℕ) → are-lanes n ≡ false → (n ≢ 1) × (n ≢ 2) × (n ≢ 3)

@@ -58,7 +58,8 @@ loop-again c =
       most = omega arith;
       front =
           ap (λ (l : List ℕ). set l i (getD l (a .from + i) 0)) (k .front) ∙
-          one-moved (a .s .now) (a .from) (a .to) (c .before .before .before .pre .0) (c .before .before .before .pre .1) i (c .before .loop-test .taken);
+          one-moved (a .s .now) (a .from) (a .to) (c .before .before .before .pre .0) (c .before .before .before .pre .1) i
+          (c .before .loop-test .taken);
       size = simp length-set (k .size);
     }
 
@@ -73,8 +74,11 @@ same-length c =
 returns : tie.Need-returns Inv-loop μ-loop
 returns c =
     let a = c .before .before .args in
-    let e : c .before .loop .i ≡ a .to - a .from = omega arith in
-    (refl, c .before .loop .inv .front ∙ ap (part-moved (a .s .now) (a .from) (a .to)) e ∙ all-moved (a .s .now) (a .from) (a .to) (c .before .before .pre .0) (c .before .before .pre .1))
+    let e : c .before .loop .i ≡ a .to - a .from = omega arith in (
+      refl,
+      c .before .loop .inv .front ∙ ap (part-moved (a .s .now) (a .from) (a .to)) e ∙ all-moved (a .s .now) (a .from) (a .to)
+          (c .before .before .pre .0) (c .before .before .pre .1),
+    )
 
 pub move-to-front-spec : {M : Type 1} → statement M
 move-to-front-spec =

@@ -27,8 +27,10 @@ returns-3 : tie.Need-returns-3
 returns-3 c =
     let second = c .before in
     let other = second .before .before in
-    let first = other .before in
-    (λ e. true≢false (sym (first .same .ensures .1 e) ∙ other .if1 .left), λ e. true≢false (sym (second .same2 .ensures .1 e) ∙ c .if2 .left))
+    let first = other .before in (
+      λ e. true≢false (sym (first .same .ensures .1 e) ∙ other .if1 .left),
+      λ e. true≢false (sym (second .same2 .ensures .1 e) ∙ c .if2 .left),
+    )
 
 pub way-of-spec : {M : Type 1} → statement M
 way-of-spec =

@@ -16,7 +16,12 @@ number-at-requires-4 : tie.Need-number-at-requires-4
 number-at-requires-4 c κs = search needs
 
 returns : tie.Need-returns
-returns c = rw (c .before .before .before .number-at .ensures, c .before .before .number-at2 .ensures, c .before .number-at3 .ensures, c .number-at4 .ensures)
+returns c = rw (
+  c .before .before .before .number-at .ensures,
+  c .before .before .number-at2 .ensures,
+  c .before .number-at3 .ensures,
+  c .number-at4 .ensures,
+)
 
 pub entry-at-spec : {M : Type 1} → statement M
 entry-at-spec =

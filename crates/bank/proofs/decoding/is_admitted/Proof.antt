@@ -29,7 +29,12 @@ returns c = rw (c .match .keys1)
 
 returns-2 : tie.Need-returns-2
 unfolding admits
-returns-2 c = rw (c .before .before .before .match .keys2, c .both .ensures, c .before .is-in-turn .ensures, c .before .before .bit-of .ensures)
+returns-2 c = rw (
+  c .before .before .before .match .keys2,
+  c .both .ensures,
+  c .before .is-in-turn .ensures,
+  c .before .before .bit-of .ensures,
+)
 
 returns-3 : tie.Need-returns-3
 unfolding admits

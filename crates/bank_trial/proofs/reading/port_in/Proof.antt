@@ -25,7 +25,8 @@ returns c i =
     let last = c .before in
     let second = last .before .before in
     port
-    (banks (second .before .bank-in .ensures i) (second .bank-in2 .ensures i) (last .before .bank-in3 .ensures i) (last .bank-in4 .ensures i))
+    (banks (second .before .bank-in .ensures i) (second .bank-in2 .ensures i) (last .before .bank-in3 .ensures i)
+    (last .bank-in4 .ensures i))
     (c .number-in .ensures i)
 
 pub port-in-spec : {M : Type 1} → statement M

@@ -88,7 +88,8 @@ returns c =
     let count = length (a .part .now) in
     let copied = at-copy-words .copy-words .ensures ∙ part-is (w .word-of .result .0) count (a .memory .now) in
     rw (c .before .before .step-by .ensures, c .one-if .ensures .0, copied, here w)
-    (copied-read (a .r) (a .memory .now) words (start .pre .stepping) count (start .pre .some) (omega arith) (omega (arith, start .pre .inside)))
+    (copied-read (a .r) (a .memory .now) words (start .pre .stepping) count (start .pre .some) (omega arith)
+    (omega (arith, start .pre .inside)))
 
 pub read-straight-spec : {M : Type 1} → statement M
 read-straight-spec =

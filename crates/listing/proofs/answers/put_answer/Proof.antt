@@ -60,7 +60,8 @@ returns c =
     (put-behind
     (omega (arith, start .pre .0, six, eight, less, rest))
     (at-put-head .put-head .ensures)
-    (put-behind (omega (arith, start .pre .0, six, eight, less, room, at-put-head .put-head .ensures .end)) (at-put-mark .put-mark .ensures) (c .before .before .put-cycle .ensures)))
+    (put-behind (omega (arith, start .pre .0, six, eight, less, room, at-put-head .put-head .ensures .end)) (at-put-mark .put-mark .ensures)
+    (c .before .before .put-cycle .ensures)))
 
 pub put-answer-spec : {M : Type 1} → statement M
 put-answer-spec =

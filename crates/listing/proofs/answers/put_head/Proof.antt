@@ -78,7 +78,12 @@ returns c =
     record {
       end = refl;
       output =
-          rw (c .before .before .before .digit-for .ensures, c .before .before .digit-for2 .ensures, c .before .digit-for3 .ensures, c .digit-for4 .ensures)
+          rw (
+            c .before .before .before .digit-for .ensures,
+            c .before .before .digit-for2 .ensures,
+            c .before .digit-for3 .ensures,
+            c .digit-for4 .ensures,
+          )
           (six-laid (a .output .now) (a .at) _ _ _ _ _ _ (start .pre .0));
     }
 

@@ -30,7 +30,13 @@ returns-2 : tie.Need-returns-2
 unfolding writes
 returns-2 c =
     let at-if1 = c .before .before .before .before .before in
-    rw (le-ltb _ _ (at-if1 .if1 .left), c .both2 .ensures, c .before .both .ensures, c .before .before .before .is-headed .ensures, c .before .before .is-tailed .ensures) refl
+    rw (
+      le-ltb _ _ (at-if1 .if1 .left),
+      c .both2 .ensures,
+      c .before .both .ensures,
+      c .before .before .before .is-headed .ensures,
+      c .before .before .is-tailed .ensures,
+    ) refl
 
 pub begins-with-write-spec : {M : Type 1} → statement M
 begins-with-write-spec =

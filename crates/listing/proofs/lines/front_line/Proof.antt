@@ -15,7 +15,8 @@ read-at-requires c κs =
 
 returns : tie.Need-returns
 returns c =
-    ap (λ (a : Access). Good a 6) (c .read-at .ensures) ∙ sym (reads-front _ (sym (c .before .before .begins-with-read .ensures) ∙ c .before .if1 .taken))
+    ap (λ (a : Access). Good a 6) (c .read-at .ensures) ∙
+    sym (reads-front _ (sym (c .before .before .begins-with-read .ensures) ∙ c .before .if1 .taken))
 
 begins-with-write-requires : tie.Need-begins-with-write-requires
 begins-with-write-requires c κs = tt
@@ -26,7 +27,8 @@ write-at-requires c κs =
 
 returns-2 : tie.Need-returns-2
 returns-2 c =
-    ap (λ (a : Access). Good a 11) (c .write-at .ensures) ∙ sym (writes-front _ (sym (c .before .before .begins-with-write .ensures) ∙ c .before .if2 .taken))
+    ap (λ (a : Access). Good a 11) (c .write-at .ensures) ∙
+    sym (writes-front _ (sym (c .before .before .begins-with-write .ensures) ∙ c .before .if2 .taken))
 
 judge-other-requires : tie.Need-judge-other-requires
 judge-other-requires c κs = tt

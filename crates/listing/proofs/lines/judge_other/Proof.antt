@@ -41,7 +41,11 @@ unfolding other-front
 returns-2 c =
     let at-if1 = c .before .before .before .before in
     let start = at-if1 .before in
-    rw (le-ltb 31 _ (at-if1 .if1 .left), c .before .before .before .loop .inv .feeds ∙ found-at (start .args .s .now) (c .before .before .before .loop .i) (omega arith) (c .if2 .taken)) refl
+    rw (
+      le-ltb 31 _ (at-if1 .if1 .left),
+      c .before .before .before .loop .inv .feeds ∙ found-at (start .args .s .now)
+          (c .before .before .before .loop .i) (omega arith) (c .if2 .taken),
+    ) refl
 
 add-i : tie.Need-add-i Inv-loop μ-loop
 add-i c =
@@ -54,12 +58,20 @@ loop-less c =
 loop-again : tie.Need-loop-again Inv-loop μ-loop
 loop-again c =
     let start = c .before .before .before .before .before in
-    record { most = omega arith; feeds = c .before .before .before .loop .inv .feeds ∙ passed-over (start .args .s .now) (c .before .before .before .loop .i) (omega arith) (c .if2 .left) }
+    record {
+      most = omega arith;
+      feeds = c .before .before .before .loop .inv .feeds ∙ passed-over (start .args .s .now)
+          (c .before .before .before .loop .i) (omega arith) (c .if2 .left);
+    }
 
 returns-3 : tie.Need-returns-3 Inv-loop μ-loop
 unfolding other-front
 returns-3 c =
-    rw (le-ltb 31 _ (c .before .before .if1 .left), c .before .loop .inv .feeds ∙ none-past (c .before .before .before .args .s .now) (c .before .loop .i) (omega arith)) refl
+    rw (
+      le-ltb 31 _ (c .before .before .if1 .left),
+      c .before .loop .inv .feeds ∙ none-past (c .before .before .before .args .s .now)
+          (c .before .loop .i) (omega arith),
+    ) refl
 
 pub judge-other-spec : {M : Type 1} → statement M
 judge-other-spec =

@@ -4,7 +4,8 @@ use native.Mathlib.Omega.{arith}
 use mathlib.Core.Path.{_∙_}
 use lib.ListN.{length}
 use Rattle.listing.proofs.Laying.{put-length}
-use Rattle.listing.proofs.Turns.{Kept, at-start, part-front, good-lies, room-for-answer, room-for-bad, turned, ends-bad, ends-open, ends-even}
+use Rattle.listing.proofs.Turns.{Kept, at-start, part-front, good-lies, room-for-answer, room-for-bad, turned, ends-bad, ends-open}
+use Rattle.listing.proofs.Turns.{ends-even}
 use borrow.Author.Needs.{needs}
 use Rattle.listing.proofs.pieces.list_lines.Statement.{statement}
 use Rattle.listing.proofs.pieces.list_lines.Tie as tie
@@ -19,7 +20,8 @@ abbrev μ-loop : tie.MeasureT-loop
 
 loop-holds : tie.Need-loop-holds Inv-loop μ-loop
 loop-holds c =
-    at-start (c .before .before .before .args .r) (c .before .before .before .args .memory .now) (c .before .before .before .args .input .now) (c .before .before .before .args .output .now)
+    at-start (c .before .before .before .args .r) (c .before .before .before .args .memory .now)
+    (c .before .before .before .args .input .now) (c .before .before .before .args .output .now)
 
 sub-front-line : tie.Need-sub-front-line Inv-loop μ-loop
 sub-front-line c =
@@ -73,7 +75,8 @@ loop-again c =
     let l = at-front-line .before .before .before in
     let start = l .before .before .before .before in
     let front = part-front (start .args .input .now) (l .loop .used) (at-front-line .front-line .ensures) in
-    turned (l .loop .inv) (start .pre) (front ∙ at-line .line .given .1) (at-answer-line .answer-line .ensures) (at-answer-line .answer-line .kept .1 .0)
+    turned (l .loop .inv) (start .pre) (front ∙ at-line .line .given .1) (at-answer-line .answer-line .ensures)
+    (at-answer-line .answer-line .kept .1 .0)
 
 enum-told : tie.Need-enum-told Inv-loop μ-loop
 enum-told c = search needs
@@ -98,7 +101,8 @@ same-length-2 c =
     let at-loop-test = c .before .before .before .before .before .before .before .before .before in
     let l = at-loop-test .before in
     let start = l .before .before .before .before in
-    put-length (room-for-bad (l .loop .inv) (start .pre) (at-loop-test .loop-test .taken)) (c .before .before .put .ensures) ∙ l .loop .inv .room
+    put-length (room-for-bad (l .loop .inv) (start .pre) (at-loop-test .loop-test .taken)) (c .before .before .put .ensures) ∙
+    l .loop .inv .room
 
 returns : tie.Need-returns Inv-loop μ-loop
 returns c =
@@ -108,7 +112,8 @@ returns c =
     let l = at-loop-test .before in
     let start = l .before .before .before .before in
     let front = part-front (start .args .input .now) (l .loop .used) (at-front-line .front-line .ensures) in
-    ends-bad (l .loop .inv) (start .pre) (at-loop-test .loop-test .taken) (front ∙ at-enum-told .enum-told .given .1) (c .before .before .put .ensures)
+    ends-bad (l .loop .inv) (start .pre) (at-loop-test .loop-test .taken) (front ∙ at-enum-told .enum-told .given .1)
+    (c .before .before .put .ensures)
 
 enum-told-2 : tie.Need-enum-told-2 Inv-loop μ-loop
 enum-told-2 c = search needs

@@ -43,7 +43,8 @@ returns c =
     let l = at-list-lines .list-lines .ensures in
     let begin : Listing = start (record { registers = a .r; memory = a .memory .now }) in
     let same : take (at-count-fitting .count-fitting .result) (a .input .now) ≡ take (fitting (length (a .output .now))) (a .input .now) =
-    ap (λ (k : ℕ). take k (a .input .now)) (at-count-fitting .count-fitting .ensures) ∙ taken-is (fitting (length (a .output .now))) (a .input .now)
+    ap (λ (k : ℕ). take k (a .input .now)) (at-count-fitting .count-fitting .ensures) ∙ taken-is (fitting (length (a .output .now)))
+    (a .input .now)
     in
     record {
       outcome = l .outcome ∙ ap (λ (t : List ℕ). listed (listing begin t)) same;

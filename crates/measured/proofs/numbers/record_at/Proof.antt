@@ -29,7 +29,12 @@ number-at-requires-4 c κs = search needs
 
 returns : tie.Need-returns
 returns c =
-    rw (c .before .before .before .number-at .ensures, c .before .before .number-at2 .ensures, c .before .number-at3 .ensures, c .number-at4 .ensures)
+    rw (
+      c .before .before .before .number-at .ensures,
+      c .before .before .number-at2 .ensures,
+      c .before .number-at3 .ensures,
+      c .number-at4 .ensures,
+    )
 
 pub record-at-spec : {M : Type 1} → statement M
 record-at-spec =

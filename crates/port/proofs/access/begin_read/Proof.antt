@@ -17,7 +17,12 @@ due-of-read-requires c κs = tt
 
 returns : tie.Need-returns
 unfolding begin-access
-returns c = rw (c .before .before .show-bytes .ensures, c .before .before .before .read-register .ensures, c .before .both .ensures, c .due-of-read .ensures)
+returns c = rw (
+  c .before .before .show-bytes .ensures,
+  c .before .before .before .read-register .ensures,
+  c .before .both .ensures,
+  c .due-of-read .ensures,
+)
 
 pub begin-read-spec : {M : Type 1} → statement M
 begin-read-spec =

@@ -15,7 +15,11 @@ steps-reading-requires c κs = tt
 
 returns : tie.Need-returns
 unfolding read-due
-returns c = rw (sym (c .before .before .before .closes-word .ensures), sym (c .before .before .both .ensures) ∙ c .before .if1 .taken, c .steps-reading .ensures)
+returns c = rw (
+  sym (c .before .before .before .closes-word .ensures),
+  sym (c .before .before .both .ensures) ∙ c .before .if1 .taken,
+  c .steps-reading .ensures,
+)
 
 returns-2 : tie.Need-returns-2
 unfolding read-due

@@ -13,7 +13,11 @@ steps-writing-requires c κs = tt
 
 returns : tie.Need-returns
 unfolding write-due
-returns c = rw (sym (c .before .before .before .closes-word .ensures) ∙ c .before .before .if1 .taken, eq-eqb _ _ (c .before .if2 .taken), c .steps-writing .ensures)
+returns c = rw (
+  sym (c .before .before .before .closes-word .ensures) ∙ c .before .before .if1 .taken,
+  eq-eqb _ _ (c .before .if2 .taken),
+  c .steps-writing .ensures,
+)
 
 fetches-by-requires : tie.Need-fetches-by-requires
 fetches-by-requires c κs = tt

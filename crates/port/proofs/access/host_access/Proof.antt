@@ -19,7 +19,10 @@ returns : tie.Need-returns
 unfolding access access-memory
 returns c =
     let t = ne-eqb _ _ (rw (c .before .before .before .number-of .ensures) at (c .before .if1 .taken)) in
-    record { outcome = rw (t, c .refuse .ensures, c .before .before .set-latch .ensures, c .before .before .before .number-of .ensures); memory = rw t }
+    record {
+      outcome = rw (t, c .refuse .ensures, c .before .before .set-latch .ensures, c .before .before .before .number-of .ensures);
+      memory = rw t;
+    }
 
 enum-known-a : tie.Need-enum-known-a
 enum-known-a c = search needs

@@ -27,7 +27,11 @@ hide-bit-10-requires c κs = tt
 
 returns-4 : tie.Need-returns-4
 unfolding register-word
-returns-4 c = rw (ne-eqb _ _ (c .before .before .before .if1 .left), ne-eqb _ _ (c .before .before .if2 .left), ne-eqb _ _ (c .before .if3 .left)) (c .hide-bit-10 .ensures)
+returns-4 c = rw (
+  ne-eqb _ _ (c .before .before .before .if1 .left),
+  ne-eqb _ _ (c .before .before .if2 .left),
+  ne-eqb _ _ (c .before .if3 .left),
+) (c .hide-bit-10 .ensures)
 
 pub read-register-spec : {M : Type 1} → statement M
 read-register-spec =

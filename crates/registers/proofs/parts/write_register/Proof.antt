@@ -22,7 +22,12 @@ set-latch-requires c κs = tt
 
 returns-2 : tie.Need-returns-2
 unfolding written
-returns-2 c = rw (le-ltb _ _ (c .before .before .before .if1 .left), eq-eqb _ _ (c .before .before .if2 .taken), c .set-latch .ensures, c .before .replace-bytes .ensures)
+returns-2 c = rw (
+  le-ltb _ _ (c .before .before .before .if1 .left),
+  eq-eqb _ _ (c .before .before .if2 .taken),
+  c .set-latch .ensures,
+  c .before .replace-bytes .ensures,
+)
 
 write-by-host-requires : tie.Need-write-by-host-requires
 write-by-host-requires c κs = tt
@@ -32,7 +37,12 @@ set-control-requires c κs = tt
 
 returns-3 : tie.Need-returns-3
 unfolding written
-returns-3 c = rw (le-ltb _ _ (c .before .before .before .if1 .left), ne-eqb _ _ (c .before .before .if2 .left), c .set-control .ensures, c .before .write-by-host .ensures)
+returns-3 c = rw (
+  le-ltb _ _ (c .before .before .before .if1 .left),
+  ne-eqb _ _ (c .before .before .if2 .left),
+  c .set-control .ensures,
+  c .before .write-by-host .ensures,
+)
 
 pub write-register-spec : {M : Type 1} → statement M
 write-register-spec =

@@ -19,14 +19,24 @@ show-bytes-requires c κs = tt
 
 returns-2 : tie.Need-returns-2
 unfolding processor-word
-returns-2 c = rw (le-ltb _ _ (c .before .before .before .if1 .left), eq-eqb _ _ (c .before .if2 .taken), c .show-bytes .ensures, c .before .before .hide-bit-10 .ensures)
+returns-2 c = rw (
+  le-ltb _ _ (c .before .before .before .if1 .left),
+  eq-eqb _ _ (c .before .if2 .taken),
+  c .show-bytes .ensures,
+  c .before .before .hide-bit-10 .ensures,
+)
 
 show-bytes-requires-2 : tie.Need-show-bytes-requires-2
 show-bytes-requires-2 c κs = tt
 
 returns-3 : tie.Need-returns-3
 unfolding processor-word
-returns-3 c = rw (le-ltb _ _ (c .before .before .before .if1 .left), ne-eqb _ _ (c .before .if2 .left), c .show-bytes2 .ensures, c .before .before .hide-bit-10 .ensures)
+returns-3 c = rw (
+  le-ltb _ _ (c .before .before .before .if1 .left),
+  ne-eqb _ _ (c .before .if2 .left),
+  c .show-bytes2 .ensures,
+  c .before .before .hide-bit-10 .ensures,
+)
 
 pub read-of-five-spec : {M : Type 1} → statement M
 read-of-five-spec =

@@ -81,7 +81,8 @@ loop-less : tie.Need-loop-less Inv-loop μ-loop
 loop-less c = omega arith
 
 loop-again : tie.Need-loop-again Inv-loop μ-loop
-loop-again c = rw (c .digit-for .ensures, last-digit (c .before .before .loop .rest)) (turned (c .before .before .loop .inv) (c .before .loop-test .taken))
+loop-again c = rw (c .digit-for .ensures, last-digit (c .before .before .loop .rest))
+    (turned (c .before .before .loop .inv) (c .before .loop-test .taken))
 
 same-length : tie.Need-same-length Inv-loop μ-loop
 same-length c = c .before .loop .inv .room

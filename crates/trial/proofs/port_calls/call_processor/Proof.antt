@@ -36,7 +36,8 @@ unfolding processor-answer
 returns-2 c =
     let c₁ = c .before .before .before .before in
     let c₂ = c₁ .before .before .before in
-    rw (ne-eqb _ _ (c₁ .if1 .left)) (c .answer-with .ensures ∙ ap (written-done (c₂ .args .s)) (c .before .before .processor-write .ensures))
+    rw (ne-eqb _ _ (c₁ .if1 .left))
+    (c .answer-with .ensures ∙ ap (written-done (c₂ .args .s)) (c .before .before .processor-write .ensures))
 
 pub call-processor-spec : {M : Type 1} → statement M
 call-processor-spec =
