@@ -21,13 +21,13 @@ either-requires-2 c κs = tt
 returns : tie.Need-returns
 unfolding lent-letter
 returns c =
-    let c₁ = c .before .before .before in
-    let c₂ = c₁ .before in
+    let at-is-field-letter = c .before .before .before in
+    let at-is-host-letter = at-is-field-letter .before in
     rw (
       c .either2 .ensures,
       c .before .either .ensures,
-      c₂ .is-host-letter .ensures,
-      c₁ .is-field-letter .ensures,
+      at-is-host-letter .is-host-letter .ensures,
+      at-is-field-letter .is-field-letter .ensures,
       c .before .before .is-block-letter .ensures,
     )
 

@@ -21,13 +21,13 @@ either-requires-2 c κs = tt
 returns : tie.Need-returns
 unfolding known
 returns c =
-    let c₁ = c .before .before .before in
-    let c₂ = c₁ .before in
+    let at-is-whole-letter = c .before .before .before in
+    let at-is-plain-letter = at-is-whole-letter .before in
     rw (
       c .either2 .ensures,
       c .before .either .ensures,
-      c₂ .is-plain-letter .ensures,
-      c₁ .is-whole-letter .ensures,
+      at-is-plain-letter .is-plain-letter .ensures,
+      at-is-whole-letter .is-whole-letter .ensures,
       c .before .before .is-lent-letter .ensures,
     )
 

@@ -21,13 +21,13 @@ either-requires-2 c κs = tt
 returns : tie.Need-returns
 unfolding plain-letter
 returns c =
-    let c₁ = c .before .before .before in
-    let c₂ = c₁ .before in
+    let at-is-bus-letter = c .before .before .before in
+    let at-is-processor-letter = at-is-bus-letter .before in
     rw (
       c .either2 .ensures,
       c .before .either .ensures,
-      c₂ .is-processor-letter .ensures,
-      c₁ .is-bus-letter .ensures,
+      at-is-processor-letter .is-processor-letter .ensures,
+      at-is-bus-letter .is-bus-letter .ensures,
       c .before .before .is-setting-letter .ensures,
     )
 

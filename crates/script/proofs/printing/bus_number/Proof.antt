@@ -46,11 +46,11 @@ add-result-4 c = search needs
 returns : tie.Need-returns
 unfolding bus-number
 returns c =
-    let c₁ = c .before .before .before in
-    let c₂ = c₁ .before in
+    let at-one-if2 = c .before .before .before in
+    let at-one-if = at-one-if2 .before in
     rw (
-      c₂ .one-if .ensures .0,
-      c₁ .one-if2 .ensures .0,
+      at-one-if .one-if .ensures .0,
+      at-one-if2 .one-if2 .ensures .0,
       c .before .before .one-if3 .ensures .0,
       c .before .one-if4 .ensures .0,
       c .one-if5 .ensures .0,

@@ -35,16 +35,16 @@ same-length c = search needs
 returns : tie.Need-returns
 unfolding line-of
 returns c =
-    let c₁ = c .before .before .before .before .before .before in
-    let c₂ = c₁ .before .before .before .before in
-    let c₃ = c₂ .before .before .before .before in
-    let c₄ = c₃ .before .before .before .before in
-    let c₅ = c₄ .before .before .before .before .before in
+    let at-put-state = c .before .before .before .before .before .before in
+    let at-put-number3 = at-put-state .before .before .before .before in
+    let at-put-number2 = at-put-number3 .before .before .before .before in
+    let at-put-number = at-put-number2 .before .before .before .before in
+    let at-put-byte = at-put-number .before .before .before .before .before in
     sym (take-all 47 (c .before .before .put-byte2 .last .0) (omega arith))
-    ∙ follows (c₅ .put-byte .ensures)
-    (follows (c₄ .put-number .ensures)
-    (follows (c₃ .put-number2 .ensures) (follows (c₂ .put-number3 .ensures)
-    (follows (c₁ .put-state .ensures) (c .before .before .put-byte2 .ensures)))))
+    ∙ follows (at-put-byte .put-byte .ensures)
+    (follows (at-put-number .put-number .ensures)
+    (follows (at-put-number2 .put-number2 .ensures) (follows (at-put-number3 .put-number3 .ensures)
+    (follows (at-put-state .put-state .ensures) (c .before .before .put-byte2 .ensures)))))
     .laid
 
 pub lay-line-spec : {M : Type 1} → statement M

@@ -42,17 +42,17 @@ same-length c = search needs
 
 returns : tie.Need-returns
 returns c =
-    let c₁ = c .before .before .before .before .before .before in
-    let c₂ = c₁ .before .before .before in
-    let a = c₂ .args in
-    let line = c₁ .put-byte .last .0 in
-    let fits : a .at + 1 + a .count ≤ length line = omega (arith, c₁ .put-byte .kept .0, c₂ .pre) in
+    let at-put-byte = c .before .before .before .before .before .before in
+    let start = at-put-byte .before .before .before in
+    let a = start .args in
+    let line = at-put-byte .put-byte .last .0 in
+    let fits : a .at + 1 + a .count ≤ length line = omega (arith, at-put-byte .put-byte .kept .0, start .pre) in
     let from = a .at + 1 in
     let part : length (take (from + a .count - from) (drop from line)) ≡ a .count = simp (length-take, length-drop) (omega (arith, fits)) in
     let made = c .before .before .put-digits .ensures ∙ ap (λ (n : ℕ). digits n (a .value)) part in
     let all = pushed (a .at + 1) (a .count) line (c .before .before .put-digits .last .0) fits
     (ap length made ∙ length-digits (a .count) (a .value)) in
-    follows (c₁ .put-byte .ensures) (record { laid = all ∙ ap (λ (t : List ℕ). take (a .at + 1) line ++ t) made })
+    follows (at-put-byte .put-byte .ensures) (record { laid = all ∙ ap (λ (t : List ℕ). take (a .at + 1) line ++ t) made })
 
 pub put-number-spec : {M : Type 1} → statement M
 put-number-spec =

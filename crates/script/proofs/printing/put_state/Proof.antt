@@ -38,16 +38,16 @@ same-length c = search needs
 returns : tie.Need-returns
 unfolding state-text
 returns c =
-    let c₁ = c .before .before .before in
-    let c₂ = c₁ .before .before .before .before in
-    let c₃ = c₂ .before in
-    let c₄ = c₃ .before .before .before .before in
-    let c₅ = c₄ .before .before .before .before .before in
-    let c₆ = c₅ .before .before .before .before .before in
-    let mark = rw (c₃ .one-if .ensures .0) at (c₂ .put-number4 .ensures) in
-    let bus = rw (c₁ .bus-number .ensures) at (c .before .before .put-number5 .ensures) in
-    follows (c₆ .put-number .ensures)
-    (follows (c₅ .put-number2 .ensures) (follows (c₄ .put-number3 .ensures) (follows mark bus)))
+    let at-bus-number = c .before .before .before in
+    let at-put-number4 = at-bus-number .before .before .before .before in
+    let at-one-if = at-put-number4 .before in
+    let at-put-number3 = at-one-if .before .before .before .before in
+    let at-put-number2 = at-put-number3 .before .before .before .before .before in
+    let at-put-number = at-put-number2 .before .before .before .before .before in
+    let mark = rw (at-one-if .one-if .ensures .0) at (at-put-number4 .put-number4 .ensures) in
+    let bus = rw (at-bus-number .bus-number .ensures) at (c .before .before .put-number5 .ensures) in
+    follows (at-put-number .put-number .ensures)
+    (follows (at-put-number2 .put-number2 .ensures) (follows (at-put-number3 .put-number3 .ensures) (follows mark bus)))
 
 pub put-state-spec : {M : Type 1} → statement M
 put-state-spec =

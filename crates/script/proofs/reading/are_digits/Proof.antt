@@ -41,8 +41,8 @@ loop-less c = omega arith
 loop-again : tie.Need-loop-again Inv-loop μ-loop
 unfolding digits-from
 loop-again c =
-    let c₁ = c .before .before .before .before in
-    (omega arith, rw (add-one, c .both .ensures, c .before .hex-value .ensures, c₁ .loop .inv .1))
+    let at-loop = c .before .before .before .before in
+    (omega arith, rw (add-one, c .both .ensures, c .before .hex-value .ensures, at-loop .loop .inv .1))
 
 returns : tie.Need-returns Inv-loop μ-loop
 returns c =

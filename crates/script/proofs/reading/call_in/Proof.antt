@@ -35,8 +35,8 @@ number-at-requires-4 c κs =
 returns : tie.Need-returns
 unfolding call-in
 returns c =
-    let c₁ = c .before .before .before in
-    rw (c₁ .number-at .ensures, c .before .before .number-at2 .ensures, c .before .number-at3 .ensures, c .number-at4 .ensures)
+    let at-number-at = c .before .before .before in
+    rw (at-number-at .number-at .ensures, c .before .before .number-at2 .ensures, c .before .number-at3 .ensures, c .number-at4 .ensures)
 
 pub call-in-spec : {M : Type 1} → statement M
 call-in-spec =

@@ -23,8 +23,8 @@ loop-holds c = (omega arith, refl)
 
 mul-number : tie.Need-mul-number Inv-loop μ-loop
 mul-number c =
-    let c₁ = c .before .before .before in
-    let small = number-small (c₁ .args .line .now) (c₁ .args .at) (c .before .loop .i) (omega arith) (c₁ .pre .1) in
+    let start = c .before .before .before in
+    let small = number-small (start .args .line .now) (start .args .at) (c .before .loop .i) (omega arith) (start .pre .1) in
     omega (arith, small, c .before .loop .inv .1)
 
 add-hex-value : tie.Need-add-hex-value Inv-loop μ-loop
@@ -41,11 +41,11 @@ cast-number c = search needs
 
 add-number : tie.Need-add-number Inv-loop μ-loop
 add-number c =
-    let c₁ = c .before .before .before in
-    let c₂ = c₁ .before .before in
-    let small = number-small (c₂ .args .line .now) (c₂ .args .at) (c₁ .loop .i) (omega arith) (c₂ .pre .1) in
-    let digit = digit-small (c₂ .args .line .now) (c₂ .args .at) (c₁ .loop .i) (omega arith) (c₂ .pre .1) in
-    omega (arith, small, c₁ .loop .inv .1, digit, c .hex-value .ensures)
+    let at-loop = c .before .before .before in
+    let start = at-loop .before .before in
+    let small = number-small (start .args .line .now) (start .args .at) (at-loop .loop .i) (omega arith) (start .pre .1) in
+    let digit = digit-small (start .args .line .now) (start .args .at) (at-loop .loop .i) (omega arith) (start .pre .1) in
+    omega (arith, small, at-loop .loop .inv .1, digit, c .hex-value .ensures)
 
 add-i : tie.Need-add-i Inv-loop μ-loop
 add-i c = omega arith

@@ -30,15 +30,15 @@ same-length-2 c = search needs
 returns : tie.Need-returns
 unfolding block-answer block-memory block-list
 returns c =
-    let c₁ = c .before .before .before .before .before in
-    let c₂ = c₁ .before .before .before in
-    let c₃ = c₂ .before .before .before in
-    let c₄ = c₃ .before .before .before .before in
-    let e = eq-eqb _ _ (c₂ .if1 .taken) in
-    let at = c₃ .place-of .ensures in
-    let o = c₁ .block-read .ensures in
+    let at-block-read = c .before .before .before .before .before in
+    let at-if1 = at-block-read .before .before .before in
+    let at-place-of = at-if1 .before .before .before in
+    let start = at-place-of .before .before .before .before in
+    let e = eq-eqb _ _ (at-if1 .if1 .taken) in
+    let at = at-place-of .place-of .ensures in
+    let o = at-block-read .block-read .ensures in
     record {
-      answer = rw (e, ← at) (c .answer-with .ensures ∙ ap (block-read-done (c₄ .args .s)) (o .outcome));
+      answer = rw (e, ← at) (c .answer-with .ensures ∙ ap (block-read-done (start .args .s)) (o .outcome));
       memory = rw e;
       list = rw (e, ← at) (o .list);
     }
@@ -61,15 +61,15 @@ same-length-4 c = search needs
 returns-2 : tie.Need-returns-2
 unfolding block-answer block-memory block-list
 returns-2 c =
-    let c₁ = c .before .before .before .before .before in
-    let c₂ = c₁ .before .before .before in
-    let c₃ = c₂ .before .before .before in
-    let c₄ = c₃ .before .before .before .before in
-    let e = ne-eqb _ _ (c₂ .if1 .left) in
-    let at = c₃ .place-of .ensures in
-    let o = c₁ .block-write .ensures in
+    let at-block-write = c .before .before .before .before .before in
+    let at-if1 = at-block-write .before .before .before in
+    let at-place-of = at-if1 .before .before .before in
+    let start = at-place-of .before .before .before .before in
+    let e = ne-eqb _ _ (at-if1 .if1 .left) in
+    let at = at-place-of .place-of .ensures in
+    let o = at-block-write .block-write .ensures in
     record {
-      answer = rw (e, ← at) (c .answer-with2 .ensures ∙ ap (block-write-done (c₄ .args .s)) (o .outcome));
+      answer = rw (e, ← at) (c .answer-with2 .ensures ∙ ap (block-write-done (start .args .s)) (o .outcome));
       memory = rw (e, ← at) (o .memory);
       list = rw e;
     }

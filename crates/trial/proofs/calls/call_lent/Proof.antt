@@ -35,12 +35,12 @@ same-length-2 c = search needs
 returns-2 : tie.Need-returns-2
 unfolding lent-answer lent-memory lent-list
 returns-2 c =
-    let c₁ = c .before .before .before .before in
-    let c₂ = c₁ .before in
-    let c₃ = c₂ .before in
-    let c₄ = c₃ .before in
-    let e1 = sym (c₄ .is-host-letter .ensures) ∙ c₃ .if1 .left in
-    let e2 = sym (c₂ .is-field-letter .ensures) ∙ c₁ .if2 .taken in
+    let at-if2 = c .before .before .before .before in
+    let at-is-field-letter = at-if2 .before in
+    let at-if1 = at-is-field-letter .before in
+    let at-is-host-letter = at-if1 .before in
+    let e1 = sym (at-is-host-letter .is-host-letter .ensures) ∙ at-if1 .if1 .left in
+    let e2 = sym (at-is-field-letter .is-field-letter .ensures) ∙ at-if2 .if2 .taken in
     let d = c .before .before .call-fields .ensures in
     record { answer = rw (e1, e2) (d .answer); memory = rw (e1, e2) (d .memory); list = rw (e1, e2) }
 
@@ -56,14 +56,14 @@ same-length-4 c = search needs
 returns-3 : tie.Need-returns-3
 unfolding lent-answer lent-memory lent-list
 returns-3 c =
-    let c₁ = c .before .before .before .before in
-    let c₂ = c₁ .before .before .before in
-    let c₃ = c₂ .before in
-    let c₄ = c₃ .before in
-    let c₅ = c₄ .before in
-    let e1 = sym (c₅ .is-host-letter .ensures) ∙ c₄ .if1 .left in
-    let e2 = sym (c₃ .is-field-letter .ensures) ∙ c₂ .if2 .left in
-    let d = c₁ .call-block .ensures in
+    let at-call-block = c .before .before .before .before in
+    let at-if2 = at-call-block .before .before .before in
+    let at-is-field-letter = at-if2 .before in
+    let at-if1 = at-is-field-letter .before in
+    let at-is-host-letter = at-if1 .before in
+    let e1 = sym (at-is-host-letter .is-host-letter .ensures) ∙ at-if1 .if1 .left in
+    let e2 = sym (at-is-field-letter .is-field-letter .ensures) ∙ at-if2 .if2 .left in
+    let d = at-call-block .call-block .ensures in
     record { answer = rw (e1, e2) (d .answer); memory = rw (e1, e2) (d .memory); list = rw (e1, e2) (d .list) }
 
 pub call-lent-spec : {M : Type 1} → statement M

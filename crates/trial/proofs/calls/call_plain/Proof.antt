@@ -37,11 +37,11 @@ answer-requires c κs = tt
 returns-3 : tie.Need-returns-3
 unfolding plain-answer
 returns-3 c =
-    let c₁ = c .before .before .before in
-    let c₂ = c₁ .before in
-    let c₃ = c₂ .before in
-    let e1 = sym (c₃ .is-processor-letter .ensures) ∙ c₂ .if1 .left in
-    let e2 = sym (c₁ .is-bus-letter .ensures) ∙ c .before .before .if2 .left in
+    let at-is-bus-letter = c .before .before .before in
+    let at-if1 = at-is-bus-letter .before in
+    let at-is-processor-letter = at-if1 .before in
+    let e1 = sym (at-is-processor-letter .is-processor-letter .ensures) ∙ at-if1 .if1 .left in
+    let e2 = sym (at-is-bus-letter .is-bus-letter .ensures) ∙ c .before .before .if2 .left in
     rw (e1, e2, c .answer .ensures, c .before .set-state .ensures)
 
 pub call-plain-spec : {M : Type 1} → statement M

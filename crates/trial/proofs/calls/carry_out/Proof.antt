@@ -34,14 +34,14 @@ same-length-2 c = search needs
 returns-2 : tie.Need-returns-2
 unfolding answer-to room-after list-after
 returns-2 c =
-    let c₁ = c .before .before .before .before in
-    let c₂ = c₁ .before .before .before in
-    let c₃ = c₂ .before in
-    let c₄ = c₃ .before in
-    let c₅ = c₄ .before in
-    let e1 = sym (c₅ .is-plain-letter .ensures) ∙ c₄ .if1 .left in
-    let e2 = sym (c₃ .is-whole-letter .ensures) ∙ c₂ .if2 .taken in
-    let d = c₁ .call-whole .ensures in
+    let at-call-whole = c .before .before .before .before in
+    let at-if2 = at-call-whole .before .before .before in
+    let at-is-whole-letter = at-if2 .before in
+    let at-if1 = at-is-whole-letter .before in
+    let at-is-plain-letter = at-if1 .before in
+    let e1 = sym (at-is-plain-letter .is-plain-letter .ensures) ∙ at-if1 .if1 .left in
+    let e2 = sym (at-is-whole-letter .is-whole-letter .ensures) ∙ at-if2 .if2 .taken in
+    let d = at-call-whole .call-whole .ensures in
     record { answer = rw (e1, e2) (d .answer); left = rw (e1, e2) (d .left); list-left = rw (e1, e2) (d .list-left) }
 
 least-requires : tie.Need-least-requires
@@ -86,27 +86,27 @@ same-length-4 c = search needs
 returns-3 : tie.Need-returns-3
 unfolding answer-to room-after list-after
 returns-3 c =
-    let c₁ = c .before .before .before .before in
-    let c₂ = c₁ .before .before .before in
-    let c₃ = c₂ .before in
-    let c₄ = c₃ .before in
-    let c₅ = c₄ .before in
-    let c₆ = c₅ .before in
-    let c₇ = c₆ .before in
-    let c₈ = c₇ .before .before .before in
-    let e1 = sym (c₇ .is-plain-letter .ensures) ∙ c₆ .if1 .left in
-    let e2 = sym (c₅ .is-whole-letter .ensures) ∙ c₄ .if2 .left in
-    let a = c₈ .args in
+    let at-call-lent = c .before .before .before .before in
+    let at-least2 = at-call-lent .before .before .before in
+    let at-least = at-least2 .before in
+    let at-if2 = at-least .before in
+    let at-is-whole-letter = at-if2 .before in
+    let at-if1 = at-is-whole-letter .before in
+    let at-is-plain-letter = at-if1 .before in
+    let start = at-is-plain-letter .before .before .before in
+    let e1 = sym (at-is-plain-letter .is-plain-letter .ensures) ∙ at-if1 .if1 .left in
+    let e2 = sym (at-is-whole-letter .is-whole-letter .ensures) ∙ at-if2 .if2 .left in
+    let a = start .args in
     let room = a .room .now in
     let list = a .list .now in
-    let d = c₁ .call-lent .ensures in
-    let m = lent-is (a .s .length) (c₃ .least .result) room (c₃ .least .ensures) in
-    let l = lent-is (a .s .size) (c₂ .least2 .result) list (c₂ .least2 .ensures) in
+    let d = at-call-lent .call-lent .ensures in
+    let m = lent-is (a .s .length) (at-least .least .result) room (at-least .least .ensures) in
+    let l = lent-is (a .s .size) (at-least2 .least2 .result) list (at-least2 .least2 .ensures) in
     record {
       answer = rw (e1, e2) (d .answer ∙ (λ i. lent-answer (a .s) (m i) (l i) (a .call)));
-      left = rw (e1, e2) (back-is (a .s .length) (c₃ .least .result) room (c₃ .least .ensures) (c₁ .call-lent .last .1 .0)
+      left = rw (e1, e2) (back-is (a .s .length) (at-least .least .result) room (at-least .least .ensures) (at-call-lent .call-lent .last .1 .0)
           ∙ ap (given-back (a .s .length) room) (d .memory ∙ (λ i. lent-memory (a .s) (m i) (l i) (a .call))));
-      list-left = rw (e1, e2) (back-is (a .s .size) (c₂ .least2 .result) list (c₂ .least2 .ensures) (c₁ .call-lent .last .1 .1 .0)
+      list-left = rw (e1, e2) (back-is (a .s .size) (at-least2 .least2 .result) list (at-least2 .least2 .ensures) (at-call-lent .call-lent .last .1 .1 .0)
           ∙ ap (given-back (a .s .size) list) (d .list ∙ (λ i. lent-list (a .s) (m i) (l i) (a .call))));
     }
 

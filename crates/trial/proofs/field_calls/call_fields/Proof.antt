@@ -21,10 +21,10 @@ same-length c = search needs
 returns : tie.Need-returns
 unfolding field-answer field-memory
 returns c =
-    let c₁ = c .before .before .before in
-    let c₂ = c₁ .before .before .before in
-    let e = eq-eqb _ _ (c₁ .if1 .taken) in
-    record { answer = rw e (c .answer .ensures ∙ ap (taken-done (c₂ .args .s)) (c .before .take-out .ensures)); memory = rw e }
+    let at-if1 = c .before .before .before in
+    let start = at-if1 .before .before .before in
+    let e = eq-eqb _ _ (at-if1 .if1 .taken) in
+    record { answer = rw e (c .answer .ensures ∙ ap (taken-done (start .args .s)) (c .before .take-out .ensures)); memory = rw e }
 
 take-out-signed-requires : tie.Need-take-out-signed-requires
 take-out-signed-requires c κs = tt
@@ -41,17 +41,17 @@ same-length-2 c = search needs
 returns-2 : tie.Need-returns-2
 unfolding field-answer field-memory
 returns-2 c =
-    let c₁ = c .before .before .before in
-    let c₂ = c₁ .before .before in
-    let c₃ = c₂ .before .before in
-    let c₄ = c₃ .before .before .before in
-    let e = ne-eqb _ _ (c₃ .if1 .left) in
-    let f = eq-eqb _ _ (c₂ .if2 .taken) in
-    let t = c₁ .take-out-signed in
+    let at-take-out-signed = c .before .before .before in
+    let at-if2 = at-take-out-signed .before .before in
+    let at-if1 = at-if2 .before .before in
+    let start = at-if1 .before .before .before in
+    let e = ne-eqb _ _ (at-if1 .if1 .left) in
+    let f = eq-eqb _ _ (at-if2 .if2 .taken) in
+    let t = at-take-out-signed .take-out-signed in
     let same : toZ w32 (ofZ w32 (t .result .value)) ≡ t .result .value =
     toZ-ofZ (record { sfits = c .before .before .struct-told .given .1 .0 .1 }) in
     record {
-      answer = rw (e, f, c .answer2 .ensures, c .before .modulo-of .ensures ∙ ap modulo same) (ap (signed-done (c₄ .args .s)) (t .ensures));
+      answer = rw (e, f, c .answer2 .ensures, c .before .modulo-of .ensures ∙ ap modulo same) (ap (signed-done (start .args .s)) (t .ensures));
       memory = rw (e, f);
     }
 
@@ -67,14 +67,14 @@ same-length-3 c = search needs
 returns-3 : tie.Need-returns-3
 unfolding field-answer field-memory
 returns-3 c =
-    let c₁ = c .before .before .before in
-    let c₂ = c₁ .before .before in
-    let c₃ = c₂ .before .before in
-    let c₄ = c₃ .before .before .before in
-    let e = ne-eqb _ _ (c₃ .if1 .left) in
-    let f = ne-eqb _ _ (c₂ .if2 .left) in
-    let p = c₁ .put-in .ensures in
-    record { answer = rw (e, f) (c .answer3 .ensures ∙ ap (put-done (c₄ .args .s)) (p .answer)); memory = rw (e, f) (p .memory) }
+    let at-put-in = c .before .before .before in
+    let at-if2 = at-put-in .before .before in
+    let at-if1 = at-if2 .before .before in
+    let start = at-if1 .before .before .before in
+    let e = ne-eqb _ _ (at-if1 .if1 .left) in
+    let f = ne-eqb _ _ (at-if2 .if2 .left) in
+    let p = at-put-in .put-in .ensures in
+    record { answer = rw (e, f) (c .answer3 .ensures ∙ ap (put-done (start .args .s)) (p .answer)); memory = rw (e, f) (p .memory) }
 
 pub call-fields-spec : {M : Type 1} → statement M
 call-fields-spec =

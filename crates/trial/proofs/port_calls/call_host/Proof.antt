@@ -38,8 +38,8 @@ same-length c = search needs
 
 returns : tie.Need-returns
 returns c =
-    let c₁ = c .before .before .before in
-    carried-out _ _ _ (c₁ .before .access-of .ensures) (c₁ .host-access-by-lending .ensures) (c .host-done .ensures)
+    let at-host-access-by-lending = c .before .before .before in
+    carried-out _ _ _ (at-host-access-by-lending .before .access-of .ensures) (at-host-access-by-lending .host-access-by-lending .ensures) (c .host-done .ensures)
 
 access-of-requires-2 : tie.Need-access-of-requires-2
 access-of-requires-2 c κs = tt
@@ -55,8 +55,8 @@ same-length-2 c = search needs
 
 returns-2 : tie.Need-returns-2
 returns-2 c =
-    let c₁ = c .before .before .before in
-    carried-out _ _ _ (c₁ .before .access-of2 .ensures) (c₁ .host-access .ensures) (c .host-done2 .ensures)
+    let at-host-access = c .before .before .before in
+    carried-out _ _ _ (at-host-access .before .access-of2 .ensures) (at-host-access .host-access .ensures) (c .host-done2 .ensures)
 
 pub call-host-spec : {M : Type 1} → statement M
 call-host-spec =

@@ -18,9 +18,9 @@ answer-requires c κs = tt
 returns : tie.Need-returns
 unfolding processor-answer
 returns c =
-    let c₁ = c .before .before .before in
-    let c₂ = c₁ .before .before .before in
-    rw (eq-eqb _ _ (c₁ .if1 .taken)) (c .answer .ensures ∙ ap (read-done (c₂ .args .s)) (c .before .before .processor-read .ensures))
+    let at-if1 = c .before .before .before in
+    let start = at-if1 .before .before .before in
+    rw (eq-eqb _ _ (at-if1 .if1 .taken)) (c .answer .ensures ∙ ap (read-done (start .args .s)) (c .before .before .processor-read .ensures))
 
 cast-processor-write : tie.Need-cast-processor-write
 cast-processor-write c = search needs
@@ -34,10 +34,10 @@ answer-with-requires c κs = tt
 returns-2 : tie.Need-returns-2
 unfolding processor-answer
 returns-2 c =
-    let c₁ = c .before .before .before .before in
-    let c₂ = c₁ .before .before .before in
-    rw (ne-eqb _ _ (c₁ .if1 .left))
-    (c .answer-with .ensures ∙ ap (written-done (c₂ .args .s)) (c .before .before .processor-write .ensures))
+    let at-if1 = c .before .before .before .before in
+    let start = at-if1 .before .before .before in
+    rw (ne-eqb _ _ (at-if1 .if1 .left))
+    (c .answer-with .ensures ∙ ap (written-done (start .args .s)) (c .before .before .processor-write .ensures))
 
 pub call-processor-spec : {M : Type 1} → statement M
 call-processor-spec =

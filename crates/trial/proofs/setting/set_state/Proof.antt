@@ -25,8 +25,8 @@ set-lengths-requires-2 c κs = tt
 returns-2 : tie.Need-returns-2
 unfolding state-set
 returns-2 c =
-    let c₁ = c .before .before .before .before in
-    rw (ne-eqb _ _ (c₁ .if1 .left), eq-eqb _ _ (c .before .before .if2 .taken)) (c .set-lengths2 .ensures)
+    let at-if1 = c .before .before .before .before in
+    rw (ne-eqb _ _ (at-if1 .if1 .left), eq-eqb _ _ (c .before .before .if2 .taken)) (c .set-lengths2 .ensures)
 
 registers-of-requires : tie.Need-registers-of-requires
 registers-of-requires c κs = tt
@@ -37,11 +37,11 @@ set-registers-requires c κs = tt
 returns-3 : tie.Need-returns-3
 unfolding state-set
 returns-3 c =
-    let c₁ = c .before .before .before .before in
-    let c₂ = c₁ .before .before in
-    let c₃ = c₂ .before .before in
-    rw (ne-eqb _ _ (c₂ .if1 .left), ne-eqb _ _ (c₁ .if2 .left), eq-eqb _ _ (c .before .before .if3 .taken))
-    (c .set-registers .ensures ∙ ap (with-registers (c₃ .args .s)) (c .before .registers-of .ensures))
+    let at-if2 = c .before .before .before .before in
+    let at-if1 = at-if2 .before .before in
+    let start = at-if1 .before .before in
+    rw (ne-eqb _ _ (at-if1 .if1 .left), ne-eqb _ _ (at-if2 .if2 .left), eq-eqb _ _ (c .before .before .if3 .taken))
+    (c .set-registers .ensures ∙ ap (with-registers (start .args .s)) (c .before .registers-of .ensures))
 
 wake-requires : tie.Need-wake-requires
 wake-requires c κs = tt
@@ -49,9 +49,9 @@ wake-requires c κs = tt
 returns-4 : tie.Need-returns-4
 unfolding state-set
 returns-4 c =
-    let c₁ = c .before .before .before in
-    let c₂ = c₁ .before .before in
-    rw (ne-eqb _ _ (c₂ .if1 .left), ne-eqb _ _ (c₁ .if2 .left), ne-eqb _ _ (c .before .if3 .left)) (c .wake .ensures)
+    let at-if2 = c .before .before .before in
+    let at-if1 = at-if2 .before .before in
+    rw (ne-eqb _ _ (at-if1 .if1 .left), ne-eqb _ _ (at-if2 .if2 .left), ne-eqb _ _ (c .before .if3 .left)) (c .wake .ensures)
 
 pub set-state-spec : {M : Type 1} → statement M
 set-state-spec =

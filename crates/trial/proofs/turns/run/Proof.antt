@@ -35,21 +35,21 @@ loop-less c =
 
 loop-again : tie.Need-loop-again Inv-loop μ-loop
 loop-again c =
-    let c₁ = c .before .before .before .before .before .before in
-    let c₂ = c₁ .before .before .before .before in
-    (c₁ .take-turn .kept .1 .0 ∙ c₂ .loop .inv .0, c₁ .take-turn .kept .1 .1 .0 ∙ c₂ .loop .inv .1)
+    let at-take-turn = c .before .before .before .before .before .before in
+    let at-loop = at-take-turn .before .before .before .before in
+    (at-take-turn .take-turn .kept .1 .0 ∙ at-loop .loop .inv .0, at-take-turn .take-turn .kept .1 .1 .0 ∙ at-loop .loop .inv .1)
 
 same-length : tie.Need-same-length Inv-loop μ-loop
 same-length c =
-    let c₁ = c .before .before .before .before .before .before in
-    let c₂ = c₁ .before .before .before .before in
-    c₁ .take-turn .kept .1 .0 ∙ c₂ .loop .inv .0
+    let at-take-turn = c .before .before .before .before .before .before in
+    let at-loop = at-take-turn .before .before .before .before in
+    at-take-turn .take-turn .kept .1 .0 ∙ at-loop .loop .inv .0
 
 same-length-2 : tie.Need-same-length-2 Inv-loop μ-loop
 same-length-2 c =
-    let c₁ = c .before .before .before .before .before .before in
-    let c₂ = c₁ .before .before .before .before in
-    c₁ .take-turn .kept .1 .1 .0 ∙ c₂ .loop .inv .1
+    let at-take-turn = c .before .before .before .before .before .before in
+    let at-loop = at-take-turn .before .before .before .before in
+    at-take-turn .take-turn .kept .1 .1 .0 ∙ at-loop .loop .inv .1
 
 returns : tie.Need-returns Inv-loop μ-loop
 returns c = search needs

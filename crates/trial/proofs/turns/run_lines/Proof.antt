@@ -91,8 +91,8 @@ part-line-start c = search needs
 
 part-line-end : tie.Need-part-line-end Inv-loop μ-loop
 part-line-end c =
-    let c₁ = c .before .before .before .before .before .before in
-    in-script (c₁ .args .input .now) (c .before .loop .i) (c .loop-test .taken)
+    let start = c .before .before .before .before .before .before in
+    in-script (start .args .input .now) (c .before .loop .i) (c .loop-test .taken)
 
 read-line-requires : tie.Need-read-line-requires Inv-loop μ-loop
 read-line-requires c κs = tt
@@ -105,15 +105,15 @@ carry-out-requires c κs = tt
 
 mul-at : tie.Need-mul-at Inv-loop μ-loop
 mul-at c =
-    let c₁ = c .before .before .before .before .before .before .before .before .before .before .before .before in
-    let c₂ = c₁ .before .before .before .before .before .before in
-    omega (arith, c₁ .loop-test .taken, c₂ .pre, c₂ .good)
+    let at-test = c .before .before .before .before .before .before .before .before .before .before .before .before in
+    let start = at-test .before .before .before .before .before .before in
+    omega (arith, at-test .loop-test .taken, start .pre, start .good)
 
 add-end : tie.Need-add-end Inv-loop μ-loop
 add-end c =
-    let c₁ = c .before .before .before .before .before .before .before .before .before .before .before .before in
-    let c₂ = c₁ .before .before .before .before .before .before in
-    omega (arith, c₁ .loop-test .taken, c₂ .pre, c₂ .good)
+    let at-test = c .before .before .before .before .before .before .before .before .before .before .before .before in
+    let start = at-test .before .before .before .before .before .before in
+    omega (arith, at-test .loop-test .taken, start .pre, start .good)
 
 sub-put-line : tie.Need-sub-put-line Inv-loop μ-loop
 sub-put-line c = search needs
@@ -123,43 +123,45 @@ part-put-line-start c = search needs
 
 part-put-line-end : tie.Need-part-put-line-end Inv-loop μ-loop
 part-put-line-end c =
-    let c₁ = c .before .before .before .before .before .before .before .before .before .before .before .before in
-    let c₂ = c₁ .before in
-    let c₃ = c₂ .before .before .before .before .before in
-    in-output (c₂ .loop .inv) (c₁ .loop-test .taken) (c₃ .pre)
+    let at-test = c .before .before .before .before .before .before .before .before .before .before .before .before in
+    let at-loop = at-test .before in
+    let start = at-loop .before .before .before .before .before in
+    in-output (at-loop .loop .inv) (at-test .loop-test .taken) (start .pre)
 
 put-line-requires : tie.Need-put-line-requires Inv-loop μ-loop
 put-line-requires c κs = tt
 
 add-i : tie.Need-add-i Inv-loop μ-loop
 add-i c =
-    let c₁ = c .before .before .before .before .before .before .before .before .before .before .before .before .before .before .before .before .before in
-    let c₂ = c₁ .before .before .before .before .before .before in
-    omega (arith, c₁ .loop-test .taken, c₂ .good)
+    let at-carry-out = c .before .before .before .before .before .before .before .before .before in
+    let at-test = at-carry-out .before .before .before .before .before .before .before .before in
+    let start = at-test .before .before .before .before .before .before in
+    omega (arith, at-test .loop-test .taken, start .good)
 
 loop-less : tie.Need-loop-less Inv-loop μ-loop
 loop-less c =
-    let c₁ = c .before .before .before .before .before .before .before .before .before .before .before .before .before .before .before .before .before in
-    omega (arith, c₁ .loop-test .taken)
+    let at-carry-out = c .before .before .before .before .before .before .before .before .before in
+    let at-test = at-carry-out .before .before .before .before .before .before .before .before in
+    omega (arith, at-test .loop-test .taken)
 
 loop-again : tie.Need-loop-again Inv-loop μ-loop
 loop-again c =
-    let c₁ = c .before .before .before in
-    let c₂ = c₁ .before .before .before .before .before .before in
-    let c₃ = c₂ .before .before .before .before in
-    let c₄ = c₃ .before .before in
-    let c₅ = c₄ .before .before in
-    let c₆ = c₅ .before in
-    let c₇ = c₆ .before .before .before .before .before in
-    let k = c₆ .loop .inv in
-    let more = c₅ .loop-test .taken in
-    let line = part-is (38 * c₆ .loop .i) 38 (c₇ .args .input .now) in
-    let read = read-good _ _ (sym (ap line-in line) ∙ sym (c₄ .read-line .ensures) ∙ c₃ .call .given .1) in
-    let done = c₂ .carry-out .ensures in
-    let part = part-length (47 * c₆ .loop .i) 47 (c₆ .loop .output) (in-output k more (c₇ .pre)) in
-    let long = c₁ .put-line .kept .0 ∙ part in
-    let written = c₁ .put-line .ensures ∙ whole-line _ _ _ part in
-    turned k more (c₇ .pre) (read .0) (read .1) done (c₂ .carry-out .kept .1 .0) (c₂ .carry-out .kept .1 .1 .0) written long
+    let at-put-line = c .before .before .before in
+    let at-carry-out = at-put-line .before .before .before .before .before .before in
+    let at-call = at-carry-out .before .before .before .before in
+    let at-read-line = at-call .before .before in
+    let at-test = at-read-line .before .before in
+    let at-loop = at-test .before in
+    let start = at-loop .before .before .before .before .before in
+    let k = at-loop .loop .inv in
+    let more = at-test .loop-test .taken in
+    let line = part-is (38 * at-loop .loop .i) 38 (start .args .input .now) in
+    let read = read-good _ _ (sym (ap line-in line) ∙ sym (at-read-line .read-line .ensures) ∙ at-call .call .given .1) in
+    let done = at-carry-out .carry-out .ensures in
+    let part = part-length (47 * at-loop .loop .i) 47 (at-loop .loop .output) (in-output k more (start .pre)) in
+    let long = at-put-line .put-line .kept .0 ∙ part in
+    let written = at-put-line .put-line .ensures ∙ whole-line _ _ _ part in
+    turned k more (start .pre) (read .0) (read .1) done (at-carry-out .carry-out .kept .1 .0) (at-carry-out .carry-out .kept .1 .1 .0) written long
 
 enum-told : tie.Need-enum-told Inv-loop μ-loop
 enum-told c = search needs
@@ -181,10 +183,10 @@ same-length-3 c =
 
 returns : tie.Need-returns Inv-loop μ-loop
 returns c =
-    let c₁ = c .before .before .before .before .before in
-    let c₂ = c₁ .before .before .before .before .before in
-    let k = c₁ .loop .inv in
-    let line = part-is (38 * c₁ .loop .i) 38 (c₂ .args .input .now) in
+    let at-loop = c .before .before .before .before .before in
+    let start = at-loop .before .before .before .before .before in
+    let k = at-loop .loop .inv in
+    let line = part-is (38 * at-loop .loop .i) 38 (start .args .input .now) in
     let bad = read-bad _ (sym (ap line-in line) ∙ sym (c .before .before .read-line .ensures) ∙ c .enum-told .given .1) in
     record { most = k .most; calls = k .calls; cut = λ _. bad; left = k .left; written = k .out }
 

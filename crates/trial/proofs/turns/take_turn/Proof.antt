@@ -53,8 +53,8 @@ same-length-2 c = search needs
 
 returns : tie.Need-returns
 returns c =
-    let c₁ = c .before .before .before .before .before .before .before .before .before .before .before .before .before in
-    let k = c₁ .run-lines .ensures in
+    let at-run-lines = c .before .before .before .before .before .before .before .before .before .before .before .before .before in
+    let k = at-run-lines .run-lines .ensures in
     record { script = _; lines = _; calls = k .calls; left = k .left }
 
 slice-aggregate-write-all : tie.Need-slice-aggregate-write-all
@@ -71,8 +71,8 @@ same-length-4 c = search needs
 
 returns-2 : tie.Need-returns-2
 returns-2 c =
-    let c₁ = c .before .before .before .before .before .before .before .before .before .before .before .before .before .before in
-    let k = c₁ .run-lines .ensures in
+    let at-run-lines = c .before .before .before .before .before .before .before .before .before .before .before .before .before .before in
+    let k = at-run-lines .run-lines .ensures in
     record { script = _; lines = _; calls = k .calls; left = k .left }
 
 pub take-turn-spec : {M : Type 1} → statement M

@@ -23,10 +23,10 @@ same-length-2 c = search needs
 returns : tie.Need-returns
 unfolding whole-answer whole-room whole-list
 returns c =
-    let c₁ = c .before .before .before in
-    let c₂ = c₁ .before .before in
-    let e = eq-eqb _ _ (c₂ .if1 .taken) in
-    record { answer = rw (e, c .answer .ensures, c₁ .digest-of .ensures, c .before .digest-of2 .ensures); left = rw e; list-left = rw e }
+    let at-digest-of = c .before .before .before in
+    let at-if1 = at-digest-of .before .before in
+    let e = eq-eqb _ _ (at-if1 .if1 .taken) in
+    record { answer = rw (e, c .answer .ensures, at-digest-of .digest-of .ensures, c .before .digest-of2 .ensures); left = rw e; list-left = rw e }
 
 fill-requires : tie.Need-fill-requires
 fill-requires c κs = tt
