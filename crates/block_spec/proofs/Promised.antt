@@ -24,8 +24,7 @@ use Rattle.block_spec.specs.declared.BlockRead.{BlockRead}
 use Rattle.block_spec.specs.declared.BlockWrite.{BlockWrite}
 use Rattle.block_spec.proofs.Numbers.{BlockWhen, read-number, read-numbered, read-barred, list-barred}
 use Rattle.block_spec.proofs.Numbers.{write-number, write-numbered, write-barred, memory-barred}
-use Rattle.block_spec.proofs.Singles.{LikeReads, like-reads, reads-answer}
-use Rattle.block_spec.proofs.Singles.{LikeWrites, like-writes, writes-answer}
+use Rattle.block_spec.proofs.Singles.{LikeReads, like-reads, reads-answer, LikeWrites, like-writes, writes-answer}
 use Rattle.block_spec.proofs.NoWords.{nothing-read, list-kept, nothing-written, memory-kept}
 use Rattle.block_spec.proofs.EveryWordOfABlock.{every-word-of-a-block, block-past-the-end, block-beyond}
 use Rattle.block_spec.proofs.ReadBack.{words-laid, reads-back}

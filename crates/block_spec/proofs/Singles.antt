@@ -7,8 +7,7 @@ use mathlib.Core.Path.{_≡_, refl, sym, ap, _∙_}
 use mathlib.Core.Bool.{true, false≢true}
 use mathlib.Core.List.{List, [], _∷_}
 use mathlib.Core.Logic.{_↔_}
-use lib.ListN.{length, getD, drop}
-use lib.ListN.{length-drop, length-take}
+use lib.ListN.{length, getD, drop, length-drop, length-take}
 use lib.Seq.{getD-drop, getD-take}
 use Rattle.registers.specs.declared.Registers.{Registers}
 use Rattle.port_spec.specs.Sequences.{Machine, machine, words-in, answer-of, after, answers, ends}

@@ -22,8 +22,7 @@ use Rattle.port_spec.specs.declared.Cycle.{Cycle}
 use Rattle.port_spec.specs.declared.Cycle.the-variants.{None, Inside, Empty}
 use Rattle.checked_spec.specs.Acts.{World, Seen, Example, _⇒_, left}
 use Rattle.checked_spec.specs.Acts.{host, processor, put, take, take-signed, grant, release, pointer, hstdata, low-control-byte}
-use Rattle.checked_spec.specs.Acts.{memory}
-use Rattle.checked_spec.specs.Acts.{answered, put-in, taken-out, taken-out-signed, granted-to, number, is, words}
+use Rattle.checked_spec.specs.Acts.{memory, answered, put-in, taken-out, taken-out-signed, granted-to, number, is, words}
 
 abbrev pub INCW : ℕ
 INCW = 2 ^ 11

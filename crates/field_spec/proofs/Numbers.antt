@@ -17,8 +17,7 @@ use Rattle.field_spec.specs.Answers.{no-size, refusal, taken, taken-sign
 use Rattle.field_spec.specs.declared.Taken.{Taken}
 use Rattle.field_spec.specs.declared.SignedTaken.{SignedTaken}
 use Rattle.field_spec.specs.declared.Put.{Put}
-use Rattle.field_spec.proofs.Answered.{taken-done, signed-done, put-done}
-use Rattle.field_spec.proofs.Answered.{taken-refused, signed-refused, put-refused, memory-refused}
+use Rattle.field_spec.proofs.Answered.{taken-done, signed-done, put-done, taken-refused, signed-refused, put-refused, memory-refused}
 use Rattle.field_spec.proofs.Accepted.{tested}
 
 -- ---- when, and only then

@@ -6,8 +6,7 @@ use mathlib.Core.Path.{_≡_, refl, sym, ap, _∙_}
 use mathlib.Core.List.{List, [], _∷_, _++_}
 use lib.ListN.{length}
 use lib.Seq.{length-take-le}
-use Rattle.salvage_spec.specs.Pieces.{beginning, piece-taken, pieces-taken}
-use Rattle.salvage_spec.specs.Pieces.{Progress as Salvage·Progress}
+use Rattle.salvage_spec.specs.Pieces.{beginning, piece-taken, pieces-taken, Progress as Salvage·Progress}
 use Rattle.salvage_spec.proofs.InPieces.{taken-on}
 use Rattle.salvage_command.specs.Turning.{Room, SalvagedTurn, SoFar, Tells}
 use Rattle.salvage_command.specs.declared.Turn.{Turn}

@@ -8,8 +8,7 @@ use lib.ListN.{length, take, drop, length-append, length-drop, take-append-drop}
 use lib.Seq.{length-take-le, take-take}
 use Rattle.transcript_spec.specs.Reading.{entries-read, refusal-read}
 use Rattle.salvage_spec.specs.InPlainWords.{answer}
-use Rattle.salvage_spec.specs.Pieces.{may-go-on, at-hand, held-of, piece-taken, piece-written}
-use Rattle.salvage_spec.specs.Pieces.{Progress as Salvage·Progress}
+use Rattle.salvage_spec.specs.Pieces.{may-go-on, at-hand, held-of, piece-taken, piece-written, Progress as Salvage·Progress}
 use Rattle.salvage_spec.specs.Salvage.{run, rest, SalvagedTranscript}
 use Rattle.salvage_spec.specs.declared.Salvaged.{Salvaged}
 use Rattle.salvage_spec.proofs.WhatWasWritten.{fits-if-all-would}

@@ -15,8 +15,7 @@ use mathlib.Core.List.{List}
 use mathlib.Core.Path.{_≡_}
 use lib.Dec.{ltb}
 use lib.ListN.{length, take, drop}
-use Rattle.salvage_spec.specs.Pieces.{beginning, may-go-on, piece-taken, piece-written, pieces-taken}
-use Rattle.salvage_spec.specs.Pieces.{Progress as Salvage·Progress}
+use Rattle.salvage_spec.specs.Pieces.{beginning, may-go-on, piece-taken, piece-written, pieces-taken, Progress as Salvage·Progress}
 use Rattle.salvage_command.specs.declared.Turn.{Turn}
 use Rattle.salvage_command.specs.declared.pieces.Progress.{Progress}
 use Rattle.salvage_command.specs.declared.pieces.Taken.{Taken}

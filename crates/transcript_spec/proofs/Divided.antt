@@ -8,8 +8,7 @@ use lib.ListN.{length, getD, length-append}
 use Rattle.words.proofs.Choices.{less-or-not, same-or-not}
 use Rattle.transcript_spec.specs.Format.{head-of}
 use Rattle.transcript_spec.specs.InPlainWords.{Continued, Spelled, value-of, Unpadded, Spells, Good, GoodRecord, a-read, a-write}
-use Rattle.transcript_spec.specs.InPlainWords.{Sound, nothing, and-more, WriteHead}
-use Rattle.transcript_spec.specs.InPlainWords.{BadRecord, head-cut, head-bad, word-cut, word-bad}
+use Rattle.transcript_spec.specs.InPlainWords.{Sound, nothing, and-more, WriteHead, BadRecord, head-cut, head-bad, word-cut, word-bad}
 use Rattle.transcript_spec.specs.InPlainWords as plain
 use Rattle.transcript_spec.specs.Reading.{entry-said}
 use Rattle.transcript_spec.specs.declared.Entry.{Entry}

@@ -22,8 +22,7 @@ use Rattle.transcript_spec.specs.declared.Part.the-variants.{Head, Word}
 use Rattle.transcript_spec.specs.declared.Step.{Step}
 use Rattle.transcript_spec.specs.declared.Step.the-variants.{Goes, Whole, Bad}
 use Rattle.transcript_spec.proofs.Divided.{entry-good, says-head}
-use Rattle.transcript_spec.proofs.Judged.{head-refused, word-refused, head-accepted, word-accepted}
-use Rattle.transcript_spec.proofs.Judged.{head-range, head-kind, head-back}
+use Rattle.transcript_spec.proofs.Judged.{head-refused, word-refused, head-accepted, word-accepted, head-range, head-kind, head-back}
 use Rattle.transcript_spec.proofs.NumberRead.{grown-by}
 use Rattle.transcript_spec.proofs.ThroughNumbers.{grown-snoc, head-rule, word-rule}
 

@@ -1,7 +1,6 @@
 // The calls of blocks: I reads into the list, O writes from it.
 ghost use mathlib.Core.Path.{_≡_};
-ghost use Rattle.trial.specs.Calls.{BlockDone};
-ghost use Rattle.trial.specs.Calls.{place-of as Calls·place-of};
+ghost use Rattle.trial.specs.Calls.{BlockDone, place-of as Calls·place-of};
 use crate::setting::answer_with;
 use script::Call;
 use script::Done;

@@ -1,7 +1,6 @@
 // The port's calls: an access by the host, R and W, and in place H and K; one by the processor, P and Q.
 ghost use mathlib.Core.Path.{_≡_};
-ghost use Rattle.trial.specs.Calls.{hollow-and-cycle, access-in, HostDone, processor-answer};
-ghost use Rattle.trial.specs.Calls.{host-done as Calls·host-done};
+ghost use Rattle.trial.specs.Calls.{hollow-and-cycle, access-in, HostDone, processor-answer, host-done as Calls·host-done};
 use crate::setting::answer;
 use crate::setting::answer_with;
 use port::number_of_cycle;

@@ -9,7 +9,7 @@ use lib.ListN.{length, take, set, length-set}
 use lib.Seq.{take-length, take-suc-set}
 use borrow.Author.Needs.{needs}
 use Rattle.registers.specs.declared.Registers.{Registers}
-use Rattle.port_spec.specs.Cycle.{standing}
+use Rattle.port_spec.specs.Cycle.{standing, stepped}
 use Rattle.port_spec.specs.Deeds.{ahead}
 use Rattle.port_spec.specs.Sequences.{machine, answers, ends}
 use Rattle.port_spec.specs.Table.{Memory, reading}
@@ -20,7 +20,6 @@ use Rattle.block_spec.proofs.Joining.{join-reads, few-hollows}
 use Rattle.block_spec.proofs.OneAccess.{one-read}
 use mathlib.Core.Logic.{⊎-elim}
 use mathlib.Core.Bool.{Bool, true, false}
-use Rattle.port_spec.specs.Cycle.{stepped}
 use Rattle.block.proofs.reading.read_singly.Statement.{statement}
 use Rattle.block.proofs.reading.read_singly.Tie as tie
 
