@@ -1,9 +1,13 @@
--- What the contracts of the calls say, taken from the contracts themselves (`Contract`): each is a statement on the call's own arguments.
-use Prim.Native.Nat.{min}
-use mathlib.Core.Path.{_≡_}
-use lib.ListN.{length}
+-- What the contract of a read promises, said of any outcome that it allows; and what the contracts say, taken from the contracts themselves
+-- (`Contract`): each is a statement on the call's own arguments.
+use Prim.Native.Nat.{ℕ, _≤_, _<_, min}
+use mathlib.Core.Bool.{true}
+use mathlib.Core.List.{List}
+use mathlib.Core.Path.{_≡_, ap}
+use lib.ListN.{length, take}
 use Rattle.words.proofs.Contracts.{Contract}
 use Rattle.input.specs.Filling.{FilledBehind}
+use Rattle.input.specs.declared.Filled.{Filled}
 use Rattle.input.proofs.filling.fill.Kinds as fill-kinds
 use Rattle.input.proofs.filling.fill.Reads as fill
 use Rattle.input.proofs.records.read_record.Kinds as read-record-kinds
@@ -11,6 +15,22 @@ use Rattle.input.proofs.records.read_record.Reads as read-record
 use Rattle.input.proofs.records.places_lent.Kinds as places-lent-kinds
 use Rattle.input.proofs.records.places_lent.Reads as places-lent
 
+module _ {b : List ℕ} {held : ℕ} {r : Filled} {b′ : List ℕ} (p : FilledBehind b held r b′) where
+  -- The bytes that are held stay, and the buffer is as long as it was.
+  pub held-bytes-stay : (take held b′ ≡ take held b) × (length b′ ≡ length b)
+  held-bytes-stay = (p .first, p .as-long)
+
+  -- With room for a byte more, there is then at least what was held, and no more than the buffer has.
+  pub more-fits : held < length b → (held ≤ r .all) × (r .all ≤ length b)
+  more-fits h = (p .behind, p .within h)
+
+  -- Without that room no byte changes, there is no more than was held, and it has failed: it does not look like the input's end.
+  pub no-room-no-end : length b ≤ held → (b′ ≡ b) × (r .all ≡ held) × (r .failed ≡ true)
+  no-room-no-end h =
+      let e = p .no-room h in
+      (e .1, ap (λ (x : Filled). x .all) (e .0), ap (λ (x : Filled). x .failed) (e .0))
+
+-- ---- the contracts themselves
 -- `fill`: buffer, held.
 pub fill-contract : Contract fill-kinds.ps fill-kinds.r fill.Pre fill.Post
     (λ κs args r left.
