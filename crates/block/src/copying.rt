@@ -36,7 +36,7 @@ pub(crate) fn copy_words(from: &[u16], to: &mut [u16])
 
 // The pointer after `count` steps.
 pub(crate) fn step_by(a: BitAddress, count: usize) -> BitAddress
-    requires { ⌜ count ≤ 4096 ⌝ }
+    requires { ⌜ count ≤ 32768 ⌝ }
     ensures { λ r. ⌜ r ≡ stepped-by count a ⌝ }
 {
     BitAddress(wrapping_add_u32(a.0, 16 * (count as u32)))

@@ -16,7 +16,7 @@ use Rattle.registers.specs.declared.Registers.{Registers}
 use Rattle.port_spec.specs.Table.{Memory, loaded, table, Lies}
 use Rattle.port_spec.specs.Sequences.{machine}
 use Rattle.block_spec.specs.Block.{block-number, list-part, with-list-part, block-write, memory-left, block-read, list-after}
-use Rattle.block_spec.specs.Parts.{stepped-by, WrittenFrom}
+use Rattle.block_spec.specs.Parts.{stepped-by, WrittenFrom, GoesStraight}
 use Rattle.block_spec.specs.declared.BlockWrite.{BlockWrite}
 use Rattle.block_spec.proofs.Numbers.{when, write-taken, memory-taken}
 use Rattle.block_spec.proofs.Lent.{laid-length, laid-inside, laid-part, laid-before, laid-behind}
@@ -65,7 +65,11 @@ module _ (r : Registers) (m l : List ℕ) (place n : ℕ) (k : Memory m) (i : in
 
   written :
       WrittenFrom (machine r m) ws (record { registers = wrote r n (getD ws (n - 1) 0); tallied = 0 }) (with-list-part m x n ws)
-  written = rw size-of at (copied-write ws r m (rw size-of some) (k .size) i (part-words l place n w) (rw size-of there))
+  written =
+      let straight : GoesStraight (incw (r .control)) (word-at (r .pointer)) (length m) (length ws) =
+      record { memory = k .size; some = rw size-of some; stepping = i; inside = rw size-of there }
+      in
+      rw size-of at (copied-write ws r m straight (part-words l place n w))
 
   memory-is : memory-left r m l place n ≡ with-list-part m x n ws
   memory-is = memory-taken r m l place n accepted ∙ sym (written .memory)

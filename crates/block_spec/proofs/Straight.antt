@@ -13,6 +13,7 @@ use borrow.Author.Tests.{lt-ltb}
 use Rattle.words.specs.Addresses.{word-at, step}
 use Rattle.words.specs.Memory.{AreWords, fetch-at, store-at}
 use Rattle.words.specs.declared.BitAddress.{BitAddress}
+use Rattle.words.specs.declared.WordNumber.{WordNumber}
 use Rattle.words.proofs.Addresses.{step-fits}
 use Rattle.control.specs.Control.{incr, incw}
 use Rattle.registers.specs.Registers.{with-latch}
@@ -23,51 +24,47 @@ use Rattle.port_spec.specs.Table.{Memory, stands, reading, on-by, table, Lies, 
 use Rattle.port_spec.proofs.Handed.{on-by-gains, reads-answer, reads-end}
 use Rattle.port_spec.proofs.TableWords.{table-handed}
 use Rattle.block_spec.specs.Block.{counted, hollows-in}
-use Rattle.block_spec.specs.Parts.{straight-reads, straight-writes, stepped-by, ReadInto, WrittenFrom}
+use Rattle.block_spec.specs.Parts.{first-fetched, straight-reads, straight-writes, GoesStraight}
+use Rattle.block_spec.specs.Parts.{stepped-by, ReadInto, WrittenFrom}
 use Rattle.block_spec.proofs.HandedOut.{all-held}
 use Rattle.block_spec.proofs.Joining.{join-reads, join-writes}
 use Rattle.block_spec.proofs.OneAccess.{one-read, one-write}
 
 -- ---- how many there are
--- n accesses of a block go straight: they step, and from word `first` on there are n words in memory.
-pub record Straight (steps : Bool) (first words count n : ℕ) : Type 0 where
-  pub some : 0 < n
-  pub most : n ≤ count
-  pub stepping : steps ≡ true
-  pub inside : first + n ≤ words
-
-goes-straight : (steps : Bool) (first words count n : ℕ) → n ≡ cond steps (min count (words - first)) 0 → n ≢ 0 →
-    Straight steps first words count n
-goes-straight true first words count n e h =
-    record { some = omega arith; most = omega arith; stepping = refl; inside = omega arith }
-goes-straight false first words count n e h = absurd (h e)
+goes-straight : (steps : Bool) (first : WordNumber) (words count n : ℕ) → words ≤ 32768 →
+    n ≡ cond steps (min count (words - first .0)) 0 → n ≢ 0 → (n ≤ count) × GoesStraight steps first words n
+goes-straight true first words count n few e h = (
+  omega arith,
+  record { memory = few; some = omega arith; stepping = refl; inside = omega arith },
+)
+goes-straight false first words count n few e h = absurd (h e)
 
 -- Reads go straight, if any, while the word after the pointer's, which they fetch, is in memory.
-pub reads-go-straight : (r : Registers) (words count n : ℕ) → n ≡ straight-reads r words count → n ≢ 0 →
-    Straight (incr (r .control)) (word-at (r .pointer) .0 + 1) words count n
+pub reads-go-straight : (r : Registers) (words count n : ℕ) → words ≤ 32768 → n ≡ straight-reads r words count → n ≢ 0 →
+    (n ≤ count) × GoesStraight (incr (r .control)) (first-fetched r) words n
 unfolding straight-reads
-reads-go-straight r words count n = goes-straight (incr (r .control)) (word-at (r .pointer) .0 + 1) words count n
+reads-go-straight r words count n = goes-straight (incr (r .control)) (first-fetched r) words count n
 
 -- Writes go straight, if any, while the pointer's word is in memory.
-pub writes-go-straight : (r : Registers) (words count n : ℕ) → n ≡ straight-writes r words count → n ≢ 0 →
-    Straight (incw (r .control)) (word-at (r .pointer) .0) words count n
+pub writes-go-straight : (r : Registers) (words count n : ℕ) → words ≤ 32768 → n ≡ straight-writes r words count → n ≢ 0 →
+    (n ≤ count) × GoesStraight (incw (r .control)) (word-at (r .pointer)) words n
 unfolding straight-writes
-writes-go-straight r words count n = goes-straight (incw (r .control)) (word-at (r .pointer) .0) words count n
+writes-go-straight r words count n = goes-straight (incw (r .control)) (word-at (r .pointer)) words count n
 
 -- ---- reads
+-- the registers n words on
+abbrev pub moved : Registers → List ℕ → ℕ → Registers
+moved r m n =
+    record {
+      pointer = stepped-by n (r .pointer);
+      latch = getD m (word-at (r .pointer) .0 + n) 0;
+      control = r .control;
+      hollow = false;
+    }
+
 module _ (r : Registers) (m : List ℕ) (k : Memory m) (i : incr (r .control) ≡ true) where
   abbrev s : Machine
   s = machine r m
-
-  -- the registers n words on
-  abbrev moved : ℕ → Registers
-  moved n =
-      record {
-        pointer = stepped-by n (r .pointer);
-        latch = getD m (word-at (r .pointer) .0 + n) 0;
-        control = r .control;
-        hollow = false;
-      }
 
   -- Registers that stand inside memory.
   stands-inside : (a : BitAddress) → word-at a .0 < length m →
@@ -90,7 +87,7 @@ module _ (r : Registers) (m : List ℕ) (k : Memory m) (i : incr (r .control) �
 
   -- The first word is the one already held; the others are copied from memory, and so is the word that is held in the end.
   pub straight-read : (n : ℕ) → r .latch < 65536 → word-at (r .pointer) .0 + suc n < length m →
-      ReadInto s (suc n) (record { registers = moved (suc n); tallied = counted (r .hollow) }) (r .latch ∷ table m (step (r .pointer)) n)
+      ReadInto s (suc n) (record { registers = moved r m (suc n); tallied = counted (r .hollow) }) (r .latch ∷ table m (step (r .pointer)) n)
   straight-read n f h =
       let a = r .pointer in
       let first : ReadInto s 1 (record { registers = standing m (r .control) (step a); tallied = counted (r .hollow) }) (r .latch ∷ []) =
@@ -101,22 +98,30 @@ module _ (r : Registers) (m : List ℕ) (k : Memory m) (i : incr (r .control) �
       let there : on-by n (step a) ≡ stepped-by (suc n) a = ap (λ (x : ℕ). record { 0 = x }) gained in
       let word : word-at (stepped-by (suc n) a) .0 ≡ word-at a .0 + suc n = omega (arith, k .size) in
       let stands-at = ap (standing m (r .control)) there ∙ stands-inside (stepped-by (suc n) a) (omega (arith, word)) in
-      let at-end = stands-at ∙ ap (λ (x : ℕ). with-latch (moved (suc n)) (getD m x 0) false) word in
+      let at-end = stands-at ∙ ap (λ (x : ℕ). with-latch (moved r m (suc n)) (getD m x 0) false) word in
       record {
         registers = sym at-end ∙ both .registers ∙ ap (λ (x : ℕ). ends s (reading x) .registers) count;
         tallied = sym (add-zero _) ∙ both .tallied ∙ ap (λ (x : ℕ). hollows-in (answers s (reading x))) count;
         words = both .words ∙ ap (λ (x : ℕ). words-in (answers s (reading x))) count;
       }
 
-  -- The same by a copy from the pointer's word on, with the word already held laid over the first.
-  pub copied-read : (n : ℕ) → 0 < n → r .latch < 65536 → word-at (r .pointer) .0 + n < length m →
-      ReadInto s n (record { registers = moved n; tallied = counted (r .hollow) })
+  -- the same by a copy from the pointer's word on, with the word already held laid over the first
+  laid-over : (n : ℕ) → 0 < n → r .latch < 65536 → word-at (r .pointer) .0 + n < length m →
+      ReadInto s n (record { registers = moved r m n; tallied = counted (r .hollow) })
       (set (take n (drop (word-at (r .pointer) .0) m)) 0 (r .latch))
-  copied-read zero p f h = absurd (omega (arith, p))
-  copied-read (suc n) p f h =
+  laid-over zero p f h = absurd (omega (arith, p))
+  laid-over (suc n) p f h =
       let x = word-at (r .pointer) .0 in
       let next : word-at (step (r .pointer)) .0 ≡ suc x = omega (arith, k .size, h) in
       rw (drop-cons m x 0 (omega (arith, h))) (rw next at (straight-read n f h))
+
+-- Reads that go straight hand out a copy from the pointer's word on, with the word already held laid over the first.
+pub copied-read : (r : Registers) (m : List ℕ) (n : ℕ) → GoesStraight (incr (r .control)) (first-fetched r) (length m) n →
+    AreWords m → r .latch < 65536 →
+    ReadInto (machine r m) n (record { registers = moved r m n; tallied = counted (r .hollow) })
+    (set (take n (drop (word-at (r .pointer) .0) m)) 0 (r .latch))
+copied-read r m n g w f =
+    laid-over r m (record { size = g .memory; words = w }) (g .stepping) n (g .some) f (omega (arith, g .inside))
 
 -- ---- writes
 -- the registers after n writes, the last of them of the word w
@@ -145,14 +150,14 @@ straight-write (v ∷ vs) w r m few i f h =
     let gained : ((r .pointer .0 + 16 * 1) % 2 ^ 32 + 16 * n) % 2 ^ 32 ≡ (r .pointer .0 + 16 * suc n) % 2 ^ 32 = omega arith in
     rw (gained, next, add-zero) at (join-writes (machine r m) (set m x w) _ _ _ (w ∷ []) (v ∷ vs) first rest)
 
--- The same by a copy to the pointer's word and on.
-pub copied-write : (ws : List ℕ) (r : Registers) (m : List ℕ) → 0 < length ws → length m ≤ 32768 → incw (r .control) ≡ true →
-    AreWords ws → word-at (r .pointer) .0 + length ws ≤ length m →
+-- Writes that go straight leave a copy of their words from the pointer's word on.
+pub copied-write : (ws : List ℕ) (r : Registers) (m : List ℕ) →
+    GoesStraight (incw (r .control)) (word-at (r .pointer)) (length m) (length ws) → AreWords ws →
     WrittenFrom (machine r m) ws (record { registers = wrote r (length ws) (getD ws (length ws - 1) 0); tallied = 0 })
     (take (word-at (r .pointer) .0) m ++ (ws ++ drop (word-at (r .pointer) .0 + length ws) m))
-copied-write [] r m p few i f h = absurd (omega (arith, p))
-copied-write (w ∷ ws) r m p few i f h =
+copied-write [] r m g f = absurd (omega (arith, g .some))
+copied-write (w ∷ ws) r m g f =
     let x = word-at (r .pointer) .0 in
     let last : suc (length ws) - 1 ≡ length ws = omega arith in
-    let laid = sets-eq (w ∷ ws) m x h ∙ append-assoc (take x m) (w ∷ ws) (drop (x + suc (length ws)) m) in
-    rw last (subst (WrittenFrom (machine r m) (w ∷ ws) _) laid (straight-write ws w r m few i f h))
+    let laid = sets-eq (w ∷ ws) m x (g .inside) ∙ append-assoc (take x m) (w ∷ ws) (drop (x + suc (length ws)) m) in
+    rw last (subst (WrittenFrom (machine r m) (w ∷ ws) _) laid (straight-write ws w r m (g .memory) (g .stepping) f (g .inside)))

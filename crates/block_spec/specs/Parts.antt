@@ -29,10 +29,9 @@ straight-reads r words count = cond (incr (r .control)) (min count (words - firs
 unfoldable pub straight-writes : Registers → ℕ → ℕ → ℕ
 straight-writes r words count = cond (incw (r .control)) (min count (words - word-at (r .pointer) .0)) 0
 
--- `steps` is INCR or INCW; a memory and a block that are not refused
+-- `steps` is INCR or INCW; a memory that is not refused
 pub record GoesStraight (steps : Bool) (first : WordNumber) (words count : ℕ) : Type 0 where
   pub memory : words ≤ 32768
-  pub few : count ≤ 4096
   pub some : 0 < count
   pub stepping : steps ≡ true
   pub inside : first .0 + count ≤ words

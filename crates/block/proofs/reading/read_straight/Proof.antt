@@ -6,8 +6,8 @@ use native.Mathlib.Omega.{arith}
 use mathlib.Core.Path.{_≡_, sym, ap, _∙_}
 use lib.ListN.{length}
 use Rattle.words.specs.Addresses.{word-at}
+use Rattle.words.specs.Memory.{AreWords}
 use Rattle.words.specs.declared.WordNumber.{WordNumber}
-use Rattle.port_spec.specs.Table.{Memory}
 use Rattle.block_spec.proofs.Lent.{part-length, part-is}
 use Rattle.block_spec.proofs.Straight.{copied-read}
 use Rattle.block.proofs.reading.read_straight.Statement.{statement}
@@ -84,12 +84,11 @@ returns c =
     let start = w .before .before .before .before in
     let a = start .args in
     let known = c .before .shared-slice-known2 .given in
-    let words : Memory (a .memory .now) = record { size = start .pre .memory; words = λ i. omega (arith, known i) } in
+    let words : AreWords (a .memory .now) = λ i. omega (arith, known i) in
     let count = length (a .part .now) in
     let copied = at-copy-words .copy-words .ensures ∙ part-is (w .word-of .result .0) count (a .memory .now) in
     rw (c .before .before .step-by .ensures, c .one-if .ensures .0, copied, here w)
-    (copied-read (a .r) (a .memory .now) words (start .pre .stepping) count (start .pre .some) (omega arith)
-    (omega (arith, start .pre .inside)))
+    (copied-read (a .r) (a .memory .now) count (start .pre) words (omega arith))
 
 pub read-straight-spec : {M : Type 1} → statement M
 read-straight-spec =

@@ -5,14 +5,13 @@ use Prim.Native.Nat.{_+_, _-_, _≤_}
 use native.Mathlib.Omega.{arith}
 use mathlib.Core.Path.{_≡_}
 use lib.ListN.{length}
-use Rattle.words.specs.Addresses.{word-at}
 use Rattle.control.specs.Control.{incr}
 use Rattle.port_spec.specs.Sequences.{machine}
-use Rattle.block_spec.specs.Parts.{ReadInto}
+use Rattle.block_spec.specs.Parts.{first-fetched, GoesStraight, ReadInto}
 use Rattle.block_spec.proofs.Joining.{few-hollows, read-length, join-reads}
 use Rattle.words.proofs.Lent.{first-length}
 use Rattle.block_spec.proofs.Lent.{between, rest-starts, rest-length, both-back}
-use Rattle.block_spec.proofs.Straight.{Straight, reads-go-straight}
+use Rattle.block_spec.proofs.Straight.{reads-go-straight}
 use Rattle.block.proofs.reading.read_words.Statement.{statement}
 use Rattle.block.proofs.reading.read_words.Tie as tie
 
@@ -40,27 +39,27 @@ part-read-straight-start c = search needs
 -- some reads go straight
 straight : (c : tie.Else1) →
     let a = c .before .before .before .before .args in
-    Straight (incr (a .r .control)) (word-at (a .r .pointer) .0 + 1) (length (a .memory .now)) (length (a .part .now))
-    (c .before .straight-reads .result)
-straight c = reads-go-straight _ _ _ _ (c .before .straight-reads .ensures) (c .if1 .left)
+    let n = c .before .straight-reads .result in
+    (n ≤ length (a .part .now)) × GoesStraight (incr (a .r .control)) (first-fetched (a .r)) (length (a .memory .now)) n
+straight c =
+    let start = c .before .before .before .before in
+    reads-go-straight _ _ _ _ (start .pre .0) (c .before .straight-reads .ensures) (c .if1 .left)
 
 part-read-straight-end : tie.Need-part-read-straight-end
 part-read-straight-end c =
-    straight c .most
+    straight c .0
 
 read-straight-requires : tie.Need-read-straight-requires
 read-straight-requires c κs =
     let s = straight (c .before) in
-    let few = c .before .before .before .before .before .pre in
-    rw (first-length _ _ (s .most))
-    (record { memory = few .0; few = omega (arith, s .most, few .1); some = s .some; stepping = s .stepping; inside = s .inside })
+    rw (first-length _ _ (s .0)) (s .1)
 
 -- what they leave
 first : (c : tie.After-read-straight) →
     let a = c .before .before .before .before .before .before .args in
     ReadInto (machine (a .r) (a .memory .now)) (c .before .before .before .straight-reads .result) (c .read-straight .result)
     (c .read-straight .last .1 .1 .0)
-first c = rw (first-length _ _ (straight (c .before .before) .most)) at (c .read-straight .ensures)
+first c = rw (first-length _ _ (straight (c .before .before) .0)) at (c .read-straight .ensures)
 
 -- where the others begin
 starts : (c : tie.After-read-straight) →
@@ -70,12 +69,12 @@ starts : (c : tie.After-read-straight) →
 starts c =
     let n = c .before .before .before .straight-reads .result in
     let part = c .before .before .before .before .before .before .args .part .now in
-    rest-starts n part (c .read-straight .last .1 .1 .0) (straight (c .before .before) .most) (read-length (first c))
+    rest-starts n part (c .read-straight .last .1 .1 .0) (straight (c .before .before) .0) (read-length (first c))
 
 mul-read-singly : tie.Need-mul-read-singly
 mul-read-singly c =
     let earlier = c .before .before .before .before .before in
-    omega (arith, straight earlier .most)
+    omega (arith, straight earlier .0)
 
 sub-read-singly : tie.Need-sub-read-singly
 sub-read-singly c =
@@ -92,7 +91,7 @@ read-singly-requires-2 : tie.Need-read-singly-requires-2
 read-singly-requires-2 c κs =
     let f = c .before .before .before .before in
     let few = f .before .before .before .before .before .before .pre in
-    rw (rest-length _ _ _ (straight (f .before .before) .most) (read-length (first f))) (few .0, omega (arith, few .1))
+    rw (rest-length _ _ _ (straight (f .before .before) .0) (read-length (first f))) (few .0, omega (arith, few .1))
 
 -- what the others leave
 rest : (c : tie.After-read-singly2) →
@@ -102,7 +101,7 @@ rest : (c : tie.After-read-singly2) →
     (length (a .part .now) - f .before .before .before .straight-reads .result) (c .read-singly2 .result) (c .read-singly2 .last .1 .1 .0)
 rest c =
     let f = c .before .before .before .before .before in
-    rw (rest-length _ _ _ (straight (f .before .before) .most) (read-length (first f))) at (c .read-singly2 .ensures)
+    rw (rest-length _ _ _ (straight (f .before .before) .0) (read-length (first f))) at (c .read-singly2 .ensures)
 
 add-t21 : tie.Need-add-t21
 add-t21 c =
@@ -113,7 +112,7 @@ add-t21 c =
     let n = f .before .before .before .straight-reads .result in
     let few = few-hollows (machine (start .args .r) m) n in
     let fewer = few-hollows (machine (f .read-straight .result .registers) m) (length (start .args .part .now) - n) in
-    omega (arith, straight (f .before .before) .most, start .pre .1, first f .tallied, rest l .tallied, few, fewer)
+    omega (arith, straight (f .before .before) .0, start .pre .1, first f .tallied, rest l .tallied, few, fewer)
 
 same-length-2 : tie.Need-same-length-2
 same-length-2 c = search needs
@@ -124,7 +123,7 @@ returns-2 c =
     let f = l .before .before .before .before .before in
     let a = f .before .before .before .before .before .before .args in
     let n = f .before .before .before .straight-reads .result in
-    let most = straight (f .before .before) .most in
+    let most = straight (f .before .before) .0 in
     let all : n + (length (a .part .now) - n) ≡ length (a .part .now) = omega (arith, most) in
     let joined = join-reads (a .r) (a .memory .now) n (length (a .part .now) - n) _ _ _ _ (first f) (rest l) in
     rw (both-back n (a .part .now) _ most (read-length (first f)) (l .read-singly2 .last .1 .1 .0)) (rw all at joined)

@@ -72,12 +72,10 @@ returns c =
     let w = c .before .before .before .before .before .before .before in
     let start = w .before .before .before .before in
     let a = start .args in
-    let p = start .pre in
     let copied = c .before .before .before .before .copy-words in
     let back = put-back (w .word-of .result .0) (length (a .part .now)) (a .memory .now) (copied .last .1 .0) in
     rw (c .before .step-by .ensures, back, copied .ensures, here w)
-    (copied-write (a .part .now) (a .r) (a .memory .now) (p .some) (p .memory) (p .stepping)
-    (λ j. omega (arith, c .shared-slice-known2 .given j)) (p .inside))
+    (copied-write (a .part .now) (a .r) (a .memory .now) (start .pre) (λ j. omega (arith, c .shared-slice-known2 .given j)))
 
 pub write-straight-spec : {M : Type 1} → statement M
 write-straight-spec =

@@ -1,17 +1,18 @@
 -- `block::writing::write_words` meets its contract: the writes that go straight and then the others are all of them
 -- (`join-writes`), and so are the words of the two parts.
 use borrow.Author.Needs.{needs}
+use Prim.Native.Nat.{_≤_}
 use native.Mathlib.Omega.{arith}
 use lib.ListN.{length, take, drop, length-drop, take-append-drop}
 use lib.Seq.{length-take-le}
 use Rattle.words.specs.Addresses.{word-at}
 use Rattle.control.specs.Control.{incw}
 use Rattle.port_spec.specs.Sequences.{machine}
-use Rattle.block_spec.specs.Parts.{WrittenFrom}
+use Rattle.block_spec.specs.Parts.{GoesStraight, WrittenFrom}
 use Rattle.block_spec.proofs.Joining.{few-empties, join-writes}
 use Rattle.words.proofs.Lent.{first-length}
 use Rattle.block_spec.proofs.Lent.{first-is, rest-is}
-use Rattle.block_spec.proofs.Straight.{Straight, writes-go-straight}
+use Rattle.block_spec.proofs.Straight.{writes-go-straight}
 use Rattle.block.proofs.writing.write_words.Statement.{statement}
 use Rattle.block.proofs.writing.write_words.Tie as tie
 
@@ -39,35 +40,35 @@ part-write-straight-start c = search needs
 -- some writes go straight
 straight : (c : tie.Else1) →
     let a = c .before .before .before .before .args in
-    Straight (incw (a .r .control)) (word-at (a .r .pointer) .0) (length (a .memory .now)) (length (a .part .now))
-    (c .before .straight-writes .result)
-straight c = writes-go-straight _ _ _ _ (c .before .straight-writes .ensures) (c .if1 .left)
+    let n = c .before .straight-writes .result in
+    (n ≤ length (a .part .now)) × GoesStraight (incw (a .r .control)) (word-at (a .r .pointer)) (length (a .memory .now)) n
+straight c =
+    let start = c .before .before .before .before in
+    writes-go-straight _ _ _ _ (start .pre .0) (c .before .straight-writes .ensures) (c .if1 .left)
 
 part-write-straight-end : tie.Need-part-write-straight-end
 part-write-straight-end c =
-    straight (c .before) .most
+    straight (c .before) .0
 
 write-straight-requires : tie.Need-write-straight-requires
 write-straight-requires c κs =
     let s = straight (c .before .before) in
-    let few = c .before .before .before .before .before .before .pre in
-    rw (first-length _ _ (s .most))
-    (record { memory = few .0; few = omega (arith, s .most, few .1); some = s .some; stepping = s .stepping; inside = s .inside })
+    rw (first-length _ _ (s .0)) (s .1)
 
 mul-write-singly : tie.Need-mul-write-singly
 mul-write-singly c =
     let earlier = c .before .before .before .before .before .before .before in
-    omega (arith, straight earlier .most)
+    omega (arith, straight earlier .0)
 
 sub-write-singly : tie.Need-sub-write-singly
 sub-write-singly c =
     let earlier = c .before .before .before .before .before .before .before in
-    straight earlier .most
+    straight earlier .0
 
 part-write-singly-start : tie.Need-part-write-singly-start
 part-write-singly-start c =
     let earlier = c .before .before .before .before .before .before .before in
-    straight earlier .most
+    straight earlier .0
 
 part-write-singly-end : tie.Need-part-write-singly-end
 part-write-singly-end c = search needs
@@ -100,7 +101,7 @@ add-t25 c =
     let start = f .before .before .before .before .before .before .before in
     let part = start .args .part .now in
     let n = f .before .before .before .before .straight-writes .result in
-    let most = straight (f .before .before .before) .most in
+    let most = straight (f .before .before .before) .0 in
     let few = few-empties (machine (start .args .r) (start .args .memory .now)) (take n part) in
     let fewer = few-empties (machine (f .write-straight .result .registers) (f .write-straight .last .1 .0)) (drop n part) in
     let n-words = length-take-le n part most in
