@@ -24,6 +24,10 @@ module _ {b : List ℕ} {held : ℕ} {r : Filled} {b′ : List ℕ} (p : FilledB
   pub more-fits : held < length b → (held ≤ r .all) × (r .all ≤ length b)
   more-fits h = (p .behind, p .within h)
 
+  -- A read that failed brings nothing.
+  pub failed-brings-nothing : r .failed ≡ true → r .all ≡ held
+  failed-brings-nothing = p .failed-none
+
   -- Without that room no byte changes, there is no more than was held, and it has failed: it does not look like the input's end.
   pub no-room-no-end : length b ≤ held → (b′ ≡ b) × (r .all ≡ held) × (r .failed ≡ true)
   no-room-no-end h =

@@ -13,4 +13,5 @@ pub record FilledBehind (b : List ℕ) (held : ℕ) (r : Filled) (b′ : List �
   pub as-long : length b′ ≡ length b
   pub behind : held ≤ r .all
   pub within : held < length b → r .all ≤ length b
+  pub failed-none : r .failed ≡ true → r .all ≡ held
   pub no-room : length b ≤ held → (r ≡ record { all = held; failed = true }) × (b′ ≡ b)

@@ -14,10 +14,13 @@ pub fn fill(buffer: &mut [u8], held: usize) -> Filled
         };
     }
     let got = libc::read(0, &mut buffer[held..]);
+    if got < 0 {
+        return Filled {
+            all: held,
+            failed: true,
+        };
+    }
     let n = io::count(got, &buffer[held..]);
     let all = held + n;
-    Filled {
-        all,
-        failed: got < 0,
-    }
+    Filled { all, failed: false }
 }
