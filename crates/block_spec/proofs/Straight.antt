@@ -39,6 +39,10 @@ goes-straight true first words count n few e h = (
 )
 goes-straight false first words count n few e h = absurd (h e)
 
+-- The step before a read's fetch leads to the word that is fetched first, unless the pointer wraps.
+pub first-fetched-is : (r : Registers) → r .pointer .0 + 16 < 2 ^ 32 → word-at (step (r .pointer)) .0 ≡ first-fetched r .0
+first-fetched-is r h = omega arith
+
 -- Reads go straight, if any, while the word after the pointer's, which they fetch, is in memory.
 pub reads-go-straight : (r : Registers) (words count n : ℕ) → words ≤ 32768 → n ≡ straight-reads r words count → n ≢ 0 →
     (n ≤ count) × GoesStraight (incr (r .control)) (first-fetched r) words n
