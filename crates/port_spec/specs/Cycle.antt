@@ -1,6 +1,6 @@
 -- The memory cycle that an access calls for: document 01, 'Memory and addresses' and 'The four host registers'.
---   stepped s r         the registers with the pointer stepped, where s says so
 --   cycle-number c      the number of a cycle: 0 none, 1 inside, 2 empty
+--   stepped s r         the registers with the pointer stepped, where s says so
 --   cycle-of inside     what the answer says of a cycle that was called for
 --   after-fetch r f     the registers and the cycle after a fetch that found f
 --   after-store r s i   the registers and the cycle after a store
