@@ -3,72 +3,19 @@
 //! from documents 01 and 02 and source document 001 without sight of the proved code, to compare
 //! the results of both by running.
 
-mod access;
 mod bank;
-mod bank_accesses;
-mod bank_caller;
-mod bank_compare;
-mod bank_control;
-mod bank_cycles;
-mod bank_decode;
-mod bank_examples;
-mod bank_lanes;
-mod bank_maps;
-mod bank_places;
-mod bank_port;
-mod bank_refresh;
-mod bank_run;
-mod bank_script;
 mod block;
 mod bus;
-mod examples;
+mod calls;
 mod fault;
 mod field;
-mod fields;
-mod good_run;
-mod groups;
-mod maker;
 mod port;
-mod random;
-mod records;
 mod refusal;
-mod rooms;
-mod run;
 mod salvage;
-mod salvage_examples;
-mod salvage_file;
-mod salvage_found;
-mod salvage_program;
-mod salvage_run;
-mod salvage_script;
-mod script;
+mod scripts;
 mod sheet;
-mod sheet_examples;
-mod sheet_run;
-mod sheet_script;
 mod stream;
-mod stream_cuts;
-mod stream_end;
-mod stream_examples;
-mod stream_found;
-mod stream_joined;
-mod stream_part;
-mod stream_place;
-mod stream_run;
-mod stream_script;
-mod stream_sender;
-mod stream_tests;
-mod stream_unchanged;
-mod struck;
 mod transcript;
-mod transcript_accesses;
-mod transcript_examples;
-mod transcript_list;
-mod transcript_reader;
-mod transcript_run;
-mod transcript_script;
-mod transcript_strings;
-mod transcript_writer;
 
 use std::io::{self, BufWriter, Read, Write};
 use std::process::ExitCode;
@@ -124,12 +71,12 @@ fn usage() -> bool {
 
 /// Whether the examples hold; says so, or which doesn't.
 fn examples() -> bool {
-    let outcome = examples::run()
-        .and_then(|count| Ok(count + sheet_examples::run()?))
-        .and_then(|count| Ok(count + transcript_examples::run()?))
-        .and_then(|count| Ok(count + salvage_examples::run()?))
-        .and_then(|count| Ok(count + stream_examples::run()?))
-        .and_then(|count| Ok(count + bank_examples::run()?));
+    let outcome = calls::examples::run()
+        .and_then(|count| Ok(count + sheet::examples::run()?))
+        .and_then(|count| Ok(count + transcript::examples::run()?))
+        .and_then(|count| Ok(count + salvage::examples::run()?))
+        .and_then(|count| Ok(count + stream::examples::run()?))
+        .and_then(|count| Ok(count + bank::examples::run()?));
     match outcome {
         Ok(count) => println!("second: {count} examples hold"),
         Err(name) => println!("second: example {name} fails"),
@@ -141,23 +88,23 @@ fn main() -> ExitCode {
     let arguments: Vec<String> = std::env::args().skip(1).collect();
     let words: Vec<&str> = arguments.iter().map(String::as_str).collect();
     let done = match words[..] {
-        ["script", seed, calls] => made(script::script, seed, calls),
-        ["fields"] => io::stdout().write_all(&fields::script()).is_ok(),
-        ["answers", ref rest @ ..] => with_fault(rest) && answers(run::answers),
-        ["sheet-script", seed, count] => made(sheet_script::script, seed, count),
-        ["sheet-answers", ref rest @ ..] => with_fault(rest) && answers(sheet_run::answers),
-        ["transcript-script", seed, count] => made(transcript_script::script, seed, count),
+        ["script", seed, calls] => made(calls::script::script, seed, calls),
+        ["fields"] => io::stdout().write_all(&field::script::script()).is_ok(),
+        ["answers", ref rest @ ..] => with_fault(rest) && answers(calls::run::answers),
+        ["sheet-script", seed, count] => made(sheet::script::script, seed, count),
+        ["sheet-answers", ref rest @ ..] => with_fault(rest) && answers(sheet::run::answers),
+        ["transcript-script", seed, count] => made(transcript::script::script, seed, count),
         ["transcript-answers", ref rest @ ..] => {
-            with_fault(rest) && answers(transcript_run::answers)
+            with_fault(rest) && answers(transcript::run::answers)
         }
-        ["salvage-script", seed, count] => made(salvage_script::script, seed, count),
-        ["salvage-answers", ref rest @ ..] => with_fault(rest) && answers(salvage_run::answers),
-        ["salvage-file", seed, bytes] => made(salvage_file::file, seed, bytes),
-        ["salvage"] => answers(salvage_program::run),
-        ["stream-script", seed, count] => made(stream_script::script, seed, count),
-        ["stream-answers", ref rest @ ..] => with_fault(rest) && answers(stream_run::answers),
-        ["bank-script", seed, count] => made(bank_script::script, seed, count),
-        ["bank-answers", ref rest @ ..] => with_fault(rest) && answers(bank_run::answers),
+        ["salvage-script", seed, count] => made(salvage::script::script, seed, count),
+        ["salvage-answers", ref rest @ ..] => with_fault(rest) && answers(salvage::run::answers),
+        ["salvage-file", seed, bytes] => made(salvage::file::file, seed, bytes),
+        ["salvage"] => answers(salvage::program::run),
+        ["stream-script", seed, count] => made(stream::script::script, seed, count),
+        ["stream-answers", ref rest @ ..] => with_fault(rest) && answers(stream::run::answers),
+        ["bank-script", seed, count] => made(bank::script::script, seed, count),
+        ["bank-answers", ref rest @ ..] => with_fault(rest) && answers(bank::run::answers),
         ["faults"] => {
             fault::NAMED.iter().for_each(|(name, _)| println!("{name}"));
             true

@@ -1,0 +1,4 @@
+pub mod examples;
+pub mod maker;
+pub mod run;
+pub mod script;

@@ -1,0 +1,73 @@
+//! Bit fields in memory, bit by bit as they are defined: document 01, "Fields".
+
+pub mod script;
+
+use crate::fault::{instead, planted, Fault};
+use crate::port::too_long;
+
+/// The first and the last word touched; wide, so that nothing wraps near 2^32.
+fn touched(address: u32, size: u32) -> (u64, u64) {
+    let last_bit = u64::from(address) + u64::from(size.max(1)) - 1;
+    (u64::from(address) / 16, last_bit / 16)
+}
+
+fn refusal(memory: &[u16], address: u32, size: u32) -> u8 {
+    let (first, last) = touched(address, size);
+    let missing = last >= memory.len() as u64;
+    let bad_size = size == 0 || size > 32;
+    match (bad_size, missing) {
+        _ if too_long(memory) => 1,
+        (true, true) => instead(Fault::FieldMemoryFirst, 6, 4),
+        (true, false) => 4,
+        (false, _) if last - first + 1 > 3 => 5,
+        (false, true) => 6,
+        (false, false) => 0,
+    }
+}
+
+/// The word and the bit of it that hold a bit of the field.
+fn place(address: u32, i: u32) -> (usize, usize) {
+    let bit = address as usize + i as usize;
+    (bit / 16, bit % 16)
+}
+
+/// Number, value and cycles.
+pub fn take(memory: &[u16], address: u32, size: u32, signed: bool) -> (u8, i64, u32) {
+    let number = refusal(memory, address, size);
+    if number != 0 {
+        return (number, 0, 0);
+    }
+    let mut value = 0;
+    for i in 0..size {
+        let (word, bit) = place(address, i);
+        value |= i64::from(memory[word] >> bit & 1) << i;
+    }
+    let top = 1 << (size - 1);
+    if signed && instead(Fault::FieldSignedEdge, value > top, value >= top) {
+        value -= 1 << size;
+    }
+    let (first, last) = touched(address, size);
+    (0, value, (last - first + 1) as u32)
+}
+
+/// Number and cycles.
+pub fn put(memory: &mut [u16], address: u32, size: u32, value: u32) -> (u8, u32) {
+    let number = refusal(memory, address, size);
+    if number != 0 {
+        return (number, 0);
+    }
+    let (first, last) = touched(address, size);
+    for i in 0..size {
+        let (word, bit) = place(address, i);
+        let lost = word as u64 == first + 2 && size < 32 && planted(Fault::FieldThirdWord);
+        if !lost {
+            memory[word] = memory[word] & !(1 << bit) | ((value >> i & 1) as u16) << bit;
+        }
+    }
+    let end = u64::from(address) + u64::from(size);
+    let whole = |word: &u64| u64::from(address) <= word * 16 && word * 16 + 16 <= end;
+    let words = last - first + 1;
+    let saved = (first..=last).filter(whole).count() as u64;
+    let cycles = 2 * words - instead(Fault::FieldWholeTwice, 0, saved);
+    (0, cycles as u32)
+}

@@ -1,0 +1,243 @@
+//! The registers and how the host and the processor reach them: document 01, "Memory and
+//! addresses", "The four host registers" and "The processor's side".
+
+pub mod access;
+
+use crate::fault::{instead, planted, Fault};
+
+const MSGIN: u16 = 0x0007;
+const INTIN: u16 = 0x0008;
+const MSGOUT: u16 = 0x0070;
+const INTOUT: u16 = 0x0080;
+pub const BIT_10: u16 = 0x0400;
+pub const INCW: u16 = 0x0800;
+pub const INCR: u16 = 0x1000;
+pub const LBL: u16 = 0x2000;
+const HLT: u16 = 0x8000;
+const LOW: u16 = 0x00FF;
+const HIGH: u16 = 0xFF00;
+
+#[derive(Clone, Copy, PartialEq)]
+pub enum Cycle {
+    None,
+    Inside,
+    Empty,
+}
+
+pub struct Answer {
+    pub number: u8,
+    pub word: u16,
+    pub hollow: bool,
+    pub cycle: Cycle,
+}
+
+#[derive(Clone, Copy)]
+pub struct Port {
+    pub pointer: u32,
+    pub data: u16,
+    pub control: u16,
+    pub hollow: bool,
+}
+
+fn without_word(number: u8, cycle: Cycle) -> Answer {
+    Answer {
+        number,
+        word: 0,
+        hollow: false,
+        cycle,
+    }
+}
+
+/// Number 1, which every call that is lent a memory tests.
+pub fn too_long(memory: &[u16]) -> bool {
+    memory.len() > instead(Fault::LimitOneOver, 32_769, 32_768)
+}
+
+fn refusal(memory: &[u16], register: u32, lanes: u32) -> u8 {
+    let bad_lanes = !(1..=3).contains(&lanes);
+    match (register > 3, bad_lanes) {
+        _ if too_long(memory) => 1,
+        (true, true) => instead(Fault::LanesBeforeRegister, 3, 2),
+        (true, false) => 2,
+        (false, true) => 3,
+        (false, false) => 0,
+    }
+}
+
+/// The bits of the selected bytes.
+fn selected(lanes: u32) -> u16 {
+    let bytes = [0, LOW, HIGH, LOW | HIGH];
+    instead(Fault::LanesSwapped, [0, HIGH, LOW, LOW | HIGH], bytes)[lanes as usize]
+}
+
+fn replaced(old: u16, new: u16, bits: u16) -> u16 {
+    (old & !bits) | (new & bits)
+}
+
+/// What a write of the high control byte leaves there: all its bits but 10, which becomes 0.
+fn high_control(word: u16) -> u16 {
+    word & HIGH & !instead(Fault::BitTenKept, 0, BIT_10)
+}
+
+impl Port {
+    pub fn reset() -> Port {
+        Port {
+            pointer: 0,
+            data: 0,
+            control: HLT,
+            hollow: !planted(Fault::ResetHeld),
+        }
+    }
+
+    pub fn read(&mut self, memory: &[u16], register: u32, lanes: u32) -> Answer {
+        let number = refusal(memory, register, lanes);
+        if number != 0 {
+            return without_word(number, Cycle::None);
+        }
+        let entry = *self;
+        let mut cycle = Cycle::None;
+        if register == 2 && self.closes(selected(lanes)) {
+            self.step_if(INCR);
+            cycle = self.fetch(memory);
+        }
+        if planted(Fault::LastWordRefused) && cycle == Cycle::Empty {
+            *self = entry;
+            return without_word(6, Cycle::None);
+        }
+        let shown = instead(Fault::FetchBeforeAnswer, *self, entry);
+        Answer {
+            number,
+            word: shown.register(register) & selected(lanes),
+            hollow: register == 2 && shown.hollow,
+            cycle,
+        }
+    }
+
+    pub fn write(&mut self, memory: &mut [u16], register: u32, lanes: u32, word: u16) -> Answer {
+        let number = refusal(memory, register, lanes);
+        if number != 0 {
+            return without_word(number, Cycle::None);
+        }
+        let bits = selected(lanes);
+        let closes = self.closes(bits);
+        let last_half = if self.control & LBL == 0 { 1 } else { 0 };
+        match register {
+            0 | 1 => self.set_half(register, replaced(self.register(register), word, bits)),
+            2 => self.data = replaced(self.data, word, bits),
+            _ => self.write_control(word, bits),
+        }
+        let cycle = match register {
+            2 if closes => self.end_of_write(memory),
+            0 | 1 if closes && register == last_half => self.end_of_load(memory),
+            _ => Cycle::None,
+        };
+        if planted(Fault::AnyByteClearsMark) && register == 2 {
+            self.hollow = false;
+        }
+        without_word(number, cycle)
+    }
+
+    fn end_of_load(&mut self, memory: &[u16]) -> Cycle {
+        if planted(Fault::LoadIncrements) {
+            self.step_if(INCR);
+        }
+        self.fetch(memory)
+    }
+
+    fn end_of_write(&mut self, memory: &mut [u16]) -> Cycle {
+        let mut cycle = Cycle::Empty;
+        if let Some(word) = memory.get_mut(self.pointer as usize / 16) {
+            *word = self.data;
+            cycle = Cycle::Inside;
+        }
+        self.hollow = instead(Fault::StoreKeepsMark, self.hollow, false);
+        self.step_if(INCW);
+        if planted(Fault::ReadGoesToMemory) {
+            self.fetch(memory);
+        }
+        cycle
+    }
+
+    fn write_control(&mut self, word: u16, bits: u16) {
+        let old = self.control;
+        let intin = instead(Fault::HostClearsIntin, word, old | word) & INTIN;
+        let low = (word & MSGIN) | intin | (old & MSGOUT) | (old & word & INTOUT);
+        self.control = replaced(old, high_control(word) | low, bits);
+    }
+
+    /// Whether the closing byte is among those bits, by LBL as it stands.
+    fn closes(&self, bits: u16) -> bool {
+        let low_closes = self.control & LBL != 0 && !planted(Fault::LblIgnored);
+        let (first, closing) = if low_closes { (HIGH, LOW) } else { (LOW, HIGH) };
+        bits & instead(Fault::FirstByteCycles, first, closing) != 0
+    }
+
+    /// The pointer's gain, if that bit of HSTCTL is 1.
+    fn step_if(&mut self, bit: u16) {
+        if self.control & bit == 0 {
+            return;
+        }
+        let gain = instead(Fault::StepOfOne, 1, 16);
+        let stopped = self.pointer.saturating_add(gain);
+        self.pointer = instead(
+            Fault::PointerStops,
+            stopped,
+            self.pointer.wrapping_add(gain),
+        );
+        self.pointer &= !instead(Fault::LowBitsLost, 15, 0);
+    }
+
+    fn fetch(&mut self, memory: &[u16]) -> Cycle {
+        if let Some(&word) = memory.get(self.pointer as usize / 16) {
+            self.data = word;
+            self.hollow = false;
+            return Cycle::Inside;
+        }
+        self.data = instead(Fault::EmptyFetchKeeps, self.data, 0xFFFF);
+        self.hollow = true;
+        Cycle::Empty
+    }
+
+    /// A register as the host reads it, with both lanes.
+    fn register(&self, register: u32) -> u16 {
+        match register {
+            0 => self.pointer as u16,
+            1 => (self.pointer >> 16) as u16,
+            2 => self.data,
+            _ => self.control & !instead(Fault::BitTenShown, 0, BIT_10),
+        }
+    }
+
+    fn set_half(&mut self, register: u32, half: u16) {
+        let shift = 16 * register;
+        self.pointer = self.pointer & !(0xFFFF << shift) | u32::from(half) << shift;
+    }
+
+    /// Number and word.
+    pub fn processor_read(&self, register: u32) -> (u8, u16) {
+        match register {
+            0..=2 => (0, self.register(register)),
+            3 => (0, self.control & LOW),
+            4 => (0, self.register(3) & HIGH),
+            _ => (2, 0),
+        }
+    }
+
+    pub fn processor_write(&mut self, register: u32, word: u16) -> u8 {
+        let old = self.control;
+        match register {
+            0 | 1 => self.set_half(register, word),
+            2 => {
+                self.data = word;
+                self.hollow = instead(Fault::ProcessorKeepsMark, self.hollow, false);
+            }
+            3 => {
+                let signals = (old & word & INTIN) | ((old | word) & INTOUT);
+                self.control = old & (HIGH | MSGIN) | word & MSGOUT | signals;
+            }
+            4 => self.control = old & LOW | high_control(word),
+            _ => return 2,
+        }
+        0
+    }
+}
