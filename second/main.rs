@@ -7,7 +7,6 @@ mod bank;
 mod block;
 mod bus;
 mod calls;
-mod fault;
 mod field;
 mod port;
 mod refusal;
@@ -20,13 +19,13 @@ mod transcript;
 use std::io::{self, BufWriter, Read, Write};
 use std::process::ExitCode;
 
-const USAGE: &str = "second: script SEED CALLS | fields | answers [--fault NAME]
-    | sheet-script SEED COUNT | sheet-answers [--fault NAME]
-    | transcript-script SEED COUNT | transcript-answers [--fault NAME]
-    | salvage-script SEED COUNT | salvage-answers [--fault NAME] | salvage-file SEED BYTES | salvage
-    | stream-script SEED COUNT | stream-answers [--fault NAME]
-    | bank-script SEED COUNT | bank-answers [--fault NAME]
-    | faults | examples";
+const USAGE: &str = "second: script SEED CALLS | fields | answers
+    | sheet-script SEED COUNT | sheet-answers
+    | transcript-script SEED COUNT | transcript-answers
+    | salvage-script SEED COUNT | salvage-answers | salvage-file SEED BYTES | salvage
+    | stream-script SEED COUNT | stream-answers
+    | bank-script SEED COUNT | bank-answers
+    | examples";
 
 type Out = BufWriter<io::StdoutLock<'static>>;
 
@@ -46,21 +45,6 @@ fn made(make: fn(u64, u64) -> Vec<u8>, seed: &str, count: &str) -> bool {
     match (seed.parse(), count.parse()) {
         (Ok(seed), Ok(count)) => io::stdout().write_all(&make(seed, count)).is_ok(),
         _ => false,
-    }
-}
-
-/// Plants the fault of that name, if there is one.
-fn plant(name: &str) -> bool {
-    let found = fault::NAMED.iter().find(|(known, _)| *known == name);
-    found.map(|&(_, fault)| fault::plant(fault)).is_some()
-}
-
-/// Plants the fault that follows the name of a command, if one does.
-fn with_fault(rest: &[&str]) -> bool {
-    match rest {
-        [] => true,
-        ["--fault", name] => plant(name),
-        _ => usage(),
     }
 }
 
@@ -90,25 +74,19 @@ fn main() -> ExitCode {
     let done = match words[..] {
         ["script", seed, calls] => made(calls::script::script, seed, calls),
         ["fields"] => io::stdout().write_all(&field::script::script()).is_ok(),
-        ["answers", ref rest @ ..] => with_fault(rest) && answers(calls::run::answers),
+        ["answers"] => answers(calls::run::answers),
         ["sheet-script", seed, count] => made(sheet::script::script, seed, count),
-        ["sheet-answers", ref rest @ ..] => with_fault(rest) && answers(sheet::run::answers),
+        ["sheet-answers"] => answers(sheet::run::answers),
         ["transcript-script", seed, count] => made(transcript::script::script, seed, count),
-        ["transcript-answers", ref rest @ ..] => {
-            with_fault(rest) && answers(transcript::run::answers)
-        }
+        ["transcript-answers"] => answers(transcript::run::answers),
         ["salvage-script", seed, count] => made(salvage::script::script, seed, count),
-        ["salvage-answers", ref rest @ ..] => with_fault(rest) && answers(salvage::run::answers),
+        ["salvage-answers"] => answers(salvage::run::answers),
         ["salvage-file", seed, bytes] => made(salvage::file::file, seed, bytes),
         ["salvage"] => answers(salvage::program::run),
         ["stream-script", seed, count] => made(stream::script::script, seed, count),
-        ["stream-answers", ref rest @ ..] => with_fault(rest) && answers(stream::run::answers),
+        ["stream-answers"] => answers(stream::run::answers),
         ["bank-script", seed, count] => made(bank::script::script, seed, count),
-        ["bank-answers", ref rest @ ..] => with_fault(rest) && answers(bank::run::answers),
-        ["faults"] => {
-            fault::NAMED.iter().for_each(|(name, _)| println!("{name}"));
-            true
-        }
+        ["bank-answers"] => answers(bank::run::answers),
         ["examples"] => examples(),
         _ => usage(),
     };

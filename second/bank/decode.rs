@@ -1,76 +1,89 @@
-//! The decode: which banks an address selects in a cycle of some kind, under a control word. All
-//! that match are shown, although 001's bridge asserts the lowest alone; and the address must agree
-//! in refresh and special cycles too (document 02, request (vi)).
+//! The decode: "A bank is selected exactly when address and compare value agree on every bit that
+//! the mask allows and [001's] control word admits the cycle's kind (ordinary, refresh or special;
+//! ordinary is always admitted) for that bank" (document 02, request (vi)). So the address must
+//! agree in refresh and special cycles too.
 
-use crate::bank::compare::agrees;
-use crate::bank::control::{Control, Kind};
-use crate::bank::places::PLACES;
-use crate::bank::{Answer, Bridge, BANKS};
-use crate::fault::{instead, planted, Fault};
-
-type Selected = [bool; BANKS];
+use crate::bank::{Answer, Bank, Bridge};
 
 impl Bridge {
-    /// It changes nothing, unless by a fault.
-    pub fn decode(&mut self, kind: u32, address: u32, control: u16) -> Answer {
-        let control = Control(control);
-        let next = (self.index % PLACES + 1) % PLACES;
-        self.index = instead(Fault::BankDecodeStepsIndex, next, self.index);
-        self.index = instead(Fault::BankDecodeTrimsIndex, self.index % PLACES, self.index);
-        self.index = instead(Fault::BankBpntAsIndex, control.bpnt(), self.index);
-        match Kind::of(kind) {
-            Some(kind) => Answer {
-                selected: shown(self.selected(kind, address, control)),
-                ..Answer::of(0)
-            },
-            None => self.unknown(address, control),
-        }
-    }
-
-    fn selected(&self, kind: Kind, address: u32, control: Control) -> Selected {
-        let banks = instead(Fault::BankDecodeAsPassed, &self.passed, &self.banks);
-        if control.bank_3_alone() {
-            return [false, false, false, true];
-        }
-        let unaddressed = match kind {
-            Kind::Ordinary => false,
-            Kind::Refresh => planted(Fault::BankRefreshUnaddressed),
-            Kind::Special => planted(Fault::BankSpecialUnaddressed),
+    /// "The answer shows all four, and several may be selected", although 001's bridge asserts the
+    /// lowest alone. Nothing changes.
+    pub fn decode(&self, kind: u32, address: u32, control: u16) -> Answer {
+        let Some(kind) = Kind::of(kind) else {
+            return Answer::of(31);
         };
-        std::array::from_fn(|bank| {
-            let addressed = unaddressed || agrees(banks, bank, address);
-            addressed && control.admits(kind, bank, address)
-        })
-    }
-
-    /// Refuses a kind that isn't known.
-    fn unknown(&self, address: u32, control: Control) -> Answer {
-        let number = instead(Fault::Bank31As30, 30, 31);
-        let number = instead(Fault::Bank31Unsaid, 0, number);
-        let mut answer = Answer::of(number);
-        if planted(Fault::Bank31ShowsBanks) {
-            answer.selected = shown(self.selected(Kind::Ordinary, address, control));
+        let control = Control(control);
+        let mut answer = Answer::of(0);
+        for (number, bank) in self.banks.iter().enumerate() {
+            let selected = bank.agrees(address) && control.admits(kind, number, address);
+            answer.selected |= u8::from(selected) << number;
         }
         answer
     }
 }
 
-/// The banks selected as bits of a number, bit n for bank n.
-fn shown(selected: Selected) -> u8 {
-    let bits = |selected: Selected| {
-        let bits = selected.into_iter().enumerate();
-        bits.fold(0, |sum, (bank, set)| sum | u8::from(set) << bank)
-    };
-    let all: u8 = bits(selected);
-    let lowest = all & all.wrapping_neg();
-    let mut reversed = selected;
-    reversed.reverse();
-    let highest = (0..BANKS).rev().find(|&bank| selected[bank]);
-    let highest = highest.map_or(0, |bank| 1 << bank);
-    let alone = if all == lowest { all } else { 0 };
-    let shown = instead(Fault::BankLowestAlone, lowest, all);
-    let shown = instead(Fault::BankHighestAlone, highest, shown);
-    let shown = instead(Fault::BankSeveralAsNone, alone, shown);
-    let shown = instead(Fault::BankBitsReversed, bits(reversed), shown);
-    instead(Fault::BankActiveLow, 15 - all, shown)
+#[derive(Clone, Copy)]
+enum Kind {
+    Ordinary,
+    Refresh,
+    Special,
+}
+
+impl Kind {
+    /// The kind of that number, if it is known.
+    fn of(number: u32) -> Option<Kind> {
+        match number {
+            0 => Some(Kind::Ordinary),
+            1 => Some(Kind::Refresh),
+            2 => Some(Kind::Special),
+            _ => None,
+        }
+    }
+}
+
+impl Bank {
+    /// Whether the bits that the mask has set are the same in the address and the compare value;
+    /// 001: "A BKMSKx bit set to zero causes the 34094 to disregard the corresponding BKADx and LAD
+    /// bus address bit in the comparison."
+    fn agrees(&self, address: u32) -> bool {
+        address & self.mask == self.compare & self.mask
+    }
+}
+
+/// The control word, BKCTL in 001. Its ABE (bit 5), BPNT (bits 4 to 1) and bit 0 play no part.
+#[derive(Clone, Copy)]
+struct Control(u16);
+
+impl Control {
+    /// Whether a cycle of that kind is admitted for a bank.
+    fn admits(self, kind: Kind, bank: usize, address: u32) -> bool {
+        match kind {
+            Kind::Ordinary => true,
+            Kind::Refresh => !self.bdrd(bank) && self.in_turn(bank, address),
+            Kind::Special => self.bven(bank),
+        }
+    }
+
+    /// BVEN, bits 15 to 12: whether the bank answers special cycles.
+    fn bven(self, bank: usize) -> bool {
+        self.0 >> (12 + bank) & 1 == 1
+    }
+
+    /// BDRD, bits 11 to 8: whether the bank ignores refresh cycles.
+    fn bdrd(self, bank: usize) -> bool {
+        self.0 >> (8 + bank) & 1 == 1
+    }
+
+    /// Whether RM, bits 7 and 6, admits a refresh at that address for a bank: 00 all at once, 01
+    /// alternate pairs, 10 one at a time, 11 none. Whose turn it is, address bits 17 and 16 tell.
+    /// 001 leaves open which pairs; banks 0 and 2 take turns with 1 and 3.
+    fn in_turn(self, bank: usize, address: u32) -> bool {
+        let turn = (address >> 16) as usize % 4;
+        match self.0 >> 6 & 3 {
+            0b00 => true,
+            0b01 => bank % 2 == turn % 2,
+            0b10 => bank == turn,
+            _ => false,
+        }
+    }
 }

@@ -3,20 +3,14 @@
 
 pub mod accesses;
 pub mod caller;
-pub mod compare;
-pub mod control;
 pub mod cycles;
 pub mod decode;
 pub mod examples;
-pub mod lanes;
 pub mod maps;
 pub mod places;
 pub mod port;
-pub mod refresh;
 pub mod run;
 pub mod script;
-
-use crate::fault::{instead, planted, Fault};
 
 pub const BANKS: usize = 4;
 
@@ -29,7 +23,7 @@ pub struct Bank {
 
 /// What a call answers: its number; the half that a read finds; and the banks that a decode
 /// selects, bit n for bank n. All else is 0.
-#[derive(Clone, Copy, Default)]
+#[derive(Default)]
 pub struct Answer {
     pub number: u8,
     pub word: u16,
@@ -50,21 +44,13 @@ pub struct Bridge {
     pub banks: [Bank; BANKS],
     /// As it was passed, or as the last access left it. It stands for a place modulo 16.
     pub index: u32,
-    /// The registers as they were passed; only a fault asks for them.
-    pub passed: [Bank; BANKS],
 }
 
 impl Bridge {
-    /// A fresh start, with the contents and the index that the caller passes.
+    /// A fresh start: "The caller passes the registers' starting contents and index (modulo 16)."
     pub fn start(&mut self, index: u32, banks: [Bank; BANKS]) -> Answer {
-        let index = instead(Fault::BankStartTrimsIndex, index % 16, index);
-        if !planted(Fault::BankStartKeepsIndex) {
-            self.index = index;
-        }
-        if !planted(Fault::BankStartKeepsRegisters) {
-            self.banks = banks;
-        }
-        self.passed = banks;
+        self.index = index;
+        self.banks = banks;
         Answer::of(0)
     }
 }

@@ -1,7 +1,6 @@
 //! Block reads and writes over a part of the caller's list: document 01, "Blocks and the two
 //! doors".
 
-use crate::fault::{planted, Fault};
 use crate::port::{too_long, Cycle, Port};
 use std::ops::Range;
 
@@ -10,8 +9,6 @@ fn part(memory: &[u16], list: &[u16], place: u64, count: u32) -> Result<Range<us
     let end = u128::from(place) + u128::from(count);
     if too_long(memory) {
         Err(1)
-    } else if planted(Fault::BlockPlaceWraps) && end >> 64 != 0 {
-        Ok(0..0)
     } else if count > 4_096 || end > list.len() as u128 {
         Err(10)
     } else {
@@ -26,15 +23,10 @@ pub fn read(port: &mut Port, memory: &[u16], list: &mut [u16], at: u64, count: u
         Err(number) => return (number, 0),
     };
     let mut hollow = 0;
-    for (k, place) in list[part].iter_mut().enumerate() {
-        if planted(Fault::BlockFeigned) && k > 0 {
-            *place = port.data;
-            continue;
-        }
+    for place in &mut list[part] {
         let answer = port.read(memory, 2, 3);
         *place = answer.word;
-        let filler = planted(Fault::BlockCountsFiller) && answer.word == 0xFFFF;
-        hollow += u32::from(answer.hollow || filler);
+        hollow += u32::from(answer.hollow);
     }
     (0, hollow)
 }
@@ -46,10 +38,7 @@ pub fn write(port: &mut Port, memory: &mut [u16], list: &[u16], at: u64, count: 
         Err(number) => return (number, 0),
     };
     let mut empty = 0;
-    for (k, &word) in list[part].iter().enumerate() {
-        if planted(Fault::BlockFeigned) && k > 0 {
-            break;
-        }
+    for &word in &list[part] {
         let answer = port.write(memory, 2, 3, word);
         empty += u32::from(answer.cycle == Cycle::Empty);
     }

@@ -1,7 +1,5 @@
 //! The five sources of bus requests and the order of their grants: document 01, "Bus order".
 
-use crate::fault::{instead, planted, Fault};
-
 const HOLD: usize = 0;
 
 #[derive(Default)]
@@ -11,7 +9,7 @@ pub struct Bus {
 
 impl Bus {
     pub fn reset(&mut self) {
-        self.waits = instead(Fault::ResetKeepsBus, self.waits, [false; 5]);
+        self.waits = [false; 5];
     }
 
     pub fn ask(&mut self, source: u32) -> u8 {
@@ -27,11 +25,10 @@ impl Bus {
 
     /// Number and source.
     pub fn grant(&mut self) -> (u8, u32) {
-        let order = instead(Fault::HostAfterProcessor, [0, 1, 2, 4, 3], [0, 1, 2, 3, 4]);
-        let Some(source) = order.into_iter().find(|&source| self.waits[source]) else {
+        let Some(source) = (0..5).find(|&source| self.waits[source]) else {
             return (8, 0);
         };
-        self.waits[source] = source == HOLD && !planted(Fault::HoldCleared);
+        self.waits[source] = source == HOLD;
         (0, source as u32)
     }
 

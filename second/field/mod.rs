@@ -2,26 +2,28 @@
 
 pub mod script;
 
-use crate::fault::{instead, planted, Fault};
 use crate::port::too_long;
 
 /// The first and the last word touched; wide, so that nothing wraps near 2^32.
 fn touched(address: u32, size: u32) -> (u64, u64) {
-    let last_bit = u64::from(address) + u64::from(size.max(1)) - 1;
+    let last_bit = u64::from(address) + u64::from(size) - 1;
     (u64::from(address) / 16, last_bit / 16)
 }
 
 fn refusal(memory: &[u16], address: u32, size: u32) -> u8 {
+    if too_long(memory) {
+        return 1;
+    }
+    if size == 0 || size > 32 {
+        return 4;
+    }
     let (first, last) = touched(address, size);
-    let missing = last >= memory.len() as u64;
-    let bad_size = size == 0 || size > 32;
-    match (bad_size, missing) {
-        _ if too_long(memory) => 1,
-        (true, true) => instead(Fault::FieldMemoryFirst, 6, 4),
-        (true, false) => 4,
-        (false, _) if last - first + 1 > 3 => 5,
-        (false, true) => 6,
-        (false, false) => 0,
+    if last - first + 1 > 3 {
+        5
+    } else if last >= memory.len() as u64 {
+        6
+    } else {
+        0
     }
 }
 
@@ -42,8 +44,7 @@ pub fn take(memory: &[u16], address: u32, size: u32, signed: bool) -> (u8, i64, 
         let (word, bit) = place(address, i);
         value |= i64::from(memory[word] >> bit & 1) << i;
     }
-    let top = 1 << (size - 1);
-    if signed && instead(Fault::FieldSignedEdge, value > top, value >= top) {
+    if signed && value >= 1 << (size - 1) {
         value -= 1 << size;
     }
     let (first, last) = touched(address, size);
@@ -59,15 +60,11 @@ pub fn put(memory: &mut [u16], address: u32, size: u32, value: u32) -> (u8, u32)
     let (first, last) = touched(address, size);
     for i in 0..size {
         let (word, bit) = place(address, i);
-        let lost = word as u64 == first + 2 && size < 32 && planted(Fault::FieldThirdWord);
-        if !lost {
-            memory[word] = memory[word] & !(1 << bit) | ((value >> i & 1) as u16) << bit;
-        }
+        memory[word] = memory[word] & !(1 << bit) | ((value >> i & 1) as u16) << bit;
     }
     let end = u64::from(address) + u64::from(size);
     let whole = |word: &u64| u64::from(address) <= word * 16 && word * 16 + 16 <= end;
-    let words = last - first + 1;
     let saved = (first..=last).filter(whole).count() as u64;
-    let cycles = 2 * words - instead(Fault::FieldWholeTwice, 0, saved);
+    let cycles = 2 * (last - first + 1) - saved;
     (0, cycles as u32)
 }

@@ -3,8 +3,6 @@
 
 pub mod access;
 
-use crate::fault::{instead, planted, Fault};
-
 const MSGIN: u16 = 0x0007;
 const INTIN: u16 = 0x0008;
 const MSGOUT: u16 = 0x0070;
@@ -50,24 +48,24 @@ fn without_word(number: u8, cycle: Cycle) -> Answer {
 
 /// Number 1, which every call that is lent a memory tests.
 pub fn too_long(memory: &[u16]) -> bool {
-    memory.len() > instead(Fault::LimitOneOver, 32_769, 32_768)
+    memory.len() > 32_768
 }
 
 fn refusal(memory: &[u16], register: u32, lanes: u32) -> u8 {
-    let bad_lanes = !(1..=3).contains(&lanes);
-    match (register > 3, bad_lanes) {
-        _ if too_long(memory) => 1,
-        (true, true) => instead(Fault::LanesBeforeRegister, 3, 2),
-        (true, false) => 2,
-        (false, true) => 3,
-        (false, false) => 0,
+    if too_long(memory) {
+        1
+    } else if register > 3 {
+        2
+    } else if !(1..=3).contains(&lanes) {
+        3
+    } else {
+        0
     }
 }
 
 /// The bits of the selected bytes.
 fn selected(lanes: u32) -> u16 {
-    let bytes = [0, LOW, HIGH, LOW | HIGH];
-    instead(Fault::LanesSwapped, [0, HIGH, LOW, LOW | HIGH], bytes)[lanes as usize]
+    [0, LOW, HIGH, LOW | HIGH][lanes as usize]
 }
 
 fn replaced(old: u16, new: u16, bits: u16) -> u16 {
@@ -76,7 +74,7 @@ fn replaced(old: u16, new: u16, bits: u16) -> u16 {
 
 /// What a write of the high control byte leaves there: all its bits but 10, which becomes 0.
 fn high_control(word: u16) -> u16 {
-    word & HIGH & !instead(Fault::BitTenKept, 0, BIT_10)
+    word & HIGH & !BIT_10
 }
 
 impl Port {
@@ -85,7 +83,7 @@ impl Port {
             pointer: 0,
             data: 0,
             control: HLT,
-            hollow: !planted(Fault::ResetHeld),
+            hollow: true,
         }
     }
 
@@ -94,21 +92,18 @@ impl Port {
         if number != 0 {
             return without_word(number, Cycle::None);
         }
-        let entry = *self;
+        let bits = selected(lanes);
+        let word = self.register(register) & bits;
+        let hollow = register == 2 && self.hollow;
         let mut cycle = Cycle::None;
-        if register == 2 && self.closes(selected(lanes)) {
+        if register == 2 && self.closes(bits) {
             self.step_if(INCR);
             cycle = self.fetch(memory);
         }
-        if planted(Fault::LastWordRefused) && cycle == Cycle::Empty {
-            *self = entry;
-            return without_word(6, Cycle::None);
-        }
-        let shown = instead(Fault::FetchBeforeAnswer, *self, entry);
         Answer {
             number,
-            word: shown.register(register) & selected(lanes),
-            hollow: register == 2 && shown.hollow,
+            word,
+            hollow,
             cycle,
         }
     }
@@ -128,20 +123,10 @@ impl Port {
         }
         let cycle = match register {
             2 if closes => self.end_of_write(memory),
-            0 | 1 if closes && register == last_half => self.end_of_load(memory),
+            0 | 1 if closes && register == last_half => self.fetch(memory),
             _ => Cycle::None,
         };
-        if planted(Fault::AnyByteClearsMark) && register == 2 {
-            self.hollow = false;
-        }
         without_word(number, cycle)
-    }
-
-    fn end_of_load(&mut self, memory: &[u16]) -> Cycle {
-        if planted(Fault::LoadIncrements) {
-            self.step_if(INCR);
-        }
-        self.fetch(memory)
     }
 
     fn end_of_write(&mut self, memory: &mut [u16]) -> Cycle {
@@ -150,41 +135,29 @@ impl Port {
             *word = self.data;
             cycle = Cycle::Inside;
         }
-        self.hollow = instead(Fault::StoreKeepsMark, self.hollow, false);
+        self.hollow = false;
         self.step_if(INCW);
-        if planted(Fault::ReadGoesToMemory) {
-            self.fetch(memory);
-        }
         cycle
     }
 
     fn write_control(&mut self, word: u16, bits: u16) {
         let old = self.control;
-        let intin = instead(Fault::HostClearsIntin, word, old | word) & INTIN;
+        let intin = (old | word) & INTIN;
         let low = (word & MSGIN) | intin | (old & MSGOUT) | (old & word & INTOUT);
         self.control = replaced(old, high_control(word) | low, bits);
     }
 
     /// Whether the closing byte is among those bits, by LBL as it stands.
     fn closes(&self, bits: u16) -> bool {
-        let low_closes = self.control & LBL != 0 && !planted(Fault::LblIgnored);
-        let (first, closing) = if low_closes { (HIGH, LOW) } else { (LOW, HIGH) };
-        bits & instead(Fault::FirstByteCycles, first, closing) != 0
+        let closing = if self.control & LBL == 0 { HIGH } else { LOW };
+        bits & closing != 0
     }
 
     /// The pointer's gain, if that bit of HSTCTL is 1.
     fn step_if(&mut self, bit: u16) {
-        if self.control & bit == 0 {
-            return;
+        if self.control & bit != 0 {
+            self.pointer = self.pointer.wrapping_add(16);
         }
-        let gain = instead(Fault::StepOfOne, 1, 16);
-        let stopped = self.pointer.saturating_add(gain);
-        self.pointer = instead(
-            Fault::PointerStops,
-            stopped,
-            self.pointer.wrapping_add(gain),
-        );
-        self.pointer &= !instead(Fault::LowBitsLost, 15, 0);
     }
 
     fn fetch(&mut self, memory: &[u16]) -> Cycle {
@@ -193,7 +166,7 @@ impl Port {
             self.hollow = false;
             return Cycle::Inside;
         }
-        self.data = instead(Fault::EmptyFetchKeeps, self.data, 0xFFFF);
+        self.data = 0xFFFF;
         self.hollow = true;
         Cycle::Empty
     }
@@ -204,7 +177,7 @@ impl Port {
             0 => self.pointer as u16,
             1 => (self.pointer >> 16) as u16,
             2 => self.data,
-            _ => self.control & !instead(Fault::BitTenShown, 0, BIT_10),
+            _ => self.control & !BIT_10,
         }
     }
 
@@ -229,7 +202,7 @@ impl Port {
             0 | 1 => self.set_half(register, word),
             2 => {
                 self.data = word;
-                self.hollow = instead(Fault::ProcessorKeepsMark, self.hollow, false);
+                self.hollow = false;
             }
             3 => {
                 let signals = (old & word & INTIN) | ((old | word) & INTOUT);

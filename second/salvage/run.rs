@@ -9,7 +9,6 @@
 //! records kept (4), bytes left (4) and stop (2), then the 64 bytes to be written as the call left
 //! them.
 
-use crate::fault::{instead, Fault};
 use crate::salvage::{salvage, Answer};
 use crate::scripts::records::{carry_out, Call};
 use std::io::{self, Write};
@@ -55,8 +54,6 @@ impl Call for Record {
     fn call(&mut self) -> Answer {
         let [damaged, room] =
             [self.damaged_lent, self.room_lent].map(|lent| BYTES.min(lent.into()));
-        let damaged = instead(Fault::SalvageLentIgnored, BYTES, damaged);
-        let room = instead(Fault::SalvageRoomIgnored, BYTES, room);
         salvage(&self.damaged[..damaged], &mut self.room[..room])
     }
 

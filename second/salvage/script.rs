@@ -2,10 +2,10 @@
 //! document 02, request (ii), at the start, amid good records and at the end, with room for the run
 //! or too little.
 
+use crate::salvage::good_run::GoodRun;
 use crate::salvage::run::{Record, BYTES, RECORD};
 use crate::scripts::random::Random;
 use crate::scripts::records::{self, Call};
-use crate::transcript::good_run::GoodRun;
 use crate::transcript::rooms::{lent, room};
 use crate::transcript::strings::{cut, damage, stopped, ByteString};
 
@@ -37,7 +37,7 @@ fn filled(random: &Random, string: &[u8]) -> Record {
 
 /// Lends that many bytes of the string, and room for its run, for all of it, or too little.
 fn lend(random: &Random, record: &mut Record, length: usize) {
-    let run = GoodRun::at(0, &record.damaged[..length]).length();
+    let run = GoodRun::of(&record.damaged[..length]).end;
     let about_string = random.pick(&[length, length.saturating_sub(1)]);
     let room = match random.below(4) {
         0 => about_string,
@@ -73,7 +73,7 @@ fn filling(random: &Random) -> Vec<u8> {
     match random.below(3) {
         0 => damage(random, &mut bytes),
         1 => {}
-        _ => bytes.truncate(GoodRun::at(0, &bytes).end),
+        _ => bytes.truncate(GoodRun::of(&bytes).end),
     }
     bytes
 }
@@ -107,7 +107,7 @@ fn flipped_everywhere(random: &Random) -> Vec<Record> {
 fn every_room(random: &Random) -> Vec<Record> {
     let string = stopped(random);
     let mut record = lent_any(random, &string);
-    let run = GoodRun::at(0, &record.damaged[..string.len().min(BYTES)]).length();
+    let run = GoodRun::of(&record.damaged[..string.len().min(BYTES)]).end;
     let with_room = |room| {
         record.room_lent = room as u8;
         record.clone()

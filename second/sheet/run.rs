@@ -15,7 +15,6 @@
 //! sheet reads it.
 
 use crate::calls::run::ROOM;
-use crate::fault::{instead, Fault};
 use crate::port::Port;
 use crate::scripts::records;
 use crate::sheet::struck::Struck;
@@ -108,14 +107,9 @@ impl Run {
         let mut port = record.port();
         let memory = &mut self.room[..usize::from(record.words).min(ROOM)];
         let list = &mut self.list[..usize::from(record.places).min(LIST)];
-        let outcome = sheet(&mut port, memory, record.address, record.struck, list);
-        let (number, shown) = match outcome {
+        let (number, shown) = match sheet(&mut port, memory, record.address, record.struck, list) {
             Ok(shown) => (0, shown),
-            Err(number) => {
-                port = instead(Fault::SheetPortRestored, record.port(), port);
-                let rule = instead(Fault::SheetRuleOnRefusal, record.struck.rule, 0);
-                (number, Shown { rule, strokes: 0 })
-            }
+            Err(number) => (number, Shown::default()),
         };
         line(number, shown, port, &self.list)
     }

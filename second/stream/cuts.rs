@@ -3,7 +3,7 @@
 
 use crate::scripts::random::Random;
 use crate::stream::run::BYTES;
-use crate::stream::tests::MOST;
+use crate::stream::MOST;
 
 /// The string in deliveries: each byte by itself, all at once, in two, or in pieces of any length;
 /// perhaps with empty ones among them.

@@ -199,9 +199,12 @@ fn wanted(text: &str) -> Option<String> {
         count: count as usize,
         place: place.into(),
     };
-    let mut stream = Stream::new(0);
-    stream.ended = (ended == 1).then_some(0);
-    (stream.from, stream.taken) = (from.into(), taken.into());
+    let stream = Stream {
+        ended: ended == 1,
+        from: from.into(),
+        taken: taken.into(),
+        part: Vec::new(),
+    };
     let mut list = blank_list([0; 4]);
     for (k, access) in parts.enumerate() {
         let access: Access = numbers(access)?;

@@ -1,10 +1,7 @@
-//! What a delivery brings: the good records that it finishes, the bad one behind them if there is
-//! one, and where the stream then stands (document 02, requests (ii) and (vii)).
+//! What a delivery brings: the good records that it finishes, and the bad one behind them if there
+//! is one, judged as in request (ii) of document 02.
 
-use crate::fault::{instead, planted, Fault};
-use crate::stream::part::{cut, joined, kept, Cut};
 use crate::stream::Stream;
-use crate::transcript::good_run::{length_of_bad, GoodRun};
 use crate::transcript::list::Access;
 use crate::transcript::reader::record;
 
@@ -13,90 +10,43 @@ pub struct Found {
     pub accesses: Vec<Access>,
     /// The refusal of the bad record behind them, or 0 if there is none, or none yet.
     pub stop: u8,
-    /// Where the record begins that is then being read, and how many bytes have then been read.
+    /// Where in the stream the record begins that is then being read.
     pub from: u64,
-    pub taken: u64,
-    /// The bytes of that record that have been read.
+    /// The bytes of that record that have then been read.
     pub part: Vec<u8>,
-    /// How many good records lie behind the bad one; only a fault asks for them.
-    pub later: usize,
 }
 
 impl Found {
-    /// Judges the record that was being read, and those behind it, as if the stream had never been
-    /// cut.
+    /// Judges the record that is being read, and those behind it, as if there were no cut.
     pub fn new(stream: &Stream, delivery: &[u8]) -> Found {
-        let bytes = joined(&stream.part, delivery);
-        let run = GoodRun::at(0, &bytes);
-        let rest = &bytes[run.end..];
-        let stop = stop(&run, rest);
-        let read = match stop {
-            0 => rest.len(),
-            _ => read_of_bad(rest),
-        };
-        let unread = rest.len() - read;
-        let taken = stream.taken + (delivery.len() - unread) as u64;
-        // The record that was being read still is, unless it was finished.
-        let from = match run.records.is_empty() {
-            true => stream.from,
-            false => taken - read as u64,
-        };
-        let part = match stop {
-            0 => kept(&stream.part, delivery, rest),
-            _ => rest[..read].to_vec(),
-        };
-        let later = run.later(&bytes);
         let mut found = Found {
-            accesses: accesses(&run, &bytes),
-            stop,
-            from,
-            taken,
-            part,
-            later: later.iter().map(|run| run.records.len()).sum(),
+            accesses: Vec::new(),
+            stop: 0,
+            from: stream.from,
+            part: [&stream.part, delivery].concat(),
         };
-        found.miscount(stream, delivery);
+        while !found.part.is_empty() && found.stop == 0 {
+            match record(&found.part) {
+                Ok((access, length)) => {
+                    found.accesses.push(access);
+                    found.from += length as u64;
+                    found.part.drain(..length);
+                }
+                Err(number) => found.stop = number,
+            }
+        }
+        match found.stop {
+            // "A number cut off is refused only when the sender says that nothing follows."
+            20 => found.stop = 0,
+            _ => found.part.truncate(read_of_bad(&found.part)),
+        }
         found
-    }
-
-    /// What faults count wrongly.
-    fn miscount(&mut self, stream: &Stream, delivery: &[u8]) {
-        if planted(Fault::StreamCrossingLost) && !stream.part.is_empty() {
-            self.accesses.drain(..self.accesses.len().min(1));
-        }
-        if self.stop != 0 {
-            let all = stream.taken + delivery.len() as u64;
-            self.taken = instead(Fault::StreamTakenBehindBad, all, self.taken);
-            self.taken = instead(Fault::StreamTakenBeforeBad, self.from, self.taken);
-        }
-    }
-}
-
-fn accesses(run: &GoodRun, bytes: &[u8]) -> Vec<Access> {
-    let records = run.records.iter();
-    let good = records.filter_map(|place| record(&bytes[*place..]).ok());
-    good.map(|(access, _)| access).collect()
-}
-
-/// The refusal of the record behind the run. One that is cut off isn't bad while more may follow.
-fn stop(run: &GoodRun, rest: &[u8]) -> u8 {
-    let at_once = match cut(rest) {
-        Cut::Nowhere => false,
-        Cut::BeforeWord => planted(Fault::StreamMissingRefused),
-        Cut::InHead | Cut::InWord => planted(Fault::StreamCutRefused),
-    };
-    match run.stop {
-        20 if !at_once => 0,
-        stop => stop,
     }
 }
 
 /// How many bytes of a bad record are read: up to the one with which it is judged to be bad, before
-/// which it is only cut off.
+/// which it is only cut off. None behind it is read.
 fn read_of_bad(bytes: &[u8]) -> usize {
-    let judged = |length: &usize| match record(&bytes[..*length]) {
-        Ok(_) | Err((20, _)) => false,
-        Err(_) => true,
-    };
-    let read = (1..bytes.len()).find(judged).unwrap_or(bytes.len());
-    instead(Fault::StreamTakenWithWord, length_of_bad(bytes), read)
+    let bad = |length: &usize| matches!(record(&bytes[..*length]), Err(21..));
+    (1..bytes.len()).find(bad).unwrap_or(bytes.len())
 }

@@ -2,29 +2,22 @@
 //! sender says that nothing follows (document 02, request (vii)).
 
 pub mod cuts;
-pub mod end;
 pub mod examples;
 pub mod found;
 pub mod joined;
-pub mod part;
-pub mod place;
 pub mod run;
 pub mod script;
 pub mod sender;
-pub mod tests;
-pub mod unchanged;
 
-use crate::fault::{instead, planted, Fault};
 use crate::refusal::none_of;
 use crate::stream::found::Found;
-use crate::stream::place::place_in_delivery;
-use crate::stream::tests::tests;
-use crate::transcript::list::{List, PLACES};
-use crate::transcript::Side;
+use crate::transcript::list::List;
+
+/// The most bytes that a stream may have.
+pub const MOST: u64 = 4_294_967_295;
 
 /// What a call answers: its number; how many entries it handed out, under 21 to 23 too; and, under
 /// 20 to 23, where in the whole stream the bad record begins. All else is 0.
-#[derive(Clone, Copy)]
 pub struct Answer {
     pub number: u8,
     pub count: usize,
@@ -41,96 +34,74 @@ impl Answer {
     }
 }
 
+/// The place in a stream, kept from call to call.
 pub struct Stream {
-    /// What has ended it, if anything has: a refusal 20 to 23, or 0, the sender's word.
-    pub ended: Option<u8>,
+    /// Whether the sender's word or a refusal 20 to 23 has ended it.
+    pub ended: bool,
     /// Where in the stream the record begins that is being read.
     pub from: u64,
     /// How many bytes of the stream have been read.
     pub taken: u64,
     /// The bytes of the record that is being read, as far as they have come.
     pub part: Vec<u8>,
-    /// How many entries have been handed out; only faults ask for them.
-    pub handed_out: usize,
 }
 
 impl Stream {
     /// A stream freshly started, after that many bytes of whole good records.
     pub fn new(before: u32) -> Stream {
         Stream {
-            ended: None,
+            ended: false,
             from: before.into(),
             taken: before.into(),
             part: Vec::new(),
-            handed_out: 0,
         }
     }
 
     /// A fresh start, whatever came before.
     pub fn start(&mut self, before: u32) -> Answer {
-        let old = std::mem::replace(self, Stream::new(before));
-        if planted(Fault::StreamStartKeepsPlace) {
-            (self.from, self.taken) = (old.from, old.taken);
-        }
-        if planted(Fault::StreamStartKeepsPart) {
-            self.part = old.part;
-        }
-        if planted(Fault::StreamStartKeepsEnd) {
-            self.ended = old.ended;
-        }
+        *self = Stream::new(before);
         Answer::of(0)
     }
 
-    /// Reads a delivery. The records that it finishes take the list's first places.
+    /// Reads a delivery. Refused with 25, 26 or 24, in this order, it changes nothing. Else the good
+    /// records that it finishes take the list's first places, and the stream goes on behind them or
+    /// ends at a bad one.
     pub fn deliver(&mut self, delivery: &[u8], list: &mut List) -> Answer {
         let found = Found::new(self, delivery);
-        let room = list.length(Side::Reader);
-        if let Err(number) = none_of(&tests(self, delivery, &found, room)) {
-            return self.unchanged(number, delivery, found, list);
+        let room = list.length();
+        let tests = [
+            (self.ended, 25),
+            (self.taken + delivery.len() as u64 > MOST, 26),
+            (found.accesses.len() > room, 24),
+        ];
+        if let Err(number) = none_of(&tests) {
+            return Answer::of(number);
         }
-        if delivery.is_empty() && planted(Fault::StreamEmptyEnds) {
-            return self.end();
-        }
-        self.read(found, list)
-    }
-
-    /// Hands out the records that a delivery finishes, and goes on behind it or ends at its bad
-    /// record.
-    pub fn read(&mut self, found: Found, list: &mut List) -> Answer {
+        list.lay(&found.accesses);
         let bad = found.stop != 0;
-        let mut answer = Answer::of(found.stop);
-        answer.count = self.hand_out(&found, list);
-        if bad {
-            answer.place = place_in_delivery(self.taken, &found);
-            self.ended = Some(found.stop);
-        }
-        let from = instead(Fault::StreamFromBehindBad, found.taken, found.from);
-        self.from = if bad { from } else { found.from };
-        self.taken = found.taken;
+        self.ended = bad;
+        self.from = found.from;
+        self.taken = found.from + found.part.len() as u64;
         self.part = if bad { Vec::new() } else { found.part };
-        answer
+        Answer {
+            number: found.stop,
+            count: found.accesses.len(),
+            place: if bad { self.from } else { 0 },
+        }
     }
 
-    /// Lays the records into the list's first places, and says how many they are.
-    fn hand_out(&mut self, found: &Found, list: &mut List) -> usize {
-        let bad = found.stop != 0;
-        let room = list.length(Side::Reader);
-        let first = instead(Fault::StreamPlacesGoOn, self.handed_out, 0);
-        let nothing = bad && planted(Fault::StreamBadHandsNothing);
-        let unwritten = nothing || bad && planted(Fault::StreamBadUnwritten);
-        let written = if unwritten { 0 } else { room };
-        for (k, access) in found.accesses.iter().take(written).enumerate() {
-            if first + k < PLACES {
-                list.set(first + k, *access);
-            }
+    /// The sender's word that nothing follows: only now is a record refused that is cut off.
+    pub fn end(&mut self) -> Answer {
+        if self.ended {
+            return Answer::of(25);
         }
-        let count = found.accesses.len();
-        if planted(Fault::StreamRestCleared) {
-            (count..room).for_each(|k| list.set(k, [0; 4]));
+        self.ended = true;
+        if self.part.is_empty() {
+            return Answer::of(0);
         }
-        self.handed_out += count;
-        let uncounted = nothing || bad && planted(Fault::StreamBadUncounted);
-        let told = if uncounted { 0 } else { count };
-        instead(Fault::StreamCountSoFar, self.handed_out, told)
+        Answer {
+            place: self.from,
+            ..Answer::of(20)
+        }
     }
 }

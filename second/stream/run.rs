@@ -13,7 +13,6 @@
 //! (1), where the record begins that is being read (8) and how many bytes have been read (8); then
 //! the lists as the call left them, six kinds, six registers, six lanes and six words (8 each).
 
-use crate::fault::{instead, Fault};
 use crate::scripts::records;
 use crate::stream::{Answer, Stream};
 use crate::transcript::list::{List, PLACES};
@@ -69,7 +68,6 @@ impl Record {
     pub fn call(&self, stream: &mut Stream) -> (Answer, List) {
         let mut list = blank_list(self.places_lent);
         let delivered = BYTES.min(self.delivered.into());
-        let delivered = instead(Fault::StreamLengthIgnored, BYTES, delivered);
         let answer = match self.deed % 3 {
             START => stream.start(self.before),
             DELIVER => stream.deliver(&self.string[..delivered], &mut list),
@@ -90,7 +88,7 @@ pub fn blank_list(lent: [u8; 4]) -> List {
 /// What is printed of a call that answered so and left the stream and the lists so.
 pub fn line(answer: Answer, stream: &Stream, list: &List) -> String {
     let (number, count, place) = (answer.number, answer.count, answer.place);
-    let ended = u8::from(stream.ended.is_some());
+    let ended = u8::from(stream.ended);
     let (from, taken) = (stream.from, stream.taken);
     let mut line = format!("{number:02x}{count:04x}{place:08x}{ended}{from:08x}{taken:08x}");
     for value in list.parts.iter().flatten() {

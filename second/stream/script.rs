@@ -6,7 +6,7 @@ use crate::scripts::random::Random;
 use crate::stream::cuts::{before, pieces};
 use crate::stream::run::BYTES;
 use crate::stream::sender::Sender;
-use crate::stream::tests::MOST;
+use crate::stream::MOST;
 use crate::transcript::strings::{bad, cut, stopped, ByteString};
 
 /// About as many bytes as a stream has, at the most.

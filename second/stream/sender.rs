@@ -4,8 +4,8 @@
 use crate::scripts::random::Random;
 use crate::stream::found::Found;
 use crate::stream::run::{Record, BYTES, DELIVER, END, RECORD, START};
-use crate::stream::tests::MOST;
 use crate::stream::Stream;
+use crate::stream::MOST;
 use crate::transcript::list::PLACES;
 use crate::transcript::rooms::{lent, lent_slices, room};
 use std::ops::Deref;
@@ -42,7 +42,7 @@ impl Sender {
 
     /// Whether the stream has ended, by the end or by a refusal.
     pub fn ended(&self) -> bool {
-        self.stream.ended.is_some()
+        self.stream.ended
     }
 
     /// Whether the stream takes no more bytes: it has ended, or is as long as it may be.
