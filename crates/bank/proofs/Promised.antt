@@ -10,7 +10,7 @@ use Rattle.bank.proofs.accessing.write_bank_port.Reads as write-bank-po
 use Rattle.bank.proofs.decoding.decode.Kinds as decode-kinds
 use Rattle.bank.proofs.decoding.decode.Reads as decode
 
--- `read_bank_port`: p, lanes.
+-- `read_bank_port` takes any p and lanes, and all that its contract allows is `read-answer` of them.
 pub read-bank-port-contract : Contract read-bank-port-kinds.ps read-bank-port-kinds.r read-bank-port.Pre read-bank-port.Post
     (λ κs args o left.
     let p = args .0 in
@@ -18,7 +18,7 @@ pub read-bank-port-contract : Contract read-bank-port-kinds.ps read-bank-port-ki
     o ≡ read-answer p lanes)
 read-bank-port-contract = record { takes-any = λ κs args. tt; says = λ κs args o left p. p }
 
--- `write_bank_port`: p, lanes, word.
+-- `write_bank_port` takes any p, lanes and word, and all that its contract allows is `write-answer` of them.
 pub write-bank-port-contract : Contract write-bank-port-kinds.ps write-bank-port-kinds.r write-bank-port.Pre write-bank-port.Post
     (λ κs args o left.
     let p = args .0 in
@@ -27,7 +27,7 @@ pub write-bank-port-contract : Contract write-bank-port-kinds.ps write-bank-port
     o ≡ write-answer p lanes word)
 write-bank-port-contract = record { takes-any = λ κs args. tt; says = λ κs args o left p. p }
 
--- `decode`: b, control, address, kind.
+-- `decode` takes any b, control, address and kind, and all that its contract allows is `decoded` of them.
 pub decode-contract : Contract decode-kinds.ps decode-kinds.r decode.Pre decode.Post
     (λ κs args o left.
     let b = args .0 in

@@ -11,8 +11,8 @@ use Rattle.bank_spec.specs.InPlainWords.{Admits, ordinary, refresh, spec
 use Rattle.bank_spec.proofs.Refresh.{in-turn-exactly}
 
 module _ (c : ℕ) (a : BitAddress) (n : ℕ) where
-  -- A cycle is admitted exactly if it is ordinary, a refresh of a bank whose BDRD bit is 0 and whose turn it is, or special and the
-  -- bank's BVEN bit is 1.
+  -- A cycle of a known kind is admitted for a bank exactly if it is ordinary, a refresh of a bank whose BDRD bit is 0 and whose turn it is,
+  -- or special and the bank's BVEN bit is 1 (`Admits`).
   pub admits-exactly : n < 4 → (kind : ℕ) → kind ≤ 2 → admits c a kind n ≡ true ↔ Admits c a kind n
   unfolding admits
   admits-exactly h zero l = (λ _. ordinary refl, λ _. refl)
@@ -37,7 +37,7 @@ module _ (c : ℕ) (a : BitAddress) (n : ℕ) where
       allowed (special e v) = v
   admits-exactly h (suc (suc (suc k))) l = absurd (omega arith)
 
-  -- An unknown kind is never admitted.
+  -- A cycle of an unknown kind is never admitted.
   pub none-admitted : (kind : ℕ) → 2 < kind → Admits c a kind n → ⊥
   none-admitted kind l (ordinary e) = omega (arith, l, e)
   none-admitted kind l (refresh e d t) = omega (arith, l, e)

@@ -37,7 +37,7 @@ module _ (m v a : ℕ) where
         λ f. rw (lower .1 (λ i l. f i (omega (arith, l)))) (f n (omega arith)),
       )
 
-  -- Address and compare value agree exactly if, for each bit, the mask's is 0 or theirs are equal.
+  -- Address and compare value agree exactly if, for each of the 32 bits, the mask's is 0 or theirs are equal (`Agrees`).
   pub agrees-exactly : agrees m v a ≡ true ↔ Agrees m v a
   unfolding agrees
   agrees-exactly =
@@ -52,8 +52,8 @@ same-left true false true = (⊎-elim (λ e. absurd (true≢false e)) (λ e. e),
 same-left true false false = (λ _. refl, λ _. inr refl)
 same-left false t u = (λ _. and-false t ∙ sym (and-false u), λ _. inl refl)
 
--- They agree exactly if what the mask leaves of both is the same: "masked using the corresponding BKMSKx value, compared with the LAD bus
--- address bits allowed by the corresponding BKMSKx value".
+-- By a mask of 32 bits, address and compare value agree exactly if what the mask leaves of both is the same: "masked using the
+-- corresponding BKMSKx value, compared with the LAD bus address bits allowed by the corresponding BKMSKx value".
 pub masked-alike : (m v a : ℕ) → m < 2 ^ 32 → agrees m v a ≡ eqb (bitAnd v m) (bitAnd a m)
 masked-alike m v a l =
     same-test (agrees m v a) (eqb (bitAnd v m) (bitAnd a m))

@@ -14,7 +14,8 @@ use Rattle.bank_spec.specs.Decode.{agrees}
 use Rattle.bank_spec.specs.InPlainWords.{mask-for}
 use Rattle.bank_spec.proofs.BitByBit.{masked-alike}
 
--- The paper's own example is a bank of 1 MByte, 2^23 bits; the registers of a palette in its sample map have 2^9.
+-- Two such masks in figures: FF800000h for 1 MByte, 2^23 bits, the paper's own example, and FFFFFE00h for 2^9 bits, those of a palette's
+-- registers in its sample map.
 pub sample-masks : (mask-for 23 ≡ 0xFF800000) × (mask-for 9 ≡ 0xFFFFFE00)
 sample-masks = (refl, refl)
 
@@ -33,7 +34,8 @@ module _ (k : ℕ) (small : k < 32) where
       let l : v / 2 ^ k < 2 ^ (32 - k) = shr-lt (32 - k) k (subst (λ (n : ℕ). v < 2 ^ n) e h) in
       ap (bitAnd v) upper-bits ∙ and-high v (32 - k) k ∙ ap (λ (x : ℕ). x * 2 ^ k) (mod-eq-of-lt l)
 
-  -- The bank whose first bit address is q * 2^k is selected by the addresses from there on, as many as it has bits.
+  -- With the paper's mask for 2^k bits, k below 32, and a compare value of 32 bits that is a multiple of 2^k, exactly the addresses of that
+  -- range agree: those from the compare value on, as many as the bank has bits.
   pub in-its-range : (q a : ℕ) → q * 2 ^ k < 2 ^ 32 → a < 2 ^ 32 →
       agrees (mask-for k) (q * 2 ^ k) a ≡ true ↔ (q * 2 ^ k ≤ a) × (a < q * 2 ^ k + 2 ^ k)
   in-its-range q a hc ha = (inside, λ r. from-inside (r .0) (r .1))

@@ -12,7 +12,8 @@ low v = v % 65536
 abbrev high : ℕ → ℕ
 high v = v / 65536
 
--- "0000b Bank Address 0 Low (BKAD0L)" to "0111b Bank Address 3 High (BKAD3H)", the second of them printed 0000b too.
+-- Places 0 to 7 are the compare values of banks 0 to 3, each the low half first: "0000b Bank Address 0 Low (BKAD0L)" to "0111b Bank Address
+-- 3 High (BKAD3H)", the second of them printed 0000b too.
 pub addresses-first : (b : Banks) →
     (half-at b 0 ≡ low (b .bank0 .compare)) × (half-at b 1 ≡ high (b .bank0 .compare)) ×
     (half-at b 2 ≡ low (b .bank1 .compare)) × (half-at b 3 ≡ high (b .bank1 .compare)) ×
@@ -21,7 +22,8 @@ pub addresses-first : (b : Banks) →
 unfolding half-at half value-of bank-at
 addresses-first b = (refl, refl, refl, refl, refl, refl, refl, refl)
 
--- "1000b Bank Select Mask 0 Low (BKMSK0L)" to "1111b Bank Select Mask 3 High (BKMSK3H)".
+-- Places 8 to 15 are the masks of banks 0 to 3, each the low half first: "1000b Bank Select Mask 0 Low (BKMSK0L)" to "1111b Bank Select
+-- Mask 3 High (BKMSK3H)".
 pub then-masks : (b : Banks) →
     (half-at b 8 ≡ low (b .bank0 .mask)) × (half-at b 9 ≡ high (b .bank0 .mask)) ×
     (half-at b 10 ≡ low (b .bank1 .mask)) × (half-at b 11 ≡ high (b .bank1 .mask)) ×
@@ -30,7 +32,7 @@ pub then-masks : (b : Banks) →
 unfolding half-at half value-of bank-at
 then-masks b = (refl, refl, refl, refl, refl, refl, refl, refl)
 
--- So each value is what two places hold, the high half above the low one.
+-- Each compare value and each mask is what two places hold, the high half above the low one.
 pub in-halves : (b : Banks) →
     (b .bank0 .compare ≡ half-at b 1 * 65536 + half-at b 0) × (b .bank0 .mask ≡ half-at b 9 * 65536 + half-at b 8) ×
     (b .bank1 .compare ≡ half-at b 3 * 65536 + half-at b 2) × (b .bank1 .mask ≡ half-at b 11 * 65536 + half-at b 10) ×

@@ -33,7 +33,7 @@ pub record BankWhen (lanes v : ℕ) : Type 0 where
   pub of-bytes : v ≡ 30 ↔ (lanes ≡ 1) ⊎ (lanes ≡ 2)
   pub done : v ≡ 0 ↔ lanes ≡ 3
 
--- The number that applies is 0, 3 or 30, each when, and only then.
+-- The number for some lanes is 3 exactly if they are 0 or over 3, 30 exactly if they are 1 or 2, 0 exactly if they are 3, and no other.
 pub when : (lanes : ℕ) → BankWhen lanes (refusal lanes)
 unfolding refusal
 when lanes = ⊎-elim (λ p. ⊎-elim (whole p) (byte p) (same-or-not lanes 3)) none (either-way (are-lanes lanes))
@@ -70,7 +70,7 @@ when lanes = ⊎-elim (λ p. ⊎-elim (whole p) (byte p) (same-or-not lanes 3)) 
           done = stated refl e;
         })
 
--- o is what an access with these lanes may answer: its number is that of the lanes; refused, it answers no word, and the port is as it was
+-- what an access with these lanes may answer: its number is that of the lanes; refused, it answers no word, and the port is as it was
 -- passed, its index too
 pub record AccessNumbers (p : BankPort) (lanes : ℕ) (o : BankAnswer) : Type 0 where
   pub number : BankWhen lanes (o .number)
@@ -89,19 +89,21 @@ module _ (p : BankPort) (lanes : ℕ) where
       barred : refusal lanes ≢ 0 → AccessNumbers p lanes (cond (eqb (refusal lanes) 0) o (refused (refusal lanes) p))
       barred d = rw (ne-eqb (refusal lanes) 0 d) (record { number = when lanes; refused = λ _. (refl, refl) })
 
-  -- So it is with every read.
+  -- Of a read, the number is 3 exactly if the lanes are 0 or over 3, 30 exactly if they are 1 or 2, 0 exactly if they are 3, and no other;
+  -- refused, the word is 0 and the port as it was passed, its index too.
   pub read-numbers : AccessNumbers p lanes (read-answer p lanes)
   unfolding read-answer
   read-numbers = judged _ refl
 
-  -- So it is with every write.
+  -- Of a write, the number is 3 exactly if the lanes are 0 or over 3, 30 exactly if they are 1 or 2, 0 exactly if they are 3, and no other;
+  -- refused, the word is 0 and the port as it was passed, its index too.
   pub write-numbers : (w : ℕ) → AccessNumbers p lanes (write-answer p lanes w)
   unfolding write-answer
   write-numbers w = judged _ refl
 
 -- ---- a decode
 
--- 31 if the kind is not 0, 1 or 2; refused, it shows no bank.
+-- what a decode of this kind may answer: 31 if the kind is not 0, 1 or 2; refused, it shows no bank
 pub record DecodeNumbers (kind : ℕ) (o : Decoded) : Type 0 where
   pub listed : (o .number ≡ 0) ⊎ (o .number ≡ 31)
   pub unknown : o .number ≡ 31 ↔ 2 < kind
@@ -109,7 +111,7 @@ pub record DecodeNumbers (kind : ℕ) (o : Decoded) : Type 0 where
   pub refused : o .number ≢ 0 →
       (o .bank0 ≡ false) × (o .bank1 ≡ false) × (o .bank2 ≡ false) × (o .bank3 ≡ false)
 
--- So it is with every decode.
+-- Of a decode, the number is 31 exactly if the kind is over 2, and 0 exactly otherwise; refused, no bank is shown.
 pub decode-numbers : (b : Banks) (c : ℕ) (a : BitAddress) (kind : ℕ) → DecodeNumbers kind (decoded b c a kind)
 unfolding decoded
 decode-numbers b c a kind = ⊎-elim unknown known (less-or-not 2 kind)

@@ -38,7 +38,9 @@ module _ (n c c′ kind : ℕ)
   unfolding selects
   selects-alike k a l = rw (admits-alike a kind refl l)
 
-  -- What is shown of a bank is the same for any other banks, and any other control word that it finds so alike.
+  -- At an address, what is shown of a bank depends on its own compare value and mask and, in a refresh, on its BDRD bit, RM1 and RM0, in a
+  -- special cycle on its BVEN bit, and in an ordinary one on no control bit at all; neither another bank's registers nor another bit
+  -- changes it.
   pub own-alone : (b b′ : Banks) (a : BitAddress) → n < 4 → bank-at b n ≡ bank-at b′ n →
       shows (decoded b c a kind) n ≡ shows (decoded b′ c′ a kind) n
   unfolding decoded
@@ -51,7 +53,7 @@ module _ (n c c′ kind : ℕ)
           ∙ ap (λ (k : Bank). selects k c′ a kind n) e
           ∙ sym (shown b′ c′ a kind l n h)
 
--- The rest of the control word, ABE, BPNT and bit 0, plays no part.
+-- The six low bits of the control word, ABE, BPNT and bit 0, change nothing.
 pub rest-plays-no-part : (b : Banks) (c c′ : ℕ) (a : BitAddress) (kind : ℕ) → c / 64 ≡ c′ / 64 → decoded b c a kind ≡ decoded b c′ a kind
 unfolding decoded
 rest-plays-no-part b c c′ a kind e = ⊎-elim (λ l. rw (lt-ltb 2 kind l)) known (less-or-not 2 kind)

@@ -23,7 +23,7 @@ each-bank P p0 p1 p2 p3 (suc (suc zero)) h = p2
 each-bank P p0 p1 p2 p3 (suc (suc (suc zero))) h = p3
 each-bank P p0 p1 p2 p3 (suc (suc (suc (suc n)))) h = absurd (omega arith)
 
--- The banks by their numbers.
+-- The banks by their numbers: 0 to 3 name the four.
 pub bank-named : (b : Banks) →
     (bank-at b 0 ≡ b .bank0) × (bank-at b 1 ≡ b .bank1) × (bank-at b 2 ≡ b .bank2) × (bank-at b 3 ≡ b .bank3)
 unfolding bank-at
@@ -105,12 +105,12 @@ module _ (b : Banks) (i w : ℕ) (l : w < 65536) (j : ℕ) where
   unfolding half-at with-half-at
   another d = ap (λ (k : Bank). half (is-high j) (value-of (is-mask j) k)) (other-bank b _ _ _ (omega arith) d)
 
--- After a write the same place reads back what was written.
+-- After a write of a word the same place of any registers reads back what was written.
 pub reads-back : (b : Banks) (i w : ℕ) → w < 65536 → half-at (with-half-at b i w) i ≡ w
 reads-back b i w l = this-bank b i w l i refl ∙
     rw (come-out-alike (is-mask i) (is-mask i) .1 refl, come-out-alike (is-high i) (is-high i) .1 refl)
 
--- No other place is changed.
+-- After a write of a word no other of the sixteen places is changed.
 pub others-stay : (b : Banks) (i w j : ℕ) → w < 65536 → i < 16 → j < 16 → i ≢ j → half-at (with-half-at b i w) j ≡ half-at b j
 others-stay b i w j l hi hj d =
     ⊎-elim
@@ -141,7 +141,7 @@ bank-stands : (b : Banks) (n : ℕ) → n < 4 → with-bank b n (bank-at b n) �
 unfolding bank-at with-bank
 bank-stands b = each-bank (λ n. with-bank b n (bank-at b n) ≡ b) refl refl refl refl
 
--- A place that is written as it stands changes nothing.
+-- A place that is written with what it holds changes nothing.
 pub written-as-it-stands : (b : Banks) (i : ℕ) → with-half-at b i (half-at b i) ≡ b
 unfolding half-at with-half-at
 written-as-it-stands b i =

@@ -22,7 +22,7 @@ module _ (c : ℕ) (a : BitAddress) (n : ℕ) where
 
   -- ---- row by row
 
-  -- "0 0 Refresh all banks simultaneously"
+  -- With RM 00 every bank is in turn: "0 0 Refresh all banks simultaneously".
   pub all-at-once : bit c 7 ≡ false → bit c 6 ≡ false → in-turn c a n ≡ true
   unfolding in-turn
   all-at-once r s = let e : rm c ≡ 0 = omega (arith, made, is-clear c 7 .0 r, is-clear c 6 .0 s) in rw e
@@ -35,11 +35,11 @@ module _ (c : ℕ) (a : BitAddress) (n : ℕ) where
   unfolding in-turn
   single r s = let e : rm c ≡ 2 = omega (arith, made, is-set c 7 .0 r, is-clear c 6 .0 s) in rw e
 
-  -- "1 0 Refresh one bank at a time": just the bank that LAD17 and LAD16 name.
+  -- With RM 10 just the bank is in turn that LAD17 and LAD16 name: "1 0 Refresh one bank at a time".
   pub one-at-a-time : bit c 7 ≡ true → bit c 6 ≡ false → in-turn c a n ≡ true ↔ n ≡ a .0 / 65536 % 4
   one-at-a-time r s = (λ t. eqb-true _ _ (sym (single r s) ∙ t), λ e. single r s ∙ eq-eqb _ _ e)
 
-  -- "1 1 No refresh"
+  -- With RM 11 no bank is in turn: "1 1 No refresh".
   pub no-refresh : bit c 7 ≡ true → bit c 6 ≡ true → in-turn c a n ≡ false
   unfolding in-turn
   no-refresh r s = let e : rm c ≡ 3 = omega (arith, made, is-set c 7 .0 r, is-set c 6 .0 s) in rw e
@@ -71,11 +71,11 @@ module _ (c : ℕ) (a : BitAddress) (n : ℕ) where
   from-words h (in-a-pair r s e) = paired r s ∙ eq-eqb (n % 2) (a .0 / 65536 % 2) (omega (arith, same-digit n 0 (a .0) 16 .0 e))
   from-words h (alone r s e f) = single r s ∙ eq-eqb n (a .0 / 65536 % 4) (made-of-two n (a .0) 16 h e f)
 
-  -- A refresh is one of bank n exactly if RM says so.
+  -- A refresh is one of bank n exactly if RM1 and RM0 and the address's bits 17 and 16 say so (`InTurn`).
   pub in-turn-exactly : n < 4 → in-turn c a n ≡ true ↔ InTurn c a n
   in-turn-exactly h = (in-words, from-words h)
 
--- "0 1 Refresh alternate pairs": each bank is in turn at one value of LAD16, and not at the other.
+-- With RM 01 each bank is in turn at one value of LAD16, and not at the other: "0 1 Refresh alternate pairs".
 pub pairs-alternate : (c : ℕ) (a : BitAddress) (n : ℕ) → bit c 7 ≡ false → bit c 6 ≡ true →
     in-turn c (address (a .0 + 65536)) n ≡ not (in-turn c a n)
 pairs-alternate c a n r s =

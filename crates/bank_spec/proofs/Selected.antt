@@ -16,12 +16,12 @@ use Rattle.bank_spec.proofs.BitByBit.{agrees-exactly, nothing-allowed}
 use Rattle.bank_spec.proofs.InItsRange.{in-its-range}
 use Rattle.bank_spec.proofs.Admitted.{admits-exactly, none-admitted}
 
--- The banks of an answer by their numbers.
+-- The banks of an answer by their numbers: 0 to 3 name the four.
 pub shows-named : (o : Decoded) → (shows o 0 ≡ o .bank0) × (shows o 1 ≡ o .bank1) × (shows o 2 ≡ o .bank2) × (shows o 3 ≡ o .bank3)
 shows-named o = (refl, refl, refl, refl)
 
 module _ (b : Banks) (c : ℕ) (a : BitAddress) (kind : ℕ) where
-  -- What is shown of bank n is what its own registers come to, and in a cycle of an unknown kind nothing.
+  -- In a cycle of a known kind, what is shown of bank n is what its own registers come to.
   pub shown : kind ≤ 2 → (n : ℕ) → n < 4 → shows (decoded b c a kind) n ≡ selects (bank-at b n) c a kind n
   unfolding decoded bank-at
   shown l = rw (le-ltb 2 kind l) (each-bank (λ n. _) refl refl refl refl)
@@ -51,7 +51,7 @@ module _ (b : Banks) (c : ℕ) (a : BitAddress) (kind n : ℕ) (h : n < 4) where
         λ t. shown b c a kind l n h ∙ rw (agrees-exactly _ _ _ .1 (t .0), admits-exactly c a n h kind l .1 (t .1)),
       )
 
-  -- A mask of 0 selects on every address of an admitted kind.
+  -- A bank with a mask of 0 is shown exactly if the cycle is admitted for it, at every address.
   pub mask-of-0 : bank-at b n .mask ≡ 0 → shows (decoded b c a kind) n ≡ true ↔ Admits c a kind n
   mask-of-0 z = (
     λ e. selected-exactly .0 e .1,

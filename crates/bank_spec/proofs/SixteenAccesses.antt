@@ -11,7 +11,7 @@ use Rattle.bank_spec.specs.InPlainWords.{Access, read, write, answer-to,
 use Rattle.bank_spec.specs.declared.BankPort.{BankPort}
 use Rattle.bank_spec.proofs.Numbers.{AccessNumbers, when, read-numbers, write-numbers}
 
--- Each access of a row has its number, and refused leaves all.
+-- Each access of a row, read or write, has its number by its lanes, and refused leaves all.
 pub access-numbers : (p : BankPort) (x : Access) → AccessNumbers p (lanes-of x) (answer-to p x)
 access-numbers p (read lanes) = read-numbers p lanes
 access-numbers p (write lanes w) = write-numbers p lanes w
@@ -22,11 +22,11 @@ unfolding read-answer write-answer
 steps p (read lanes) e = rw (when lanes .done .1 e)
 steps p (write lanes w) e = rw (when lanes .done .1 e)
 
--- Any other, of a byte or with no lanes, leaves the port.
+-- Any other access, of a byte or with no lanes, is refused and leaves the port.
 pub stays : (p : BankPort) (x : Access) → lanes-of x ≢ 3 → answer-to p x .port ≡ p
 stays p x d = let k = access-numbers p x in k .refused (λ z. d (k .number .done .0 z)) .1
 
--- It counts the accesses of sixteen bits, modulo 16.
+-- After a row of reads and writes, refused ones among them, the index has counted those of sixteen bits, modulo 16.
 pub index-after : (p : BankPort) (xs : List Access) → after p xs .index % 16 ≡ (p .index + counted xs) % 16
 index-after p [] = omega arith
 index-after p (x ∷ xs) =
@@ -43,6 +43,7 @@ stays-small p (x ∷ xs) h =
     stays-small (answer-to p x .port) xs
     (⊎-elim (λ e. rw (steps p x e) (omega arith)) (λ d. rw (stays p x d) h) (same-or-not (lanes-of x) 3))
 
+-- After the first access of sixteen bits the index is 0 to 15.
 pub index-small : (p : BankPort) (xs : List Access) → 0 < counted xs → after p xs .index < 16
 index-small p [] h = absurd (omega arith)
 index-small p (x ∷ xs) h =
@@ -51,7 +52,7 @@ index-small p (x ∷ xs) h =
     (λ d. index-small (answer-to p x .port) xs (rw (ne-eqb (lanes-of x) 3 d) at h))
     (same-or-not (lanes-of x) 3)
 
--- Sixteen accesses of sixteen bits, whatever others are refused between them, return it to its start.
+-- Sixteen accesses of sixteen bits, whatever others are refused between them, return the index to its start, modulo 16.
 pub sixteen-return : (p : BankPort) (xs : List Access) → counted xs ≡ 16 → after p xs .index ≡ p .index % 16
 sixteen-return p xs e =
     let small = index-small p xs (omega (arith, e)) in

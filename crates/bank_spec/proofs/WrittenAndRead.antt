@@ -19,26 +19,26 @@ use Rattle.bank_spec.proofs.SixteenAccesses.{sixteen-return}
 
 -- ---- one access of sixteen bits
 
--- A read is done: it hands out what is at its place, leaves the registers, and steps the index.
+-- A read of sixteen bits is done: it hands out what is at its place, leaves the registers, and steps the index.
 pub read-is : (p : BankPort) →
     let o = read-answer p 3 in
     (o .number ≡ 0) × (o .word ≡ half-at (p .banks) (p .index % 16)) × (o .port .banks ≡ p .banks) × (o .port .index ≡ (p .index + 1) % 16)
 unfolding read-answer refusal are-lanes
 read-is p = (refl, refl, refl, omega arith)
 
--- A write is done: it answers no word, and steps the index.
+-- A write of sixteen bits is done: it hands out nothing, and steps the index.
 pub write-is : (p : BankPort) (w : ℕ) →
     let o = write-answer p 3 w in (o .number ≡ 0) × (o .word ≡ 0) × (o .port .index ≡ (p .index + 1) % 16)
 unfolding write-answer refusal are-lanes
 write-is p w = (refl, refl, omega arith)
 
 module _ (p : BankPort) (w : ℕ) (l : w < 65536) where
-  -- After a write its place reads back what was written,
+  -- After a write of a word its place reads back what was written.
   pub written-there : half-at (write-answer p 3 w .port .banks) (p .index % 16) ≡ w
   unfolding write-answer refusal are-lanes
   written-there = reads-back (p .banks) (p .index % 16) w l
 
-  -- and no other place is changed.
+  -- After a write of a word no place but its own is changed.
   pub nowhere-else : (j : ℕ) → j < 16 → j ≢ p .index % 16 → half-at (write-answer p 3 w .port .banks) j ≡ half-at (p .banks) j
   unfolding write-answer refusal are-lanes
   nowhere-else j h d = others-stay (p .banks) (p .index % 16) w j l (omega arith) h (λ e. d (sym e))
@@ -54,7 +54,7 @@ passed-by p (w ∷ ws) a j h d =
     passed-by (write-answer p 3 w .port) ws (λ k. a (suc k)) j h (λ k l e. d (suc k) (omega (arith, l)) (omega (arith, e)))
     ∙ nowhere-else p w (a 0) j h (λ e. d 0 (omega arith) (omega (arith, e)))
 
--- Each of the others holds the word that was written when the index came to it.
+-- A row of up to sixteen writes puts each word at the place that the index comes to, and there it stays.
 pub row-written : (p : BankPort) (ws : List ℕ) → AreWords ws → length ws ≤ 16 → (k : ℕ) → k < length ws →
     half-at (after p (writes ws) .banks) ((p .index + k) % 16) ≡ getD ws k 0
 unfolding write-answer refusal are-lanes
@@ -86,7 +86,7 @@ all-counted : (ws : List ℕ) → counted (writes ws) ≡ length ws
 all-counted [] = refl
 all-counted (w ∷ ws) = rw (all-counted ws) (omega arith)
 
--- Sixteen words that are written, wherever the index stands, are read back in their order by sixteen reads.
+-- Sixteen words that are written, wherever the index stands, are handed out in their order by the next sixteen reads.
 pub written-and-read : (p : BankPort) (ws : List ℕ) → AreWords ws → length ws ≡ 16 → words-read (after p (writes ws)) 16 ≡ ws
 written-and-read p ws a e =
     subst (λ (n : ℕ). words-read (after p (writes ws)) n ≡ ws) e
@@ -111,7 +111,8 @@ module _ (b : Banks) (ws : List ℕ) (a : AreWords ws) (e : length ws ≡ 16) wh
   two : (i : ℕ) → suc i < 16 → half-at set-banks (suc i) * 65536 + half-at set-banks i ≡ word (suc i) * 65536 + word i
   two i h j = holds-word (suc i) h j * 65536 + holds-word i (omega (arith, h)) j
 
-  -- Written from index 0 on, the sixteen words are the compare values of banks 0 to 3, then their masks, each the low half first.
+  -- Sixteen writes from index 0 on set all four banks, whatever they held: the words are the compare values of banks 0 to 3, then their
+  -- masks, each the low half first.
   pub set-up :
       after (port b 0) (writes ws) .banks ≡
       record {

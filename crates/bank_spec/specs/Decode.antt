@@ -46,7 +46,7 @@ bdrd c n = bit c (8 + n)
 abbrev pub rm : ℕ → ℕ
 rm c = c / 64 % 4
 
--- "00 Refresh all banks simultaneously", "01 Refresh alternate pairs" (house: which pairs), "10 Refresh one bank at a time", "11 No
+-- "00 Refresh all banks simultaneously", "01 Refresh alternate pairs" (ours: which pairs), "10 Refresh one bank at a time", "11 No
 -- refresh"; "determines which bank is refreshed using the values on LAD16 and LAD17"
 unfoldable pub in-turn : ℕ → BitAddress → ℕ → Bool
 in-turn c a n =
@@ -55,9 +55,9 @@ in-turn c a n =
     (cond (eqb (rm c) 2) (eqb n (a .0 / 65536 % 4))
     false))
 
--- 0, "ordinary is always admitted"; 1, refresh: "If a bank does not require refresh, the corresponding bit in BDRD3-BDRD0 should be set to
--- 1"; 2, special: "Setting BVENn to a 1 causes BSELn to be asserted whenever one of these special VRAM cycles occur", but document 02 wants
--- the address to agree there too (`selects`)
+-- the kinds by numbers (ours). 0: "ordinary is always admitted"; 1, refresh: "If a bank does not require refresh, the corresponding bit in
+-- BDRD3-BDRD0 should be set to 1"; 2, special: "Setting BVENn to a 1 causes BSELn to be asserted whenever one of these special VRAM cycles
+-- occur", but document 02 wants the address to agree there too (`selects`)
 unfoldable pub admits : ℕ → BitAddress → ℕ → ℕ → Bool
 admits c a kind n =
     cond (eqb kind 0) true

@@ -1,7 +1,7 @@
 -- Worked examples of the bank selects, worked out by hand from source document 001: calls one after another, what each answers, and the
 -- registers that they leave.
---   Told                  what is told of an access: number, word, and the index afterwards; told n w i is that by its parts, said o that of
---                         an answer
+--   Told                  what is told of an access: number, word, and the index afterwards; told n w i is that by its parts, said o that
+--                         of an answer
 --   Call                  reads lanes o, writes lanes w o: an access, and what is told of it
 --                         decodes control address kind o: a decode, and what it answers
 --   Row                   registers and index at the start, calls, and the registers afterwards; row b i cs b′ is that by its parts

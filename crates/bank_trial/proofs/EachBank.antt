@@ -12,7 +12,7 @@ use Rattle.bank_trial.specs.Selected.{digit}
 abbrev shown : ℕ → ℕ → Decoded
 shown number d = decoded-as number (bit d 0) (bit d 1) (bit d 2) (bit d 3)
 
--- The digit's bits are the banks of the answer that it was made of.
+-- The bits of the digit are the banks of the answer that it was made of.
 pub bit-by-bank : (o : Decoded) → shown (o .number) (digit o) ≡ o
 unfolding bit
 bit-by-bank o = each (o .bank0) (o .bank1) (o .bank2) (o .bank3)
@@ -39,6 +39,6 @@ no-more : (s : Bool) (k : ℕ) → cond s k 0 ≤ k
 no-more true k = omega arith
 no-more false k = omega arith
 
--- It is one hexadecimal digit.
+-- The digit for the selected banks is one hexadecimal digit.
 pub one-digit : (o : Decoded) → digit o < 16
 one-digit o = omega (arith, no-more (o .bank0) 1, no-more (o .bank1) 2, no-more (o .bank2) 4, no-more (o .bank3) 8)

@@ -26,6 +26,7 @@ own-places = counting 0 40
 abbrev asks : ℕ → Bool → Bool → Bool → Type 0
 asks a s r w = (is-start (a ∷ []) ≡ s) × (is-read (a ∷ []) ≡ r) × (is-write (a ∷ []) ≡ w)
 
+-- what records say, and the digits for selected banks
 pub record Says : Type 0 where
   -- "what is done, modulo 4: 0 a fresh start, 1 a read, 2 a write, 3 a decode"
   pub starting : (asks 0 true false false) × (asks 4 true false false)
@@ -50,7 +51,8 @@ pub record Says : Type 0 where
       (digit (decoded-as 0 false false true false) ≡ 4) × (digit (decoded-as 0 false false false true) ≡ 8)
   pub several-banks : digit (decoded-as 0 true true false true) ≡ 0xb
 
--- They say so.
+-- Byte 0 says, modulo 4, what is done; numbers, registers, word, address and control word are read from the record's bytes at their places,
+-- low byte first; and the digit's bit n is bank n.
 pub they-say : Says
 they-say =
     record {
@@ -103,6 +105,7 @@ begun = with-last-mask 0xFFFE0000 46
 abbrev settled : BankPort
 settled = with-last-mask 0xFFFE8000 0
 
+-- what the records of a short script leave, carried out one after the other
 pub record Leaves : Type 0 where
   -- a fresh start, on the port before the first record
   pub begins : carried zeroed (asking 0 46 registers) ≡ left 0 0 0 begun
@@ -123,7 +126,8 @@ pub record Leaves : Type 0 where
   -- an unknown kind is refused with 31, and no bank is selected
   pub unknown : carried settled (decoding 3 0x7000) ≡ left 31 0 0 settled
 
--- They leave so.
+-- By computation: a fresh start, accesses that are refused with 30 and 3, a write and a read, after which the index returns to 0, and
+-- decodes of each kind and of an unknown one.
 pub they-leave : Leaves
 unfolding
     carried decoded-by bank-at with-bank half with-half value-of with-value half-at with-half-at are-lanes refusal read-answer write-answer

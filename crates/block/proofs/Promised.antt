@@ -6,7 +6,7 @@ use Rattle.block.proofs.reading.block_read.Reads as block-read
 use Rattle.block.proofs.writing.block_write.Kinds as block-write-kinds
 use Rattle.block.proofs.writing.block_write.Reads as block-write
 
--- `block_read`: r, memory, list, place, count.
+-- `block_read` takes any r, memory, list, place and count, and all that its contract allows is `ReadBlock` of them.
 pub block-read-contract : Contract block-read-kinds.ps block-read-kinds.r block-read.Pre block-read.Post
     (λ κs args o left.
     let r = args .0 in
@@ -18,7 +18,7 @@ pub block-read-contract : Contract block-read-kinds.ps block-read-kinds.r block-
     ReadBlock r (memory .now) (list .now) place count o (list′ .now))
 block-read-contract = record { takes-any = λ κs args. tt; says = λ κs args o left p. p }
 
--- `block_write`: r, memory, list, place, count.
+-- `block_write` takes any r, memory, list, place and count, and all that its contract allows is `WrittenBlock` of them.
 pub block-write-contract : Contract block-write-kinds.ps block-write-kinds.r block-write.Pre block-write.Post
     (λ κs args o left.
     let r = args .0 in

@@ -1,6 +1,6 @@
 -- The watch tuner's law once more, for a block: every word of a table is handed out, the last included; and the keeper's: of a block
 -- that reads on past the end of memory, or begins there, the words past the end are counted, all of them and no other. By crate
--- port's `EveryWord`.
+-- port_spec's `EveryWord`.
 use Prim.Native.Nat.{ℕ, _+_, _^_, _<_, _≤_}
 use native.Mathlib.Omega.{arith}
 use mathlib.Core.Path.{_≡_, ap, _∙_}
@@ -61,7 +61,8 @@ module _ (s : Machine) (k : Memory (s .memory)) (i : incr (s .registers .control
         ap (λ (x : BlockRead). x .hollows) o ∙ told .1,
       )
 
-  -- Every word of a table that lies in memory is handed out.
+  -- With a memory that is not refused, INCR set, and the pointer loaded at a table of n words that lies in memory, a block of n reads that
+  -- its list does not refuse is done, fills its part of the list with the table, and counts none hollow.
   pub every-word-of-a-block : (n : ℕ) → Lies (s .memory) a n → Fits l place n → EveryWord s a l place n
   every-word-of-a-block n h f =
       let given-so = ap (λ (t : Machine). map given (answers t (reading n))) (just-loaded (omega (arith, k .size))) ∙
@@ -69,7 +70,8 @@ module _ (s : Machine) (k : Memory (s .memory)) (i : incr (s .registers .control
       let told = handed-out n (table (s .memory) a n) 0 f (all-held _ _ given-so) in
       record { number = told .0; words = told .1; hollows = told .2 }
 
-  -- Past the end of memory, up to word 2^28, where the pointer comes round, the count tells how many words memory did not have.
+  -- Past the end of memory, up to word 2^28, where the pointer comes round, a block that its list does not refuse is done: the words that
+  -- are left, and then FFFFh; its count is exactly that of the words that memory did not have.
   pub block-past-the-end : (n j : ℕ) → word-at a .0 + n ≡ length (s .memory) → word-at a .0 + n + j ≤ 2 ^ 28 → Fits l place (n + j) →
       ThenHollow s a l place n j
   block-past-the-end n j h q f =
@@ -79,7 +81,8 @@ module _ (s : Machine) (k : Memory (s .memory)) (i : incr (s .registers .control
       let told = handed-out (n + j) (words ++ replicate j 0xffff) j f (held-then-hollow _ words j given-so) in
       record { number = told .0; words = told .1; hollows = told .2 }
 
-  -- Begun past the end of memory, the block is done, and every word of it is filler, and counted.
+  -- Begun past the end of memory, a block that its list does not refuse is done, up to word 2^28, and every word of it is filler, and
+  -- counted.
   pub block-beyond : (j : ℕ) → a .0 < 2 ^ 32 → length (s .memory) ≤ word-at a .0 → word-at a .0 + j ≤ 2 ^ 28 → Fits l place j →
       (block-read (loaded s a .registers) (s .memory) l place j .number ≡ 0)
       × (list-part (list-after (loaded s a .registers) (s .memory) l place j) place j ≡ replicate j 0xffff)

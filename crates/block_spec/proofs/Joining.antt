@@ -39,7 +39,7 @@ module _ (f : Answer → Bool) where
 pub few-hollows : (s : Machine) (n : ℕ) → hollows-in (answers s (reading n)) ≤ n
 few-hollows s n = rw (answers-length s (reading n), reading-length n) at (tally-most (λ x. x .hollow) (answers s (reading n)))
 
--- So a part that is read into has as many places.
+-- A part that n reads fill has n places.
 pub read-length : {s : Machine} {n : ℕ} {o : Run} {part : List ℕ} → ReadInto s n o part → length part ≡ n
 read-length {s} {n} a = ap length (a .words) ∙ filled-length s n
 

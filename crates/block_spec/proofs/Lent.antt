@@ -9,11 +9,11 @@ use lib.Seq.{length-take-le, take-at, drop-at, take-all, getD-append-add, getD-d
 use borrow.Rule.Slice.PartMut.{putMid, postOf, post-is}
 use Rattle.block_spec.specs.Block.{list-part, with-list-part}
 
--- The n places from a on, lent.
+-- The n places from a on, lent, are n, if the list has so many.
 pub part-length : (a n : ℕ) (l : List ℕ) → a + n ≤ length l → length (take (a + n - a) (drop a l)) ≡ n
 part-length a n l h = simp (length-take, length-drop) (omega arith)
 
--- They are the part.
+-- The n places from a on, lent, are the list's part.
 pub part-is : (a n : ℕ) (l : List ℕ) → take (a + n - a) (drop a l) ≡ list-part l a n
 part-is a n l =
     let e : a + n - a ≡ n = omega arith in
@@ -40,11 +40,11 @@ module _ (n : ℕ) (l xs : List ℕ) (h : n ≤ length l) (e : length xs ≡ n) 
   between-length : length (between n l xs) ≡ length l
   between-length = simp (length-append, length-drop) (omega arith)
 
-  -- They begin inside the list.
+  -- The places from n on begin inside the list, once its first n came back as xs.
   pub rest-starts : n ≤ length (between n l xs)
   rest-starts = rw between-length h
 
-  -- They are all that is left.
+  -- The places from n on, lent, are then all that is left.
   pub rest-length : length (take (length (between n l xs) - n) (drop n (between n l xs))) ≡ length l - n
   rest-length = simp (length-take, length-drop) (omega (arith, between-length))
 
@@ -78,11 +78,11 @@ module _ (a n : ℕ) (l ys : List ℕ) (h : a + n ≤ length l) (e : length ys �
   pub laid-part : list-part laid a n ≡ ys
   laid-part = rw (drop-at (take a l) (ys ++ drop (a + n) l) a front) (take-at ys (drop (a + n) l) n e)
 
-  -- Before it lies what lay there.
+  -- Before the part lies what lay there.
   pub laid-before : (k : ℕ) → k < a → getD laid k 0 ≡ getD l k 0
   laid-before k q = List·getD-append (take a l) (ys ++ drop (a + n) l) 0 k (omega (arith, front)) ∙ getD-take a l k 0 q
 
-  -- And after it.
+  -- Behind the part lies what lay there.
   pub laid-behind : (k : ℕ) → a + n ≤ k → getD laid k 0 ≡ getD l k 0
   laid-behind k q =
       let j = k - (a + n) in

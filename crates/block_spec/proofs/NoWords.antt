@@ -26,7 +26,7 @@ module _ (r : Registers) (m l : List ℕ) (place : ℕ) where
       (read-barred r m l place 0)
       (same-or-not number 0)
 
-  -- It leaves every place of the list.
+  -- A block read of no words leaves every place of the list.
   pub list-kept : list-after r m l place 0 ≡ l
   unfolding reading answers
   list-kept =
@@ -44,7 +44,7 @@ module _ (r : Registers) (m l : List ℕ) (place : ℕ) where
       (write-barred r m l place 0)
       (same-or-not number 0)
 
-  -- It leaves the memory.
+  -- A block write of no words leaves the memory.
   pub memory-kept : memory-left r m l place 0 ≡ m
   unfolding ends
   memory-kept = ⊎-elim (memory-taken r m l place 0) (memory-barred r m l place 0) (same-or-not number 0)

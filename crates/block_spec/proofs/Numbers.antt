@@ -18,14 +18,15 @@ use Rattle.block_spec.specs.Block.{block-read, list-after, block-write, 
 use Rattle.block_spec.specs.declared.BlockRead.{BlockRead}
 use Rattle.block_spec.specs.declared.BlockWrite.{BlockWrite}
 
--- v is the number for a memory of so many words, a list of so many places, a place and a count
+-- v is the number for a memory of so many words, a list of so many places, a place and a count: 1 exactly if there are over 32,768 words;
+-- 10 exactly if not, and the count is over 4,096 or place plus count over the list's length; 0 exactly otherwise
 pub record BlockWhen (words room place count v : ℕ) : Type 0 where
   pub listed : (v ≡ 0) ⊎ ((v ≡ 1) ⊎ (v ≡ 10))
   pub over : v ≡ 1 ↔ 32768 < words
   pub unfit : v ≡ 10 ↔ (words ≤ 32768) × ((4096 < count) ⊎ (room < place + count))
   pub done : v ≡ 0 ↔ (words ≤ 32768) × (count ≤ 4096) × (place + count ≤ room)
 
--- The number that applies is one of them, each when, and only then.
+-- The number that applies is 0, 1 or 10, each when, and only then (`BlockWhen`).
 pub when : (words room place count : ℕ) → BlockWhen words room place count (block-refusal words room place count)
 unfolding block-refusal
 when n l p k = go (ltb 32768 n) (ltb 4096 k) (ltb l (p + k)) refl refl refl
@@ -77,7 +78,7 @@ module _ (r : Registers) (m l : List ℕ) (place count : ℕ) where
     abbrev writes : List Sixteen
     writes = writing (list-part l place count)
 
-    -- What a block read answers.
+    -- An accepted block read answers 0, the hollow words that its single reads hand out, counted, and the registers where they end.
     pub read-taken : block-read r m l place count ≡
         record {
           number = 0;
@@ -87,18 +88,18 @@ module _ (r : Registers) (m l : List ℕ) (place count : ℕ) where
     unfolding block-read
     read-taken = rw (eq-eqb _ _ e)
 
-    -- And the list after it.
+    -- The list after it has the words that these reads hand out in its part.
     pub list-taken : list-after r m l place count ≡ with-list-part l place count (words-in (answers (machine r m) (reading count)))
     unfolding list-after
     list-taken = rw (eq-eqb _ _ e)
 
-    -- What a block write answers.
+    -- An accepted block write answers 0, the stores of its single writes that fell empty, counted, and the registers where they end.
     pub write-taken : block-write r m l place count ≡
         record { number = 0; empties = empties-in (answers (machine r m) writes); registers = ends (machine r m) writes .registers }
     unfolding block-write
     write-taken = rw (eq-eqb _ _ e)
 
-    -- And the memory after it.
+    -- The memory after it is that where these writes end.
     pub memory-taken : memory-left r m l place count ≡ ends (machine r m) writes .memory
     unfolding memory-left
     memory-taken = rw (eq-eqb _ _ e)
@@ -110,17 +111,17 @@ module _ (r : Registers) (m l : List ℕ) (place count : ℕ) where
     unfolding block-read
     read-barred = rw (ne-eqb _ _ n)
 
-    -- It leaves every place of the list.
+    -- A refused block read leaves every place of the list.
     pub list-barred : list-after r m l place count ≡ l
     unfolding list-after
     list-barred = rw (ne-eqb _ _ n)
 
-    -- A refused block write likewise.
+    -- A refused block write answers its number, counts nothing, and leaves the registers.
     pub write-barred : block-write r m l place count ≡ record { number = number; empties = 0; registers = r }
     unfolding block-write
     write-barred = rw (ne-eqb _ _ n)
 
-    -- It leaves the memory.
+    -- A refused block write leaves the memory.
     pub memory-barred : memory-left r m l place count ≡ m
     unfolding memory-left
     memory-barred = rw (ne-eqb _ _ n)
@@ -134,7 +135,7 @@ module _ (r : Registers) (m l : List ℕ) (place count : ℕ) where
       (λ n. ap (λ (o : BlockRead). o .number) (read-barred n))
       (same-or-not number 0)
 
-  -- So does a block write.
+  -- A block write answers the number that applies.
   pub write-number : block-write r m l place count .number ≡ number
   write-number =
       ⊎-elim
@@ -142,10 +143,11 @@ module _ (r : Registers) (m l : List ℕ) (place count : ℕ) where
       (λ n. ap (λ (o : BlockWrite). o .number) (write-barred n))
       (same-or-not number 0)
 
-  -- Both are 0, 1 or 10, each when, and only then.
+  -- The number of a block read is 0, 1 or 10: 1 exactly if memory has over 32,768 words; 10 exactly if not, and the count is over 4,096 or
+  -- place plus count over the list's length; 0 exactly otherwise.
   pub read-numbered : BlockWhen (length m) (length l) place count (block-read r m l place count .number)
   read-numbered = rw read-number (when (length m) (length l) place count)
 
-  -- The same of a block write.
+  -- The number of a block write is 0, 1 or 10, each exactly if, as that of a block read (`BlockWhen`).
   pub write-numbered : BlockWhen (length m) (length l) place count (block-write r m l place count .number)
   write-numbered = rw write-number (when (length m) (length l) place count)

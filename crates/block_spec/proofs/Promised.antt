@@ -31,11 +31,11 @@ use Rattle.block_spec.proofs.ReadBack.{words-laid, reads-back}
 
 -- ---- a block read
 module _ {r : Registers} {m l : List ℕ} {place count : ℕ} {o : BlockRead} {l′ : List ℕ} (k : ReadBlock r m l place count o l′) where
-  -- It answers 0, 1 or 10, each when, and only then.
+  -- A block read answers 0, 1 or 10, each when, and only then (`BlockWhen`).
   pub read-returns-number : BlockWhen (length m) (length l) place count (o .number)
   read-returns-number = rw (k .outcome) (read-numbered r m l place count)
 
-  -- Refused, it counts no hollow word, and leaves the registers and every place of the list.
+  -- Refused, a block read counts no hollow word, and leaves the registers and every place of the list.
   pub refused-read : o .number ≢ 0 → (o .hollows ≡ 0) × (o .registers ≡ r) × (l′ ≡ l)
   refused-read d =
       let n : block-number m l place count ≢ 0 =
@@ -51,7 +51,7 @@ module _ {r : Registers} {m l : List ℕ} {place count : ℕ} {o : BlockRead} {l
     like : LikeReads r m l place count
     like = like-reads r m l place count (sym (ap (λ (x : BlockRead). x .number) (k .outcome)) ∙ z)
 
-    -- Place + j of the list holds the word that the j-th single read answers.
+    -- Of a block read that is done, place + j of the list holds the word that the j-th single read answers.
     pub read-fills : (j : ℕ) → j < count → getD l′ (place + j) 0 ≡ kth-read (machine r m) j .word
     read-fills j h = ap (λ (x : List ℕ). getD x (place + j) 0) (k .list) ∙ like .inside j h
 
@@ -67,12 +67,12 @@ module _ {r : Registers} {m l : List ℕ} {place count : ℕ} {o : BlockRead} {l
     pub read-counts-hollows : o .hollows ≡ number-below count (λ j. kth-read (machine r m) j .hollow)
     read-counts-hollows = ap (λ (x : BlockRead). x .hollows) (k .outcome) ∙ like .hollows
 
-    -- Its registers and the memory end where the single reads end.
+    -- Of a block read that is done, registers and memory end where the single reads end.
     pub read-ends-alike : machine (o .registers) m ≡ ends (machine r m) (reading count)
     read-ends-alike = ap (λ (x : BlockRead). machine (x .registers) m) (k .outcome) ∙ like .ended
 
-    -- It ends like any calls that read one by one, by words or by bytes: with their registers, their words in the list's part, and as
-    -- many hollow ones.
+    -- A block read that is done ends like any calls that read one by one, by words or by bytes: with their registers and memory, their
+    -- words in the list's part, and as many hollow ones.
     pub read-like-calls : {xs : List Answer} {t : Machine} → Made (machine r m) (reading count) xs t →
         (machine (o .registers) m ≡ t) × (list-part l′ place count ≡ words-in xs) × (o .hollows ≡ hollows-in xs)
     read-like-calls c =
@@ -94,18 +94,19 @@ reads-nothing {r} {m} {l} {place} k =
 module _ (s : Machine) (a : BitAddress) {l : List ℕ} {place n : ℕ} {o : BlockRead} {l′ : List ℕ}
     (k : ReadBlock (loaded s a .registers) (s .memory) l place n o l′)
     (y : Memory (s .memory)) (i : incr (s .registers .control) ≡ true) (f : Fits l place n) where
-  -- Of a table of n words that lies in memory it hands out every word, in order, the last included, and counts none hollow.
+  -- With a memory that is not refused, INCR set, and the pointer loaded at a table of n words that lies in memory, a block of n that its
+  -- list does not refuse is done, hands out every word, in order, the last included, and counts none hollow.
   pub hands-out-every-word : Lies (s .memory) a n → (o .number ≡ 0) × (list-part l′ place n ≡ table (s .memory) a n) × (o .hollows ≡ 0)
   hands-out-every-word h =
       let w = every-word-of-a-block s y i a l place n h f in
       rw (k .outcome, k .list) (w .number, w .words, w .hollows)
 
-  -- Begun past the end of memory, it is done, and every word of it is filler, and counted.
+  -- Begun past the end of memory, up to word 2^28, such a block is done, and every word of it is filler, and counted.
   pub hands-out-filler : a .0 < 2 ^ 32 → length (s .memory) ≤ word-at a .0 → word-at a .0 + n ≤ 2 ^ 28 →
       (o .number ≡ 0) × (list-part l′ place n ≡ replicate n 0xffff) × (o .hollows ≡ n)
   hands-out-filler b h q = rw (k .outcome, k .list) (block-beyond s y i a l place n b h q f)
 
--- Of n + j words, n left in memory, it hands out those and then j fillers, and counts j hollow.
+-- Of n + j words, n left in memory, up to word 2^28, such a block hands out those and then j fillers, and counts j hollow.
 pub hands-out-words-then-filler : (s : Machine) (a : BitAddress) {l : List ℕ} {place : ℕ} (n j : ℕ) {o : BlockRead} {l′ : List ℕ} →
     ReadBlock (loaded s a .registers) (s .memory) l place (n + j) o l′ →
     Memory (s .memory) → incr (s .registers .control) ≡ true → Fits l place (n + j) →
@@ -117,11 +118,11 @@ hands-out-words-then-filler s a {l} {place} n j k y i f h q =
 
 -- ---- a block write
 module _ {r : Registers} {m l : List ℕ} {place count : ℕ} {o : BlockWrite} {m′ : List ℕ} (k : WrittenBlock r m l place count o m′) where
-  -- It answers 0, 1 or 10, each when, and only then.
+  -- A block write answers 0, 1 or 10, each when, and only then (`BlockWhen`).
   pub write-returns-number : BlockWhen (length m) (length l) place count (o .number)
   write-returns-number = rw (k .outcome) (write-numbered r m l place count)
 
-  -- Refused, it counts no empty store, and leaves the registers and the memory.
+  -- Refused, a block write counts no empty store, and leaves the registers and the memory.
   pub refused-write : o .number ≢ 0 → (o .empties ≡ 0) × (o .registers ≡ r) × (m′ ≡ m)
   refused-write d =
       let n : block-number m l place count ≢ 0 =
@@ -137,7 +138,7 @@ module _ {r : Registers} {m l : List ℕ} {place count : ℕ} {o : BlockWrite} {
     done : LikeWrites r m l place count
     done = like-writes r m l place count (sym (ap (λ (x : BlockWrite). x .number) (k .outcome)) ∙ z)
 
-    -- Its registers and the memory end where the single writes of the part's words end.
+    -- Of a block write that is done, registers and memory end where the single writes of the part's words end.
     pub write-ends-alike : machine (o .registers) m′ ≡ ends (machine r m) (writing (list-part l place count))
     write-ends-alike =
         ap (machine (o .registers)) (k .memory) ∙
@@ -153,8 +154,8 @@ module _ {r : Registers} {m l : List ℕ} {place count : ℕ} {o : BlockWrite} {
         o .empties ≡ number-below count (λ j. is-empty (kth-write (machine r m) (list-part l place count) j .cycle))
     write-counts-empties = ap (λ (x : BlockWrite). x .empties) (k .outcome) ∙ done .empties
 
-    -- It ends like any calls that write these words one by one, by words or by bytes: with their registers and memory, and as many stores
-    -- that fell empty.
+    -- A block write that is done ends like any calls that write these words one by one, by words or by bytes: with their registers and
+    -- memory, and as many stores that fell empty.
     pub write-like-calls : {xs : List Answer} {t : Machine} → Made (machine r m) (writing (list-part l place count)) xs t →
         (machine (o .registers) m′ ≡ t) × (o .empties ≡ empties-in xs)
     write-like-calls c =
@@ -173,13 +174,14 @@ writes-nothing {r} {m} {l} {place} k =
 module _ {r : Registers} {m l : List ℕ} {place n : ℕ} {o : BlockWrite} {m′ : List ℕ} (k : WrittenBlock r m l place n o m′)
     (y : Memory m) (i : incw (r .control) ≡ true) (w : AreWords l)
     (some : 0 < n) (most : n ≤ 4096) (room : place + n ≤ length l) (there : Lies m (r .pointer) n) where
-  -- It is done, no store falls empty, and the pointer stands just past the words.
+  -- With INCW set, a block write that its list does not refuse, of one word or more that find room in memory, is done, no store falls
+  -- empty, and the pointer stands just past the words.
   pub write-done : (o .number ≡ 0) × (o .empties ≡ 0) × (o .registers .pointer .0 ≡ r .pointer .0 + 16 * n)
   write-done =
       let p = words-laid r m l place n y i w some most room there in
       rw (k .outcome) (p .number, p .empties, p .pointer)
 
-  -- The words lie in memory from the pointer's word on.
+  -- Its words lie in memory from the pointer's word on.
   pub write-lays : table m′ (r .pointer) n ≡ list-part l place n
   write-lays = rw (k .memory) (words-laid r m l place n y i w some most room there .words)
 

@@ -77,7 +77,8 @@ module _ (r : Registers) (m l : List ℕ) (place n : ℕ) (k : Memory m) (i : in
   no-wrap : stepped-by n (r .pointer) .0 ≡ r .pointer .0 + 16 * n
   no-wrap = omega (arith, k .size)
 
-  -- The words are laid into memory.
+  -- With INCW set, one or more words that find room in memory are laid there by a block write that its list does not refuse: no store falls
+  -- empty, all other words of memory and HSTCTL stay, and the pointer stands just past them.
   pub words-laid : Laid r m l place n
   words-laid =
       let o = write-taken r m l place n accepted in
@@ -106,7 +107,7 @@ module _ (r : Registers) (m l : List ℕ) (place n : ℕ) (k : Memory m) (i : in
       (less-or-not j (x + n)))
       (less-or-not j x)
 
-  -- And a block reads them back, into any list with room for them.
+  -- With INCR set too, a block read from where they begin hands them out, none hollow, into any list with room for them.
   pub reads-back : incr (r .control) ≡ true → (l′ : List ℕ) (place′ : ℕ) → place′ + n ≤ length l′ →
       let t = machine (block-write r m l place n .registers) (memory-left r m l place n) in
       ReadBack l place n l′ place′ (loaded t (r .pointer) .registers) (t .memory)

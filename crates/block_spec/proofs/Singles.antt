@@ -65,7 +65,8 @@ pub record LikeReads (r : Registers) (m l : List ℕ) (place count : ℕ) : Type
   pub hollows : block-read r m l place count .hollows ≡ number-below count (λ k. kth-read (machine r m) k .hollow)
   pub ended : machine (block-read r m l place count .registers) m ≡ ends (machine r m) (reading count)
 
--- An accepted block write: the empty stores counted are those of the single writes, and registers and memory end where they end.
+-- An accepted block write: the words written are those of the list's part, the empty stores counted are those of the single writes, and
+-- registers and memory end where they end.
 pub record LikeWrites (r : Registers) (m l : List ℕ) (place count : ℕ) : Type 0 where
   pub words : (k : ℕ) → k < count → getD (list-part l place count) k 0 ≡ getD l (place + k) 0
   pub empties :
@@ -76,7 +77,8 @@ pub record LikeWrites (r : Registers) (m l : List ℕ) (place count : ℕ) : Typ
       ends (machine r m) (writing (list-part l place count))
 
 module _ (r : Registers) (m l : List ℕ) (place count : ℕ) where
-  -- A block read ends like its single reads.
+  -- An accepted block read ends like its single reads: place + k has what the k-th of them answers, every other place stays, the count is
+  -- of their hollow marks, and registers and memory end as theirs do.
   pub like-reads : block-read r m l place count .number ≡ 0 → LikeReads r m l place count
   like-reads n =
       let s = machine r m in
@@ -97,7 +99,8 @@ module _ (r : Registers) (m l : List ℕ) (place count : ℕ) where
             ap (machine (ends s (reading count) .registers)) (sym (reads-keep-memory s count));
       }
 
-  -- A block write ends like its single writes.
+  -- An accepted block write ends like its single writes: the words are those of the list's part, the count is of their empty cycles, and
+  -- registers and memory end as theirs do.
   pub like-writes : block-write r m l place count .number ≡ 0 → LikeWrites r m l place count
   like-writes n =
       let s = machine r m in
@@ -129,7 +132,7 @@ module _ (r : Registers) (m l : List ℕ) (place count : ℕ) where
         ap (λ (x : BlockRead). x .hollows) (read-taken r m l place count e),
       )
 
-  -- As many stores of the single writes fell empty.
+  -- As many stores of the single writes fell empty as an accepted block write counts.
   pub writes-answer : block-write r m l place count .number ≡ 0 →
       block-write r m l place count .empties ≡ empties-in (answers (machine r m) (writing (list-part l place count)))
   writes-answer n =

@@ -89,9 +89,11 @@ module _ (r : Registers) (m : List ℕ) (k : Memory m) (i : incr (r .control) �
         words = sym (g .0);
       }
 
-  -- The first word is the one already held; the others are copied from memory, and so is the word that is held in the end.
+  -- Of reads that go straight the first word is the one already held; the others are copied from memory, and so is the word that is held in
+  -- the end.
   pub straight-read : (n : ℕ) → r .latch < 65536 → word-at (r .pointer) .0 + suc n < length m →
-      ReadInto s (suc n) (record { registers = moved r m (suc n); tallied = counted (r .hollow) }) (r .latch ∷ table m (step (r .pointer)) n)
+      ReadInto s (suc n) (record { registers = moved r m (suc n); tallied = counted (r .hollow) })
+      (r .latch ∷ table m (step (r .pointer)) n)
   straight-read n f h =
       let a = r .pointer in
       let first : ReadInto s 1 (record { registers = standing m (r .control) (step a); tallied = counted (r .hollow) }) (r .latch ∷ []) =
@@ -138,7 +140,7 @@ one-straight : (r : Registers) (m : List ℕ) (w : ℕ) →
 unfolding stepped store-at
 one-straight r m w few i f h = rw (i, lt-ltb (word-at (r .pointer) .0) (length m) h) at (one-write r m few w f)
 
--- The words lie in memory from the pointer's word on, and the last is held.
+-- The words of writes that go straight lie in memory from the pointer's word on, and the last is held.
 pub straight-write : (ws : List ℕ) (w : ℕ) (r : Registers) (m : List ℕ) → length m ≤ 32768 → incw (r .control) ≡ true →
     AreWords (w ∷ ws) → word-at (r .pointer) .0 + suc (length ws) ≤ length m →
     WrittenFrom (machine r m) (w ∷ ws) (record { registers = wrote r (suc (length ws)) (getD (w ∷ ws) (length ws) 0); tallied = 0 })

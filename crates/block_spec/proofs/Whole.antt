@@ -11,7 +11,7 @@ use Rattle.block_spec.specs.declared.Run.{Run}
 use Rattle.block_spec.proofs.Numbers.{read-taken, list-taken, write-taken, memory-taken}
 
 module _ (r : Registers) (m l : List ℕ) (place count : ℕ) (e : block-number m l place count ≡ 0) (o : Run) where
-  -- A block read, whose words ws lie in the part.
+  -- An accepted block whose reads leave o and hand out the words ws is a block read that answers as o says, with ws in the list's part.
   pub read-block : (ws : List ℕ) → ReadInto (machine r m) count o ws →
       ReadBlock r m l place count (record { number = 0; hollows = o .tallied; registers = o .registers })
       (with-list-part l place count ws)
@@ -25,7 +25,7 @@ module _ (r : Registers) (m l : List ℕ) (place count : ℕ) (e : block-number 
         list = ap (with-list-part l place count) (a .words) ∙ sym (list-taken r m l place count e);
       }
 
-  -- A block write, that leaves the memory m′.
+  -- An accepted block whose writes leave o and the memory m′ is a block write that answers as o says and leaves m′.
   pub write-block : (m′ : List ℕ) → WrittenFrom (machine r m) (list-part l place count) o m′ →
       WrittenBlock r m l place count (record { number = 0; empties = o .tallied; registers = o .registers }) m′
   write-block m′ a =

@@ -49,7 +49,7 @@ highest-waits b = go (b .hold) (b .screen) (b .dram) (b .host) (b .processor)
     go false false false false true n = refl
     go false false false false false n = absurd (n refl)
 
--- There is none exactly if no source waits.
+-- There is no highest one exactly if no source waits.
 pub none-highest : (b : Bus) → highest b ≡ 5 ↔ ((s : ℕ) → waits b s ≡ false)
 none-highest b = (
   λ e s. untrue _ (λ w. omega (arith, e, none-higher b s w, waits-listed b s w)),
@@ -85,7 +85,8 @@ module _ (b : Bus) where
         others = λ k d. ⊎-elim (λ e. rw e) (λ e. rw e (set-elsewhere b _ _ l k d)) (either-way (eqb (highest b) 0));
       })
 
-  -- A grant that is done is such a grant.
+  -- A grant that is done answers a waiting source, and none higher waits; that source waits no more unless it is hold, and all others stay
+  -- (`Grants`).
   pub grant-done : granted b .number ≡ 0 → Grants b (granted b .source) (granted b .bus)
   unfolding granted
   grant-done z = some-granted (λ e. omega (arith, rw (eq-eqb (highest b) 5 e) at z))

@@ -13,7 +13,7 @@ use Rattle.bus.specs.declared.Bus.{Bus}
 use Rattle.bus.proofs.HighestFirst.{grant-done, grant-keeps-hold, lower-wait}
 use Rattle.bus.proofs.Numbers.{grant-numbers}
 
--- source s is granted by one of the next n grants
+-- source s is granted by one of the next n grants, with nothing asked between them
 pub data GrantedWithin : ℕ → Bus → ℕ → Type 0 where
   now : {n s : ℕ} {b : Bus} → granted b .number ≡ 0 → granted b .source ≡ s → GrantedWithin (suc n) b s
   later : {n s : ℕ} {b : Bus} → GrantedWithin n (granted b .bus) s → GrantedWithin (suc n) b s
@@ -37,6 +37,6 @@ in-turn (suc n) m s b least near h w =
     (λ e. later (rest (g .others s (Ne·symm (eqb-false _ s e)) ∙ w)))
     (either-way (eqb (granted b .source) s))
 
--- Source s, if it waits and hold does not, is granted within s grants.
+-- Source s, if it waits and hold does not, and nothing is asked meanwhile, is granted within s grants.
 pub granted-in-turn : (b : Bus) (s : ℕ) → waits b 0 ≡ false → waits b s ≡ true → GrantedWithin s b s
 granted-in-turn b s h w = in-turn s 1 s b (λ t v. omega (arith, not-hold b h t v)) (omega arith) h w

@@ -16,7 +16,8 @@ use Rattle.bus.proofs.Sources.{bus, none-beyond, waits-listed}
 use Rattle.bus.proofs.HighestFirst.{highest-waits, none-highest}
 
 -- ---- asking
--- 7 if that source already waits, 9 if it is not 0 to 4, else 0; refused, the record is as it stood.
+-- Asking for source s: 7 if that source already waits, 9 if it is not 0 to 4, else 0, each when, and only then; refused, the record is as
+-- it stood.
 pub record AskNumbers (b : Bus) (s : ℕ) (a : BusAnswer) : Type 0 where
   pub listed : (a .number ≡ 0) ⊎ (a .number ≡ 7) ⊎ (a .number ≡ 9)
   pub already : a .number ≡ 7 ↔ waits b s ≡ true
@@ -62,7 +63,7 @@ module _ (b : Bus) (s : ℕ) where
         refused = λ n. absurd (n refl);
       })
 
-  -- So it is with every asking.
+  -- Asking answers 7 exactly if that source already waits, 9 exactly if it is over 4, 0 exactly otherwise; refused, it leaves the record.
   pub ask-numbers : AskNumbers b s (asked b s)
   ask-numbers =
       ⊎-elim
@@ -71,7 +72,7 @@ module _ (b : Bus) (s : ℕ) where
       (either-way (ltb 4 s))
 
 -- ---- granting
--- 8 if nothing waits, else 0; refused, it answers source 0 and the record is as it stood.
+-- A grant: 8 if nothing waits, else 0, each when, and only then; refused, it answers source 0 and the record is as it stood.
 pub record GrantNumbers (b : Bus) (g : Granted) : Type 0 where
   pub listed : (g .number ≡ 0) ⊎ (g .number ≡ 8)
   pub nothing : g .number ≡ 8 ↔ ((s : ℕ) → waits b s ≡ false)
@@ -103,20 +104,20 @@ module _ (b : Bus) where
         refused = λ z. absurd (z refl);
       })
 
-  -- So it is with every grant.
+  -- A grant answers 8 exactly if no source waits, else 0; refused, it answers source 0 and leaves the record.
   pub grant-numbers : GrantNumbers b (granted b)
   grant-numbers =
       ⊎-elim (λ e. none (eqb-true _ 5 e)) (λ e. some (eqb-false _ 5 e)) (either-way (eqb (highest b) 5))
 
 -- ---- releasing
--- 8 if hold does not wait, else 0; refused, the record is as it stood.
+-- A release: 8 if hold does not wait, else 0, each when, and only then; refused, the record is as it stood.
 pub record ReleaseNumbers (b : Bus) (a : BusAnswer) : Type 0 where
   pub listed : (a .number ≡ 0) ⊎ (a .number ≡ 8)
   pub no-hold : a .number ≡ 8 ↔ waits b 0 ≡ false
   pub done : a .number ≡ 0 ↔ waits b 0 ≡ true
   pub refused : a .number ≢ 0 → a .bus ≡ b
 
--- So it is with every release.
+-- A release answers 8 exactly if hold does not wait, else 0; refused, it leaves the record.
 pub release-numbers : (b : Bus) → ReleaseNumbers b (released b)
 unfolding released waits
 release-numbers b = go (b .hold) (b .screen) (b .dram) (b .host) (b .processor)

@@ -13,13 +13,13 @@ use Rattle.bus.proofs.grant.Reads as grant
 use Rattle.bus.proofs.release.Kinds as release-kinds
 use Rattle.bus.proofs.release.Reads as release
 
--- `idle`: nothing.
+-- `idle` takes nothing, and all that its contract allows is `quiet`.
 pub idle-contract : Contract idle-kinds.ps idle-kinds.r idle.Pre idle.Post
     (λ κs args r left.
     r ≡ quiet)
 idle-contract = record { takes-any = λ κs args. tt; says = λ κs args r left p. p }
 
--- `is_waiting`: b, source.
+-- `is_waiting` takes any b and source, and all that its contract allows is `waits` of them.
 pub is-waiting-contract : Contract is-waiting-kinds.ps is-waiting-kinds.r is-waiting.Pre is-waiting.Post
     (λ κs args r left.
     let b = args .0 in
@@ -27,7 +27,7 @@ pub is-waiting-contract : Contract is-waiting-kinds.ps is-waiting-kinds.r is-wai
     r ≡ waits b source)
 is-waiting-contract = record { takes-any = λ κs args. tt; says = λ κs args r left p. p }
 
--- `ask`: b, source.
+-- `ask` takes any b and source, and all that its contract allows is `asked` of them.
 pub ask-contract : Contract ask-kinds.ps ask-kinds.r ask.Pre ask.Post
     (λ κs args r left.
     let b = args .0 in
@@ -35,14 +35,14 @@ pub ask-contract : Contract ask-kinds.ps ask-kinds.r ask.Pre ask.Post
     r ≡ asked b source)
 ask-contract = record { takes-any = λ κs args. tt; says = λ κs args r left p. p }
 
--- `grant`: b.
+-- `grant` takes any b, and all that its contract allows is `granted` of it.
 pub grant-contract : Contract grant-kinds.ps grant-kinds.r grant.Pre grant.Post
     (λ κs args r left.
     let b = args .0 in
     r ≡ granted b)
 grant-contract = record { takes-any = λ κs args. tt; says = λ κs args r left p. p }
 
--- `release`: b.
+-- `release` takes any b, and all that its contract allows is `released` of it.
 pub release-contract : Contract release-kinds.ps release-kinds.r release.Pre release.Post
     (λ κs args r left.
     let b = args .0 in

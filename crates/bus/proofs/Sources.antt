@@ -29,7 +29,7 @@ none-beyond b s h =
     rw (ne-eqb s 0 (omega arith), ne-eqb s 1 (omega arith), ne-eqb s 2 (omega arith))
     (rw (ne-eqb s 3 (omega arith), ne-eqb s 4 (omega arith)))
 
--- So whoever waits is one of the five.
+-- Whoever waits is one of the five.
 pub waits-listed : (b : Bus) (s : ℕ) → waits b s ≡ true → s ≤ 4
 waits-listed b s w = ⊎-elim beyond (ltb-false 4 s) (either-way (ltb 4 s))
   where
@@ -74,10 +74,10 @@ set-any b s v h =
     (λ k l. none-beyond (with-source b s v) k l ∙ rw (ne-eqb s k (omega arith)) (sym (none-beyond b k l)))
 
 module _ (b : Bus) (s : ℕ) (v : Bool) (h : s ≤ 4) where
-  -- It waits, or does not, as it was marked.
+  -- A source that is marked waits, or does not, as it was marked.
   pub set-here : waits (with-source b s v) s ≡ v
   set-here = set-any b s v h s ∙ rw (eq-eqb s s refl)
 
-  -- Every other source is as it stood.
+  -- Marking a source leaves every other one as it stood.
   pub set-elsewhere : (k : ℕ) → k ≢ s → waits (with-source b s v) k ≡ waits b k
   set-elsewhere k d = set-any b s v h k ∙ rw (ne-eqb s k (Ne·symm d))

@@ -18,6 +18,7 @@ use Rattle.field_spec.specs.Answers.{no-size, taken, taken-signed, put-answer, 
 use Rattle.checked_spec.specs.Acts.{seen, later, replay, replayed, after-all}
 use Rattle.checked_spec.specs.Examples.{row-1, row-2, row-3, row-4, row-5, row-6, row-7, row-8, row-9, row-10, examples}
 
+-- Document 01's ten checked examples, replayed by the definitions, are the table that specs/Examples has, row by row.
 pub examples-hold : map replayed examples ≡ examples
 unfolding
     examples row-1 row-2 row-3 row-4 row-5 row-6 row-7 row-8 row-9 row-10 replayed replay after-all seen later

@@ -33,6 +33,8 @@ infixr 67 _then_
 _then_ : {x y : Answer} {xs ys : List Answer} → x ≡ y → xs ≡ ys → x ∷ xs ≡ y ∷ ys
 e then f = cc
 
+-- With memory 1111h, 2222h, 3333h and LBL 0: "INCR 1, pointer loaded with 0: three reads give 1111h, 2222h, 3333h, all held; the third's
+-- cycle is empty and the pointer is 30h."
 pub K1 :
     let s = loaded (controlled INCR three-words) (address 0) in
     (answers s (reading 3) ≡ gave 0x1111 held Inside ∷ gave 0x2222 held Inside ∷ gave 0x3333 held Empty ∷ []) ×
@@ -42,6 +44,7 @@ K1 =
     let line = step-holds examples-hold 0 in
     (same-answer (line 2) then same-answer (line 3) then same-answer (line 4) then refl, same-look (line 5))
 
+-- After K1: "A fourth read: FFFFh, hollow; pointer 40h."
 pub K2 :
     let s = ends (loaded (controlled INCR three-words) (address 0)) (reading 3) in
     (answer-of s (Read 2 3) ≡ gave 0xFFFF hollow Empty) ×
@@ -51,6 +54,7 @@ K2 =
     let line = step-holds examples-hold 1 in
     (same-answer (line 0), same-look (line 1))
 
+-- With K1's memory and LBL 0: "INCW 1, INCR 0, pointer 0: write AAAAh, then two reads give AAAAh and 2222h; pointer 10h."
 pub K3 :
     let s = ends (loaded (controlled INCW three-words) (address 0)) (save 2 0xAAAA ∷ []) in
     (answers s (reading 2) ≡ gave 0xAAAA held Inside ∷ gave 0x2222 held Inside ∷ []) ×
@@ -60,6 +64,7 @@ K3 =
     let line = step-holds examples-hold 2 in
     (same-answer (line 3) then same-answer (line 4) then refl, same-look (line 5))
 
+-- With K1's memory and LBL 0: "Pointer FFFFFFF0h, INCR 1: a read leaves pointer 0 and fetches word 0."
 pub K4 :
     let s = loaded (controlled INCR three-words) (address 0xFFFFFFF0) in
     let t = after s (Read 2 3) in
@@ -72,6 +77,7 @@ K4 =
     let line = step-holds examples-hold 3 in
     (same-look (line 2), same-answer (line 3), same-look (line 4), same-look (line 5))
 
+-- "Low control byte 80h, host writes 0Dh: 0Dh. Host then writes F0h: 08h."
 pub K5 :
     let s = after (controlled 0x80 []) (Write 3 1 0x0D) in
     (lo (s .registers .control) ≡ 0x0D) ×
@@ -81,6 +87,7 @@ K5 =
     let line = step-holds examples-hold 4 in
     (same-look (line 1), same-look (line 3))
 
+-- "Low control byte 0Dh, processor writes F0h: F5h."
 pub K6 :
     let w = processor-writes (fresh 0x0D) 3 0xF0 in
     (w .number ≡ 0) × (lo (w .registers .control) ≡ 0xF5)
@@ -89,6 +96,7 @@ K6 =
     let line = step-holds examples-hold 5 in
     (same-number (line 0), same-look (line 1))
 
+-- "Two words, both 0; size 4 at bit 14, value Ah: 8000h, 0002h, four cycles."
 pub K7 :
     (put-memory (0 ∷ 0 ∷ []) (address 14) 4 0xA ≡ 0x8000 ∷ 0x0002 ∷ []) ×
     (put-answer 2 (address 14) 4 ≡ record { number = 0; cycles = 4 })
@@ -97,6 +105,7 @@ K7 =
     let line = step-holds examples-hold 6 in
     (same-words (line 1), same-put (line 0))
 
+-- After K7: "That field taken out: 10, signed -6, two cycles."
 pub K8 :
     let m = put-memory (0 ∷ 0 ∷ []) (address 14) 4 0xA in
     (taken m (address 14) 4 ≡ record { number = 0; value = 10; cycles = 2 }) ×
@@ -106,6 +115,7 @@ K8 =
     let line = step-holds examples-hold 7 in
     (same-taken (line 0), same-signed (line 1))
 
+-- "Three words, all 0; size 32 at bit 1, all ones: FFFEh, FFFFh, 0001h, five cycles."
 pub K9 :
     (put-memory (0 ∷ 0 ∷ 0 ∷ []) (address 1) 32 0xFFFFFFFF ≡ 0xFFFE ∷ 0xFFFF ∷ 0x0001 ∷ []) ×
     (put-answer 3 (address 1) 32 ≡ record { number = 0; cycles = 5 })
@@ -118,6 +128,7 @@ K9 =
 abbrev Grants : Bus → ℕ → ℕ → Type 0
 Grants b n s = (granted b .number ≡ n) × (granted b .source ≡ s)
 
+-- "All five waiting, hold released after its grant: 1, 2, 3, 4, then number 8."
 pub K10 :
     let freed = released (granted all-waiting .bus) in
     let b = granted (freed .bus) .bus in

@@ -17,6 +17,7 @@ Flag flag n = (c : ℕ) → flag c ≡ bit c n
 abbrev Message : (ℕ → ℕ) → ℕ → Type 0
 Message message n = (c i : ℕ) → i < 3 → bit (message c) i ≡ bit c (n + i)
 
+-- where the seven parts of HSTCTL stand that have a name here
 pub record BitPlaces : Type 0 where
   pub message-in : Message msgin 0
   pub interrupt-in : Flag intin 3
@@ -26,7 +27,8 @@ pub record BitPlaces : Type 0 where
   pub step-reading : Flag incr 12
   pub low-byte-last : Flag lbl 13
 
--- These seven parts stand where the paper has them, in every word.
+-- In every word bit i of MSGIN is bit i, bit i of MSGOUT bit 4 + i, for i below 3; INTIN, INTOUT, INCW, INCR and LBL are bits 3, 7, 11, 12
+-- and 13: where the paper has them.
 pub bit-places : BitPlaces
 bit-places = record {
   message-in = λ c i h. rw zero-add (bit-of-remainder c 3 i h);

@@ -23,7 +23,7 @@ low-eight : (k b : ℕ) → b < 256 → ((k * 256 + b) / 8 * 8 + (k * 256 + b) %
 low-eight k b h = rw (eights k b, fours k b) (omega arith)
 
 module _ (c : ℕ) where
-  -- Bit 10 reads as 0.
+  -- As HSTCTL reads, bit 10 is 0.
   pub ten-hidden : bit (bare c) 10 ≡ false
   unfolding bit bare
   ten-hidden = ne-eqb (bare c / 2 ^ 10 % 2) 1 (omega arith)
@@ -36,11 +36,11 @@ module _ (c : ℕ) where
   unfolding bare
   quotient-kept = omega arith
 
-  -- Every bit below it reads as it stands.
+  -- As HSTCTL reads, every bit below bit 10 is as it stands.
   pub below-ten-shown : (i : ℕ) → i < 10 → bit (bare c) i ≡ bit c i
   below-ten-shown i h = sym (bit-of-remainder (bare c) 10 i h) ∙ rw remainder-kept (bit-of-remainder c 10 i h)
 
-  -- Every bit above it too.
+  -- As HSTCTL reads, every bit above bit 10 is as it stands.
   pub above-ten-shown : (i : ℕ) → bit (bare c) (11 + i) ≡ bit c (11 + i)
   above-ten-shown i = sym (bit-of-quotient (bare c) 11 i) ∙ rw quotient-kept (bit-of-quotient c 11 i)
 

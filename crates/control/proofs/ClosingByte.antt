@@ -7,12 +7,12 @@ use borrow.Author.Tests.{eq-eqb, eqb-true}
 use Rattle.words.specs.Bytes.{takes-low, takes-high}
 use Rattle.control.specs.Control.{lbl, closes, fetches, first-lane, last-lane}
 
--- With LBL 0 the high byte closes a word.
+-- With LBL 0 lanes close a word exactly if they select the high byte.
 pub high-closes : (c lanes : ℕ) → lbl c ≡ false → closes c lanes ≡ takes-high lanes
 unfolding closes
 high-closes c lanes e = rw e
 
--- With LBL 1 the low byte does.
+-- With LBL 1 lanes close a word exactly if they select the low byte.
 pub low-closes : (c lanes : ℕ) → lbl c ≡ true → closes c lanes ≡ takes-low lanes
 unfolding closes
 low-closes c lanes e = rw e
@@ -45,7 +45,7 @@ last-closes c = go (lbl c)
     go true = refl
     go false = refl
 
--- Both bytes at once close it.
+-- Both bytes at once close a word, whatever LBL is.
 pub both-close : (c : ℕ) → closes c 3 ≡ true
 unfolding closes takes-low takes-high
 both-close c = go (lbl c)

@@ -8,7 +8,7 @@ use lib.Dec.{eqb}
 use Rattle.words.specs.Bytes.{bit}
 use Rattle.control.specs.Control.{msgin, intin, msgout, intout, low-parts, host-low, processor-low}
 
--- The low byte of v has these parts.
+-- The low byte of v has these parts: MSGIN mi, INTIN ii, MSGOUT mo, INTOUT io.
 pub record Parts (v mi : ℕ) (ii : Bool) (mo : ℕ) (io : Bool) : Type 0 where
   pub message-in : msgin v ≡ mi
   pub interrupt-in : intin v ≡ ii

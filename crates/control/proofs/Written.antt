@@ -73,7 +73,7 @@ parts-of-low {v} p = record {
 }
 
 module _ (lanes c w : ℕ) (e : takes-low lanes ≡ true) where
-  -- "MSGIN is replaced; INTIN becomes old OR written; INTOUT becomes old AND written; MSGOUT stays."
+  -- Where the host writes the low byte, "MSGIN is replaced; INTIN becomes old OR written; INTOUT becomes old AND written; MSGOUT stays."
   pub host-write-parts : Parts (control-laid host-low lanes c w) (msgin w) (intin c || intin w) (msgout c) (intout c && intout w)
   host-write-parts =
       let p = host-parts (lo c) (lo w) in
@@ -89,7 +89,8 @@ module _ (lanes c w : ℕ) (e : takes-low lanes ≡ true) where
         ← interrupt-out-low w,
       ) p)
 
-  -- "a write replaces MSGOUT, makes INTIN old AND written and INTOUT old OR written, and keeps MSGIN."
+  -- Where the processor writes the low byte, "a write replaces MSGOUT, makes INTIN old AND written and INTOUT old OR written, and keeps
+  -- MSGIN."
   pub processor-write-parts : Parts (control-laid processor-low lanes c w) (msgin c) (intin c && intin w) (msgout w) (intout c || intout w)
   processor-write-parts =
       let p = processor-parts (lo c) (lo w) in

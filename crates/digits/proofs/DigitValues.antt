@@ -29,17 +29,19 @@ pub decimal : (b : ℕ) → 48 ≤ b → b ≤ 57 → is-decimal b ≡ true
 unfolding is-decimal
 decimal b h k = between 48 57 b h k
 
+-- No other byte is a decimal digit.
 pub not-decimal : (b : ℕ) → (48 ≤ b → b ≤ 57 → ⊥) → is-decimal b ≡ false
 unfolding is-decimal
 not-decimal b f = not-between 48 57 b f
 
+-- A decimal digit is one of these ten bytes.
 pub decimal-is : (b : ℕ) → is-decimal b ≡ true → (48 ≤ b) × (b ≤ 57)
 unfolding is-decimal
 decimal-is b e =
     let h = both-true (leb 48 b) (leb b 57) e in
     (leb-true 48 b (h .0), leb-true b 57 (h .1))
 
--- Tested by one comparison.
+-- A byte is a decimal digit exactly if the byte less 48, modulo 2^8, is below 10.
 pub decimal-test : (b d : ℕ) → b < 256 → d < 256 → (d + 48) % 2 ^ 8 ≡ b → ltb d 10 ≡ is-decimal b
 decimal-test b d hb hd e = go (either-way (ltb d 10))
   where
@@ -65,21 +67,21 @@ value-none : (b : ℕ) → is-decimal b ≡ false → (65 ≤ b → b ≤ 70 →
 unfolding value-of
 value-none b e f = rw (e, not-between 65 70 b f) refl
 
--- The value by two subtractions modulo 2^8: of a decimal digit,
+-- If a byte less 48, modulo 2^8, is below 10, that is what the byte stands for.
 pub by-decimal : (b d : ℕ) → b < 256 → d < 256 → (d + 48) % 2 ^ 8 ≡ b → d < 10 → d ≡ value-of b
 by-decimal b d hb hd e h =
     let v = value-decimal b (sym (decimal-test b d hb hd e) ∙ lt-ltb d 10 h) in
     let x : d ≡ b - 48 = omega (arith, e, h, hb) in
     x ∙ sym v
 
--- of a letter,
+-- If a byte less 65, modulo 2^8, is below 6, the byte stands for that and 10.
 pub by-letter : (b u : ℕ) → b < 256 → u < 256 → (u + 65) % 2 ^ 8 ≡ b → u < 6 → u + 10 ≡ value-of b
 by-letter b u hb hu e h =
     let v = value-letter b (omega (arith, e, h, hb)) (omega (arith, e, h, hb)) in
     let x : u + 10 ≡ b - 55 = omega (arith, e, h, hb) in
     x ∙ sym v
 
--- and of any other byte.
+-- If neither is so, the byte is no digit, and its value is 16.
 pub by-neither : (b d u : ℕ) → b < 256 → d < 256 → u < 256 → (d + 48) % 2 ^ 8 ≡ b → 10 ≤ d → (u + 65) % 2 ^ 8 ≡ b → 6 ≤ u →
     16 ≡ value-of b
 by-neither b d u hb hd hu e h f k =
@@ -114,7 +116,7 @@ each-below (suc n) f g e k h =
 in-table : (k : ℕ) → k < 16 → getD all-digits k 0 ≡ cond (ltb k 10) (48 + k) (55 + k)
 in-table k h = each-below 16 (λ (i : ℕ). getD all-digits i 0) (λ (i : ℕ). cond (ltb i 10) (48 + i) (55 + i)) refl k h
 
--- The table has it.
+-- The digit for n is that at place n mod 16 of the table `all-digits`.
 pub table-digit : (n : ℕ) → getD all-digits (n % 16) 0 ≡ digit-for n
 unfolding digit-for
 table-digit n = in-table (n % 16) (omega arith)
@@ -129,7 +131,7 @@ hex-apart b e g =
 
 -- ---- there and back
 
--- The digit for a number stands for it,
+-- The digit for a number stands for it, modulo 16.
 pub value-of-digit : (n : ℕ) → value-of (digit-for n) ≡ n % 16
 unfolding digit-for
 value-of-digit n = go (less-or-not (n % 16) 10)
@@ -144,20 +146,20 @@ value-of-digit n = go (less-or-not (n % 16) 10)
         let v = value-letter b (omega (arith, h)) (omega arith) in
         rw (le-ltb (n % 16) 10 h) (v ∙ omega arith)
 
--- is a hex digit,
+-- The digit for a number is a hex digit.
 pub digit-is-hex : (n : ℕ) → is-hex (digit-for n) ≡ true
 digit-is-hex n =
     let v = value-of-digit n in
     lt-ltb (value-of (digit-for n)) 16 (omega (arith, v))
 
--- a byte that is neither a decimal digit nor a letter stands for none,
+-- A byte that is neither a decimal digit nor a letter is no hex digit.
 not-hex : (b : ℕ) → is-hex b ≡ true → is-decimal b ≡ false → (65 ≤ b → b ≤ 70 → ⊥) → ⊥
 not-hex b e d g =
     let v = value-none b d g in
     let h = ltb-true (value-of b) 16 e in
     absurd (omega (arith, v, h))
 
--- and is the only byte that does.
+-- The digit for a number is the only byte that stands for it.
 pub digit-of-value : (b n : ℕ) → is-hex b ≡ true → n % 16 ≡ value-of b → digit-for n ≡ b
 unfolding digit-for
 digit-of-value b n e f = go (either-way (is-decimal b)) (less-or-not b 65) (less-or-not 70 b)

@@ -34,7 +34,7 @@ module _ (image memory : List ℕ) (a : Access) where
     pub nine : length image ≡ 9
     nine = accepted .good-image .nine-bytes
 
-    -- One that is accepted leaves what its statement says by closing the access on what its bytes stand for.
+    -- A call that is accepted leaves what its statement says by closing the access on what its bytes stand for.
     pub closed-call : {x : ℕ} {image′ memory′ : List ℕ} → AreBytes memory →
         Closed memory (begin-access (registers-of image) a) x image′ memory′ → Called image memory a x image′ memory′
     unfolding call-tells call-image call-memory

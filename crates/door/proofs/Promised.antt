@@ -7,7 +7,7 @@ use Rattle.door.proofs.host_port_read.Reads as host-port-read
 use Rattle.door.proofs.host_port_write.Kinds as host-port-write-kinds
 use Rattle.door.proofs.host_port_write.Reads as host-port-write
 
--- `host_port_read`: image, memory, register, lanes.
+-- `host_port_read` takes any image, memory, register and lanes, and all that its contract allows is `Called` of them, for that read.
 pub host-port-read-contract : Contract host-port-read-kinds.ps host-port-read-kinds.r host-port-read.Pre host-port-read.Post
     (λ κs args r left.
     let image = args .0 in
@@ -19,7 +19,8 @@ pub host-port-read-contract : Contract host-port-read-kinds.ps host-port-read-ki
     Called (image .now) (memory .now) (Read register lanes) r (image′ .now) (memory′ .now))
 host-port-read-contract = record { takes-any = λ κs args. tt; says = λ κs args r left p. p }
 
--- `host_port_write`: image, memory, register, lanes, word.
+-- `host_port_write` takes any image, memory, register, lanes and word, and all that its contract allows is `Called` of them, for that
+-- write.
 pub host-port-write-contract : Contract host-port-write-kinds.ps host-port-write-kinds.r host-port-write.Pre host-port-write.Post
     (λ κs args r left.
     let image = args .0 in

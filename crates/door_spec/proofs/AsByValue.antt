@@ -52,14 +52,14 @@ module _ (image memory : List ℕ) (f : Fitting image memory) (s : AreBytes imag
   barred-words : call-number image memory a ≢ 0 → number-for m a ≢ 0
   barred-words n z = n (number-by-words ∙ z)
 
-  -- A call that fits the door tells what the access tells.
+  -- A call that 11 does not refuse tells what the access by value tells on the registers and words that its bytes stand for.
   pub tells-as-access : call-tells image memory a ≡ access r m a .answer
   unfolding call-tells
   tells-as-access =
       done-or-same (call-number image memory a) _ _
       (λ n. ap refusing number-by-words ∙ sym (ap (λ (o : Outcome). o .answer) (barred r m a (barred-words n))))
 
-  -- It leaves the image of the registers that the access leaves.
+  -- Such a call leaves the image of the registers that the access leaves.
   pub image-as-access : call-image image memory a ≡ image-of (access r m a .registers)
   unfolding call-image
   image-as-access =
@@ -69,7 +69,7 @@ module _ (image memory : List ℕ) (f : Fitting image memory) (s : AreBytes imag
       (ap (λ (o : Outcome). image-of (o .registers)) (barred r m a (barred-words n)) ∙
       image-of-registers image (f .good-image) s))
 
-  -- It leaves the bytes of the words that the access leaves.
+  -- Such a call leaves the bytes of the words that the access leaves.
   pub memory-as-access : call-memory image memory a ≡ bytes-of (access-memory r m a)
   unfolding call-memory
   memory-as-access =
@@ -87,22 +87,22 @@ module _ (image memory : List ℕ) (f : Fitting image memory) (s : AreBytes imag
         ten-clear = access-ten-clear r m a (given .ten-clear);
       }
 
-  -- The image stands for the registers that the access leaves.
+  -- The image after it stands for the registers that the access leaves.
   pub registers-left : registers-of (call-image image memory a) ≡ access r m a .registers
   registers-left = rw image-as-access (registers-of-image (access r m a .registers) (fits .widths))
 
-  -- The memory stands for the words that the access leaves.
+  -- The memory after it stands for the words that the access leaves.
   pub words-left : words-of (call-memory image memory a) ≡ access-memory r m a
   words-left =
       rw memory-as-access
       (words-of-bytes (access-memory r m a) (access-memory-fits r m a (given .widths) (words-fit memory t)))
 
   -- ---- another call can follow
-  -- The image that a call leaves is a good one.
+  -- The image that such a call leaves is a good one.
   pub good-again : GoodImage (call-image image memory a)
   good-again = rw image-as-access (good-image (access r m a .registers) fits)
 
-  -- What a call leaves fits the door again.
+  -- What such a call leaves fits the door again: 11 does not refuse it.
   pub fits-again : Fitting (call-image image memory a) (call-memory image memory a)
   fits-again =
       record {
@@ -110,10 +110,10 @@ module _ (image memory : List ℕ) (f : Fitting image memory) (s : AreBytes imag
         even-memory = rw (memory-as-access, bytes-length) (twice-even (length (access-memory r m a)));
       }
 
-  -- The image is made of bytes.
+  -- The image that such a call leaves is made of bytes.
   pub image-bytes-again : AreBytes (call-image image memory a)
   image-bytes-again = rw image-as-access (image-bytes (access r m a .registers))
 
-  -- So is the memory.
+  -- The memory that such a call leaves is made of bytes.
   pub memory-bytes-again : AreBytes (call-memory image memory a)
   memory-bytes-again = rw memory-as-access (bytes-fit (access-memory r m a))

@@ -109,14 +109,15 @@ module _ (l : Lent) (s : AreBytes (l .image)) (t : AreBytes (l .memory)) (x : Si
         end = ap (λ (k : Lent). left k b) stood ∙ left-unfit l e b ∙ sym (left-unfit l e (on 3 x));
       }
 
-  -- Any sixteen-bit access done as two byte calls tells and leaves the same as one call, whatever is lent.
+  -- A sixteen-bit access done as two byte calls tells and leaves what the single call does, whatever bytes are lent, refused calls too; the
+  -- first byte call shows the number and the hollow mark of the single call, and no cycle.
   pub calls-alike : Alike l x
   calls-alike =
       ⊎-elim alike-unfit (λ e. alike-fit (fitting (l .image) (l .memory) e)) (either-way (misfit (l .image) (l .memory)))
 
 -- ---- what a call leaves is bytes again, fitting or not
 module _ (l : Lent) (s : AreBytes (l .image)) (t : AreBytes (l .memory)) (a : Access) where
-  -- The image after it is bytes,
+  -- The image after any call is bytes, if what was lent is.
   pub image-stays-bytes : AreBytes (left l a .image)
   image-stays-bytes =
       ⊎-elim
@@ -124,7 +125,7 @@ module _ (l : Lent) (s : AreBytes (l .image)) (t : AreBytes (l .memory)) (a : Ac
       (λ e. image-bytes-again (l .image) (l .memory) (fitting (l .image) (l .memory) e) s t a)
       (either-way (misfit (l .image) (l .memory)))
 
-  -- and so is the memory.
+  -- The memory after any call is bytes, if what was lent is.
   pub memory-stays-bytes : AreBytes (left l a .memory)
   memory-stays-bytes =
       ⊎-elim

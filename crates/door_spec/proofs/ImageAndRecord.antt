@@ -18,7 +18,8 @@ use Rattle.door_spec.specs.InPlainWords.{GoodImage, FitsImage}
 
 -- ---- where each part lies
 
--- HSTADRL is bytes 0 and 1, HSTADRH bytes 2 and 3, HSTDATA bytes 4 and 5, HSTCTL bytes 6 and 7, each low byte first.
+-- HSTADRL is bytes 0 and 1, HSTADRH bytes 2 and 3, HSTDATA bytes 4 and 5, HSTCTL bytes 6 and 7, each low byte first; bit 10 of HSTCTL is
+-- bit 2 of byte 7, and the hollow mark is set exactly if byte 8 is 1.
 pub record Places (i : List ℕ) : Type 0 where
   pub low : low-half (registers-of i .pointer) ≡ byte i 0 + 256 * byte i 1
   pub high : high-half (registers-of i .pointer) ≡ byte i 2 + 256 * byte i 3
@@ -33,7 +34,8 @@ low-part a b c d p q = omega arith
 high-part : (a b c d : ℕ) → a < 256 → b < 256 → c < 256 → d < 256 → (a + 256 * b + 65536 * c + 16777216 * d) / 65536 % 65536 ≡ c + 256 * d
 high-part a b c d p q s t = omega arith
 
--- The parts of an image lie so.
+-- Where each register lies in the image: HSTADRL, HSTADRH, HSTDATA and HSTCTL two bytes each, in this order, low byte first, and then the
+-- hollow mark.
 pub places : (i : List ℕ) → AreBytes i → Places i
 unfolding registers-of
 places i s =
@@ -130,7 +132,7 @@ word-fits l h p q = omega arith
 pointer-fits : (a b c d : ℕ) → a < 256 → b < 256 → c < 256 → d < 256 → a + 256 * b + 65536 * c + 16777216 * d < 2 ^ 32
 pointer-fits a b c d p q s t = omega arith
 
--- The registers of a good image fit one.
+-- The registers of a good image have their widths, and bit 10 clear.
 pub image-fits : (i : List ℕ) → GoodImage i → AreBytes i → FitsImage (registers-of i)
 unfolding registers-of
 image-fits i g s =
@@ -169,7 +171,7 @@ mark-small : (b : Bool) → cond b 1 0 ≤ 1
 mark-small true = omega arith
 mark-small false = omega arith
 
--- The image of registers that fit is a good one.
+-- The image of registers that have their widths, and bit 10 clear, is a good one.
 pub good-image : (r : Registers) → FitsImage r → GoodImage (image-of r)
 unfolding image-of
 good-image r f =

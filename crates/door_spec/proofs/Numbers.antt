@@ -19,7 +19,8 @@ use Rattle.door_spec.specs.Door.{misfit, call-number}
 use Rattle.door_spec.specs.InPlainWords.{Fitting, Misfit}
 use Rattle.door_spec.proofs.WordsAndBytes.{words-length}
 
--- v is the number of a call
+-- v is the number of a call: 11 exactly if what is lent has one of the four faults; without one, 1 exactly if memory has over 65,536 bytes,
+-- and 2, 3 and 0 as for the host; and no other
 pub record DoorWhen (image memory : List ℕ) (a : Access) (v : ℕ) : Type 0 where
   pub listed : (v ≤ 3) ⊎ (v ≡ 11)
   pub unfit : v ≡ 11 ↔ Misfit image memory
@@ -51,7 +52,7 @@ module _ (image memory : List ℕ) where
       go true true u v p q r d e = absurd (not-both refl e)
       go false t u v p q r d e = absurd (not-both refl e)
 
-  -- What does not has one of the four faults.
+  -- What does not pass them has one of the four faults.
   pub faulty : misfit image memory ≡ true → Misfit image memory
   unfolding misfit
   faulty =
@@ -66,14 +67,14 @@ module _ (image memory : List ℕ) where
       go true false false true p q r d e = inr (inr (inr (eqb-true _ _ d)))
       go true false false false p q r d e = absurd (not-both e refl)
 
-  -- What fits the door passes them.
+  -- What fits the door passes the four tests.
   pub fit-passes : Fitting image memory → misfit image memory ≡ false
   unfolding misfit
   fit-passes f =
       let g = f .good-image in
       rw (eq-eqb _ _ (g .nine-bytes), le-ltb _ _ (g .hollow-byte), g .bit-10-clear, ne-eqb (length memory % 2) 1 (omega arith))
 
-  -- What fits has none of the faults.
+  -- What fits the door has none of the faults.
   pub fit-or-faulty : Fitting image memory → Misfit image memory → ⊥
   fit-or-faulty f =
       let g = f .good-image in
@@ -88,7 +89,7 @@ module _ (image memory : List ℕ) where
     unfolding call-number
     unfit-number e = rw e
 
-    -- So it is refused.
+    -- A call that does not fit is refused.
     pub unfit-refused : misfit image memory ≡ true → call-number image memory a ≢ 0
     unfit-refused e z = omega (arith, unfit-number e)
 
@@ -97,7 +98,7 @@ module _ (image memory : List ℕ) where
     unfolding call-number
     fit-number f = rw (fit-passes f)
 
-    -- The number of a call is one of 0, 1, 2, 3 and 11, each when, and only then.
+    -- The number of a call is one of 0, 1, 2, 3 and 11, each when, and only then (`DoorWhen`).
     pub numbered : DoorWhen image memory a (call-number image memory a)
     unfolding call-number
     numbered = go (misfit image memory) refl

@@ -82,10 +82,11 @@ module _ (image memory : List ℕ) (a : Access) where
   number-below : call-tells image memory a .number < 256
   number-below = rw number-told (⊎-elim (λ h. omega arith) (λ h. omega arith) (numbered image memory a .listed))
 
-  -- Every call's answer is given back by the number that it returns, whatever was lent.
+  -- In the answer of every call, whatever was lent, word, number, mark and cycle stand in their bits, and bits 27 and up are 0.
   pub call-unpacks : Unpacks (call-answer image memory a) (call-tells image memory a)
   call-unpacks = unpacks (call-tells image memory a) word-told number-below
 
-  -- The number that a C program finds in the answer is one of 0, 1, 2, 3 and 11, each when, and only then.
+  -- The number in the answer's bits 16-23 is 11 exactly if what is lent has one of the four faults; without one, 1 exactly if memory has
+  -- over 65,536 bytes, and 2, 3 and 0 as for the host (`DoorWhen`).
   pub answer-numbered : DoorWhen image memory a (number-in (call-answer image memory a))
   answer-numbered = rw (call-unpacks .number ∙ number-told) (numbered image memory a)

@@ -35,14 +35,14 @@ use Rattle.door_spec.proofs.ByBytes.{calls-alike, image-stays-bytes, me
 
 -- ---- one call
 module _ {image memory : List ℕ} {a : Access} {x : ℕ} {image′ memory′ : List ℕ} (k : Called image memory a x image′ memory′) where
-  -- The number that its answer holds is one of 0, 1, 2, 3 and 11, each when, and only then.
+  -- The number that the answer of a call holds is one of 0, 1, 2, 3 and 11, each when, and only then (`DoorWhen`).
   pub returns-number : DoorWhen image memory a (number-in x)
   returns-number = subst (λ (p : ℕ). DoorWhen image memory a (number-in p)) (sym (k .answered)) (answer-numbered image memory a)
 
   number-found : number-in x ≡ call-number image memory a
   number-found = ap number-in (k .answered) ∙ call-unpacks image memory a .number ∙ number-told image memory a
 
-  -- Refused, it answers 65,536 times the number and leaves every lent byte.
+  -- Refused, a call answers 65,536 times the number and leaves every lent byte.
   pub refused-call : number-in x ≢ 0 → (x ≡ 65536 * number-in x) × (image′ ≡ image) × (memory′ ≡ memory)
   refused-call d =
       let n = refuses image memory a (λ z. d (number-found ∙ z)) in (
@@ -53,27 +53,27 @@ module _ {image memory : List ℕ} {a : Access} {x : ℕ} {image′ memory′ : 
 
   -- a call on bytes
   module _ (s : AreBytes image) (t : AreBytes memory) where
-    -- It changes no byte of memory but those of the word that the pointer names.
+    -- A call changes no byte of memory but the two of the pointer's word.
     pub call-keeps-others : (j : ℕ) → j / 2 ≢ word-at (registers-of image .pointer) .0 → byte memory′ j ≡ byte memory j
     call-keeps-others j d = ap (λ (b : List ℕ). byte b j) (k .memory-left) ∙ others-kept image memory s t a j d
 
     -- a call on bytes that fit the door
     module _ (f : Fitting image memory) where
-      -- Its answer is that of the access by value on what the bytes stand for, packed.
+      -- The answer of a call on bytes that fit is that of the access by value on what the bytes stand for, packed.
       pub answers-as-access : x ≡ packed (access (registers-of image) (words-of memory) a .answer)
       answers-as-access = k .answered ∙ ap packed (tells-as-access image memory f s t a)
 
-      -- So the word, the number, the hollow mark and the cycle in the answer are the access's.
+      -- The word, the number, the hollow mark and the cycle in that answer are the access's.
       pub parts-as-access : Unpacks x (access (registers-of image) (words-of memory) a .answer)
       parts-as-access =
           subst (λ (u : Answer). Unpacks x u) (tells-as-access image memory f s t a)
           (subst (λ (p : ℕ). Unpacks p (call-tells image memory a)) (sym (k .answered)) (call-unpacks image memory a))
 
-      -- It leaves the image of the registers that the access leaves.
+      -- A call on bytes that fit leaves the image of the registers that the access leaves.
       pub leaves-image : image′ ≡ image-of (access (registers-of image) (words-of memory) a .registers)
       leaves-image = k .image-left ∙ image-as-access image memory f s t a
 
-      -- It leaves the bytes of the words that the access leaves.
+      -- A call on bytes that fit leaves the bytes of the words that the access leaves.
       pub leaves-bytes : memory′ ≡ bytes-of (access-memory (registers-of image) (words-of memory) a)
       leaves-bytes = k .memory-left ∙ memory-as-access image memory f s t a
 
@@ -85,13 +85,13 @@ module _ {image memory : List ℕ} {a : Access} {x : ℕ} {image′ memory′ : 
       pub leaves-words : words-of memory′ ≡ access-memory (registers-of image) (words-of memory) a
       leaves-words = ap words-of (k .memory-left) ∙ words-left image memory f s t a
 
-      -- What it leaves is bytes that fit the door again.
+      -- What a call on bytes that fit leaves is bytes that fit the door again.
       pub call-can-follow : Fitting image′ memory′ × AreBytes image′ × AreBytes memory′
       call-can-follow =
           rw (k .image-left, k .memory-left)
           (fits-again image memory f s t a, image-bytes-again image memory f s t a, memory-bytes-again image memory f s t a)
 
--- A read leaves every byte of memory.
+-- A read leaves every byte of memory, done or refused.
 pub read-call-keeps-bytes : {image memory : List ℕ} {register lanes x : ℕ} {image′ memory′ : List ℕ} →
     Called image memory (Read register lanes) x image′ memory′ → AreBytes image → AreBytes memory → memory′ ≡ memory
 read-call-keeps-bytes {image} {memory} {register} {lanes} k s t = k .memory-left ∙ read-keeps-bytes image memory s t register lanes
@@ -158,8 +158,8 @@ pairs l y h =
       end = p .end;
     }
 
--- A sixteen-bit access done by two byte calls, the second on what the first left, answers what one call answers, and leaves the bytes that
--- it leaves.
+-- A sixteen-bit access done by two byte calls, the second on what the first left, answers what one call answers (`AddUp`), and leaves the
+-- bytes that it leaves.
 pub byte-calls-alike : {l t t₁ t₂ : Lent} (y : Sixteen) {x x₁ x₂ : Answer} → AreBytes (l .image) → AreBytes (l .memory) →
     at-the-door l (on 3 y) x t → at-the-door l (opening l y) x₁ t₁ → at-the-door t₁ (closing l y) x₂ t₂ → AddUp x₁ x₂ x × (t₂ ≡ t)
 byte-calls-alike y b c whole first second =
@@ -172,10 +172,10 @@ pub calls-end-alike : {l t u : Lent} {ys : List Sixteen} {xs : List Answer} {ps 
     ByWords at-the-door l ys xs t → ByBytes at-the-door control-in l ys ps u → AllAddUp ps xs × (u ≡ t)
 calls-end-alike b c w v = sequences-alike at-the-door control-in told left Bytes call-exact still-bytes pairs (b, c) w v
 
--- Any sequence of accesses can be made by word calls,
+-- Any sequence of accesses can be made by word calls.
 pub words-called : (l : Lent) (ys : List Sixteen) → (xs : List Answer) × (t : Lent) × ByWords at-the-door l ys xs t
 words-called l ys = words-made at-the-door control-in told left Bytes call-exact still-bytes pairs call-made l ys
 
--- and by byte calls.
+-- Any sequence of accesses can be made by byte calls.
 pub bytes-called : (l : Lent) (ys : List Sixteen) → (ps : List (Answer × Answer)) × (t : Lent) × ByBytes at-the-door control-in l ys ps t
 bytes-called l ys = bytes-made at-the-door control-in told left Bytes call-exact still-bytes pairs call-made l ys

@@ -15,7 +15,7 @@ pub record Refused (image memory : List ℕ) (a : Access) : Type 0 where
   pub image-kept : call-image image memory a ≡ image
   pub memory-kept : call-memory image memory a ≡ memory
 
--- Every call with another number than 0 is refused so.
+-- With another number than 0 the answer is 65,536 times that number, and every byte of image and memory stays.
 pub refuses : (image memory : List ℕ) (a : Access) → call-number image memory a ≢ 0 → Refused image memory a
 unfolding packed call-tells call-image call-memory
 refuses image memory a n =

@@ -81,7 +81,7 @@ module _ (m n : List ℕ) where
 
 -- ---- a call
 module _ (image memory : List ℕ) (s : AreBytes image) (t : AreBytes memory) where
-  -- No byte changes but those of the word that the pointer names.
+  -- A call changes no byte of memory but the two of the pointer's word.
   pub others-kept : (a : Access) (k : ℕ) → k / 2 ≢ word-at (registers-of image .pointer) .0 →
       byte (call-memory image memory a) k ≡ byte memory k
   others-kept a k d =
@@ -94,7 +94,7 @@ module _ (image memory : List ℕ) (s : AreBytes image) (t : AreBytes memory) wh
       ap (λ (b : List ℕ). byte b k) (bytes-of-words memory (f .even-memory) t))
       (either-way (misfit image memory))
 
-  -- A read changes no byte.
+  -- A read changes no byte of memory.
   pub read-keeps-bytes : (register lanes : ℕ) → call-memory image memory (Read register lanes) ≡ memory
   read-keeps-bytes register lanes =
       ⊎-elim

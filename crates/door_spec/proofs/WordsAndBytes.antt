@@ -17,7 +17,7 @@ half k = omega arith
 pub twice : (n : ℕ) → 2 * suc n ≡ suc (suc (2 * n))
 twice n = omega arith
 
--- So does its high byte.
+-- The next word's high byte lies two bytes on too.
 pub twice-one : (n : ℕ) → 2 * suc n + 1 ≡ suc (suc (2 * n + 1))
 twice-one n = omega arith
 
@@ -49,7 +49,7 @@ low-byte-first [] n = refl
 low-byte-first (w ∷ rest) zero = refl
 low-byte-first (w ∷ rest) (suc n) = rw twice (low-byte-first rest n)
 
--- Byte 2 n + 1 is its high byte.
+-- Byte 2 n + 1 is the high byte of word n.
 pub high-byte-second : (m : List ℕ) (n : ℕ) → byte (bytes-of m) (2 * n + 1) ≡ hi (getD m n 0)
 unfolding bytes-of
 high-byte-second [] n = refl

@@ -1,4 +1,4 @@
--- An answer as one number of 64 bits: bits 0-15 the word, 16-23 the number, bit 24 the hollow mark, bits 25-26 the cycle.
+-- An answer as one number of 64 bits (ours): bits 0-15 the word, 16-23 the number, bit 24 the hollow mark, bits 25-26 the cycle.
 --   packed a     the answer as one number
 --   refusing n   what a call refused with number n answers
 use Prim.Native.Nat.{ℕ, _+_, _*_}

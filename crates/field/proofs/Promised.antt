@@ -9,7 +9,7 @@ use Rattle.field.proofs.taking.take_out.Reads as take-out
 use Rattle.field.proofs.taking_signed.take_out_signed.Kinds as take-out-signed-kinds
 use Rattle.field.proofs.taking_signed.take_out_signed.Reads as take-out-signed
 
--- `put_in`: memory, at, size, value.
+-- `put_in` takes any memory, at, size and value, and all that its contract allows is `PutIn` of them.
 pub put-in-contract : Contract put-in-kinds.ps put-in-kinds.r put-in.Pre put-in.Post
     (λ κs args r left.
     let memory = args .0 in
@@ -20,7 +20,7 @@ pub put-in-contract : Contract put-in-kinds.ps put-in-kinds.r put-in.Pre put-in.
     PutIn (memory .now) address size value r (memory′ .now))
 put-in-contract = record { takes-any = λ κs args. tt; says = λ κs args r left p. p }
 
--- `take_out`: memory, at, size.
+-- `take_out` takes any memory, at and size, and all that its contract allows is `taken` of them.
 pub take-out-contract : Contract take-out-kinds.ps take-out-kinds.r take-out.Pre take-out.Post
     (λ κs args r left.
     let memory = args .0 in
@@ -29,7 +29,7 @@ pub take-out-contract : Contract take-out-kinds.ps take-out-kinds.r take-out.Pre
     r ≡ taken (memory .now) address size)
 take-out-contract = record { takes-any = λ κs args. tt; says = λ κs args r left p. p }
 
--- `take_out_signed`: memory, at, size.
+-- `take_out_signed` takes any memory, at and size, and all that its contract allows is `taken-signed` of them.
 pub take-out-signed-contract : Contract take-out-signed-kinds.ps take-out-signed-kinds.r take-out-signed.Pre take-out-signed.Post
     (λ κs args r left.
     let memory = args .0 in

@@ -22,6 +22,7 @@ use Rattle.field.specs.Parts.{Scattered, with-part}
 
 -- ---- the cost of a word
 
+-- Putting in has at most two cycles in a word.
 pub put-little : (whole : Bool) → put-cost whole ≤ 2
 unfolding put-cost
 put-little true = omega arith
@@ -105,6 +106,7 @@ abbrev from : BitAddress → ℕ
 from a = a .0 % 16
 
 module _ (m : List ℕ) (a : BitAddress) (n v : ℕ) (h : Accepted (length m) a n) where
+  -- An accepted field that ends in its first word is put in by one part, its n bits; one cycle if these are all 16, else two.
   pub in-one : from a + n ≤ 16 → Scattered m a n v (put-cost (eqb n 16)) (with-part m (word-at a .0) (from a) n v 0)
   unfolding touched
   in-one l =
@@ -116,6 +118,8 @@ module _ (m : List ℕ) (a : BitAddress) (n v : ℕ) (h : Accepted (length m) a 
         memory = first-part m a v n l (omega arith);
       }
 
+  -- An accepted field that ends in its second word is put in by two parts, the first word's upper bits and the second's lower ones; for
+  -- each, one cycle if it is all 16 bits, else two.
   pub in-two : 16 < from a + n → from a + n ≤ 32
       → Scattered m a n v (put-cost (eqb (16 - from a) 16) + put-cost (eqb (from a + n - 16) 16))
       (with-part (with-part m (word-at a .0) (from a) (16 - from a) v 0) (word-at a .0 + 1) 0 (from a + n - 16) v (16 - from a))
@@ -131,6 +135,8 @@ module _ (m : List ℕ) (a : BitAddress) (n v : ℕ) (h : Accepted (length m) a 
             (first-part m a v (16 - from a) (omega arith) (omega arith)) (omega arith) (omega arith) (omega arith) (omega arith);
       }
 
+  -- An accepted field that ends in its third word is put in by three parts, the first word's upper bits, all of the second and the third's
+  -- lower ones, with five cycles.
   pub in-three : 32 < from a + n
       → Scattered m a n v 5
       (with-part

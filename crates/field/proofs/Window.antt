@@ -22,14 +22,17 @@ use Rattle.field.specs.Parts.{window}
 -- ---- one, two and three words
 
 module _ (m : List ℕ) (i : ℕ) where
+  -- A window of one word is that word.
   pub one-word : window m i 1 ≡ getD m i 0
   unfolding window
   one-word = omega arith
 
+  -- A window of two words is the second at weight 65,536, and the first.
   pub two-words : window m i 2 ≡ getD m (i + 1) 0 * 65536 + getD m i 0
   unfolding window
   two-words = rw (add-one i) (omega arith)
 
+  -- A window of three words is the third at weight 65,536 times 65,536, the second at weight 65,536, and the first.
   pub three-words : window m i 3 ≡ (getD m (i + 2) 0 * 65536 + getD m (i + 1) 0) * 65536 + getD m i 0
   unfolding window
   three-words =
@@ -65,7 +68,7 @@ module _ (m : List ℕ) (h : AreWords m) where
       ∙ ap (λ (j : ℕ). memory-bit m (address j)) f))
       (less-or-not b 16)
 
-  -- The field in the window of the words that it touches.
+  -- The field is the window of the words that it touches, without the bits before it in its first word, modulo 2^n.
   pub field-in-window : (a : BitAddress) (n : ℕ) → field-at m a n ≡ window m (word-at a .0) (touched a n) / 2 ^ (a .0 % 16) % 2 ^ n
   field-in-window a n =
       let o : ℕ = a .0 % 16 in

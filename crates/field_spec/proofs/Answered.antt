@@ -28,7 +28,7 @@ module _ (m : List ℕ) (a : BitAddress) (n : ℕ) where
     unfolding put-answer
     put-done = rw e
 
-    -- It leaves the memory with the field put in.
+    -- Putting one in leaves the memory with the field put in.
     pub memory-done : (v : ℕ) → put-memory m a n v ≡ with-field m a n v
     unfolding put-memory
     memory-done v = rw e
@@ -39,17 +39,17 @@ module _ (m : List ℕ) (a : BitAddress) (n : ℕ) where
     unfolding taken
     taken-refused = rw (ne-eqb _ _ e)
 
-    -- So does taking it out as signed.
+    -- Where the field is refused, taking it out as signed answers the number that applies, and zeros.
     pub signed-refused : taken-signed m a n ≡ record { number = refusal (length m) a n; value = pos 0; cycles = 0 }
     unfolding taken-signed
     signed-refused = rw (ne-eqb _ _ e)
 
-    -- So does putting one in.
+    -- Where the field is refused, putting one in answers the number that applies, and no cycles.
     pub put-refused : put-answer (length m) a n ≡ record { number = refusal (length m) a n; cycles = 0 }
     unfolding put-answer
     put-refused = rw (ne-eqb _ _ e)
 
-    -- It leaves the memory as it stood, whatever the value.
+    -- Where the field is refused, putting one in leaves the memory as it stood, whatever the value.
     pub memory-refused : (v : ℕ) → put-memory m a n v ≡ m
     unfolding put-memory
     memory-refused v = rw (ne-eqb _ _ e)

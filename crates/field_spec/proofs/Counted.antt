@@ -22,12 +22,12 @@ pub no-fourth-word : (a : BitAddress) (n : ℕ) → n ≤ 32 → touched a n ≤
 unfolding touched
 no-fourth-word a n l = omega arith
 
--- The words touched, as the code counts them.
+-- The words touched, as the code counts them: (address mod 16 + n - 1) div 16 + 1, for a field of one bit or more.
 pub touched-is : (a : BitAddress) (n : ℕ) → 1 ≤ n → touched a n ≡ (a .0 % 16 + n - 1) / 16 + 1
 unfolding touched
 touched-is a n l = omega arith
 
--- The last of them.
+-- The number of the last word touched is the first one's plus how many are touched, less one.
 pub last-is : (a : BitAddress) (n : ℕ) → 1 ≤ n → last-word a n .0 ≡ word-at a .0 + touched a n - 1
 unfolding touched
 last-is a n l = omega arith
@@ -57,7 +57,7 @@ module _ (a : BitAddress) (n : ℕ) (w : WordNumber) where
       let e : b / 16 ≡ w .0 = ap (λ (x : WordNumber). x .0) (h .in-word) in
       record { from = omega arith; to = omega arith }
 
-  -- A counted word is exactly one that holds a bit of the field.
+  -- The words counted are exactly those that hold a bit of the field, if that has one bit or more.
   pub counted-when : 1 ≤ n → Counted a n w ↔ Holds a n w
   counted-when s = (counted-holds s, holds-counted)
 

@@ -24,7 +24,7 @@ unfolding put-cost
 one-more true = refl
 one-more false = refl
 
--- It takes one cycle for each grant, and a second one in each word that is partly covered.
+-- Putting in has one cycle for each grant, and a second one in each word that is partly covered.
 pub cycles-of-grants : (a : BitAddress) (n : ℕ) → put-cycles a n ≡ put-grants a n + sum-over (partly a n) (word-at a) (touched a n)
 unfolding put-cycles put-grants
 cycles-of-grants a n =
@@ -35,7 +35,7 @@ at-most-one : (whole : Bool) → cond whole 0 1 ≤ 1
 at-most-one true = omega arith
 at-most-one false = omega arith
 
--- It has at least as many cycles as grants, and at most twice as many.
+-- Putting in has at least as many cycles as grants, and at most twice as many.
 pub grants-bound : (a : BitAddress) (n : ℕ) → (put-grants a n ≤ put-cycles a n) × (put-cycles a n ≤ 2 * put-grants a n)
 unfolding put-grants
 grants-bound a n =

@@ -22,7 +22,8 @@ use Rattle.field_spec.proofs.Accepted.{tested}
 
 -- ---- when, and only then
 
--- v is the number for a memory of so many words, and a field of n bits at a.
+-- v is the number for a memory of so many words, and a field of n bits at a: 1 exactly if there are over 32,768 words, 4 if the size is not
+-- 1 to 32, 5 if more than three words are touched, 6 if some touched word isn't in memory, each exactly if so and none before it; else 0.
 pub record FieldWhen (words : ℕ) (a : BitAddress) (n v : ℕ) : Type 0 where
   pub listed : (v ≤ 6) × (v ≢ 2) × (v ≢ 3)
   pub over : v ≡ 1 ↔ 32768 < words
@@ -31,7 +32,7 @@ pub record FieldWhen (words : ℕ) (a : BitAddress) (n v : ℕ) : Type 0 where
   pub missing : v ≡ 6 ↔ (words ≤ 32768) × (1 ≤ n) × (n ≤ 32) × (touched a n ≤ 3) × Missing words a n
   pub done : v ≡ 0 ↔ (words ≤ 32768) × (1 ≤ n) × (n ≤ 32) × (touched a n ≤ 3) × (Missing words a n → ⊥)
 
--- The number that applies is one of 0, 1, 4, 5 and 6, each when, and only then.
+-- The number that applies is one of 0, 1, 4, 5 and 6, each when, and only then (`FieldWhen`).
 pub when : (words : ℕ) (a : BitAddress) (n : ℕ) → FieldWhen words a n (refusal words a n)
 when words a n =
     let t = tested words a n in
@@ -75,32 +76,33 @@ module _ (m : List ℕ) (a : BitAddress) (n : ℕ) where
   pub put-number : put-answer (length m) a n .number ≡ refusal (length m) a n
   put-number = answer-number (λ (r : Put). r .number) _ (put-done m a n) refl (put-refused m a n) refl
 
-  -- The number of every call is one of 0, 1, 4, 5 and 6, each when, and only then.
+  -- Of all three calls the number is 0, 1, 4, 5 or 6, each exactly if its condition holds and none of those tested before it; 6 says that
+  -- some touched word isn't in memory (`FieldWhen`).
   pub numbered : FieldWhen (length m) a n (taken m a n .number) × FieldWhen (length m) a n (taken-signed m a n .number)
       × FieldWhen (length m) a n (put-answer (length m) a n .number)
   numbered = (rw taken-number (when (length m) a n), rw signed-number (when (length m) a n), rw put-number (when (length m) a n))
 
-  -- A taking out that answers another number than 0 answers zeros beside it.
+  -- A taking out that answers another number than 0 answers value 0 and no cycles.
   pub refused-taking : taken m a n .number ≢ 0 → (taken m a n .value ≡ 0) × (taken m a n .cycles ≡ 0)
   refused-taking d =
       let e = taken-refused m a n (λ q. d (taken-number ∙ q)) in
       (ap (λ (r : Taken). r .value) e, ap (λ (r : Taken). r .cycles) e)
 
-  -- So does one as signed.
+  -- A taking out as signed that answers another number than 0 answers value 0 and no cycles.
   pub refused-signed : taken-signed m a n .number ≢ 0 → (taken-signed m a n .value ≡ pos 0) × (taken-signed m a n .cycles ≡ 0)
   refused-signed d =
       let e = signed-refused m a n (λ q. d (signed-number ∙ q)) in
       (ap (λ (r : SignedTaken). r .value) e, ap (λ (r : SignedTaken). r .cycles) e)
 
-  -- So does a putting in, and it leaves the memory as it stood, whatever the value.
+  -- A putting in that answers another number than 0 has no cycles, and leaves the memory as it stood, whatever the value.
   pub refused-put : put-answer (length m) a n .number ≢ 0
       → (put-answer (length m) a n .cycles ≡ 0) × ((v : ℕ) → put-memory m a n v ≡ m)
   refused-put d =
       let e : refusal (length m) a n ≢ 0 = λ q. d (put-number ∙ q) in
       (ap (λ (r : Put). r .cycles) (put-refused m a n e), memory-refused m a n e)
 
--- No memory reaches bit address 2^19. So a field near the end of the addresses misses memory with its first bit already, and
--- whether its last bits would wrap can't be seen.
+-- A field of one bit or more from bit address 2^19 on misses any memory of 32,768 words or fewer. So near the end of the addresses it does
+-- so with its first bit already, and whether its last bits would wrap can't be seen.
 pub far-away : (words : ℕ) (a : BitAddress) (n : ℕ) → words ≤ 32768 → 2 ^ 19 ≤ a .0 → 1 ≤ n → Missing words a n
 far-away words a n f h s =
     record {

@@ -72,7 +72,7 @@ module _ (w i : ℕ) where
   pub bit-kept : (v : Bool) (j : ℕ) → j ≢ i → bit (with-bit w i v) j ≡ bit w j
   bit-kept v j n = ⊎-elim (lower-bit v j) (λ l. upper-bit v j (omega (arith, l, n))) (less-or-not j i)
 
-  -- Made what it is, nothing changes.
+  -- A bit made what it is changes nothing.
   pub bit-as-it-is : with-bit w i (bit w i) ≡ w
   unfolding with-bit
   bit-as-it-is = sym (split-at-bit w i)

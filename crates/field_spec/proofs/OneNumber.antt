@@ -20,7 +20,7 @@ use Rattle.field_spec.proofs.Readings.{bit-in, field-from-bits}
 no-bit : (i : ℕ) → bit 0 i ≡ false
 no-bit i = bit-above 0 {w = 0} {i = i} (omega arith) (omega arith)
 
--- Bit b of that number is memory bit b.
+-- Bit b of the memory as one number is memory bit b.
 pub number-bit : (m : List ℕ) (b : ℕ) → AreWords m → bit (number-of m) b ≡ memory-bit m (address b)
 unfolding number-of memory-bit
 number-bit [] b h = no-bit b ∙ sym (no-bit (b % 16))
@@ -39,7 +39,7 @@ number-bit (w ∷ m) b h =
     ∙ sym (bit-in (w ∷ m) (address b) (suc (c / 16)) (c % 16) (omega (arith, l)) (omega arith))))
     (less-or-not b 16)
 
--- The field is that number without its a low bits, modulo 2^n.
+-- With memory as one number, first word lowest, the field is that number without its a low bits, modulo 2^n.
 pub field-of-number : (m : List ℕ) (a : BitAddress) (n : ℕ) → AreWords m → field-at m a n ≡ number-of m / 2 ^ a .0 % 2 ^ n
 field-of-number m a n h =
     field-from-bits m a n (number-of m / 2 ^ a .0)

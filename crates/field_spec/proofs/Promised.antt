@@ -20,23 +20,23 @@ use Rattle.field_spec.proofs.RoundTrips.{put-after-taken, put-modulo}
 use Rattle.field_spec.proofs.AfterPut.{then-bit, then-elsewhere, then-as-it-stood}
 
 module _ {m m′ : List ℕ} {a : BitAddress} {n v : ℕ} {r : Put} (p : PutIn m a n v r m′) where
-  -- It answers one of 0, 1, 4, 5 and 6, each when, and only then.
+  -- Putting in answers one of 0, 1, 4, 5 and 6, each when, and only then (`FieldWhen`).
   pub put-returns-number : FieldWhen (length m) a n (r .number)
   put-returns-number = rw (p .answer) (numbered m a n .2)
 
-  -- Refused, it counts no cycle and leaves the memory.
+  -- Refused, putting in counts no cycle and leaves the memory.
   pub refused-call : r .number ≢ 0 → (r .cycles ≡ 0) × (m′ ≡ m)
   refused-call = then-as-it-stood p
 
   -- a putting in that is done
   module _ (z : r .number ≡ 0) where
-    -- It counts one cycle for each word wholly covered, and two for each word partly covered.
+    -- Done, it counts one cycle for each word wholly covered, and two for each word partly covered.
     pub counts-cycles : r .cycles ≡ put-cycles a n
     counts-cycles =
         ap (λ (s : Put). s .cycles)
         (p .answer ∙ put-done m a n (sym (ap (λ (s : Put). s .number) (p .answer) ∙ put-number m a n) ∙ z))
 
-    -- Of the memory after it, bit address + i is the value's bit i for each bit of the field, and every other bit is as it was.
+    -- Done, of the memory after it bit address + i is the value's bit i for each bit of the field, and every other bit is as it was.
     pub leaves-each-bit :
         ((i : ℕ) → i < n → memory-bit m′ (address (a .0 + i)) ≡ bit v i)
         × ((b : BitAddress) → (Covers a n b → ⊥) → memory-bit m′ b ≡ memory-bit m b)

@@ -98,7 +98,7 @@ field-bit m a (suc n) i l =
     ∙ ap (λ (x : ℕ). bit x i) (rest-is n f (field-fits m a n) t) ∙ field-bit m a n i k)
     (same-or-not i n))
 
--- It has no bit beyond its size.
+-- A field has no bit beyond its size.
 pub field-bit-beyond : (m : List ℕ) (a : BitAddress) (n i : ℕ) → n ≤ i → bit (field-at m a n) i ≡ false
 field-bit-beyond m a n i l = bit-above n (field-fits m a n) l
 
@@ -122,7 +122,7 @@ unfolding with-field
 put-length m a zero v = refl
 put-length m a (suc n) v = set-length (with-field m a n v) (bits-after a n) _ ∙ put-length m a n v
 
--- Memory bit address + i becomes the value's bit i.
+-- Where its word is in memory, memory bit address + i becomes the value's bit i.
 pub put-bit : (m : List ℕ) (a : BitAddress) (n v i : ℕ) → i < n → word-at (address (a .0 + i)) .0 < length m
     → memory-bit (with-field m a n v) (address (a .0 + i)) ≡ bit v i
 unfolding with-field

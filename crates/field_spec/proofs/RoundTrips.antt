@@ -43,14 +43,14 @@ put-as-it-is m a (suc n) v h =
 -- ---- of the answers
 
 module _ (m : List ℕ) (a : BitAddress) (n : ℕ) where
-  -- What was put in is taken out, modulo 2^size.
+  -- What was put in, and accepted, is taken out again, modulo 2^size.
   pub taken-after-put : (v : ℕ) → refusal (length m) a n ≡ 0
       → taken (put-memory m a n v) a n ≡ record { number = 0; value = v % 2 ^ n; cycles = take-cycles a n }
   taken-after-put v e =
       let p = put-length m a n v in
       rw (memory-done m a n e v, taken-done (with-field m a n v) a n (rw p e), take-put m a n v (none-applies _ _ _ e .there))
 
-  -- Taken out signed, it is the signed reading of that.
+  -- Taken out as signed, it is the signed reading of that.
   pub signed-after-put : (v : ℕ) → refusal (length m) a n ≡ 0
       → taken-signed (put-memory m a n v) a n ≡ record { number = 0; value = signed n (v % 2 ^ n); cycles = take-cycles a n }
   signed-after-put v e =
@@ -65,7 +65,7 @@ module _ (m : List ℕ) (a : BitAddress) (n : ℕ) where
       (λ d. memory-refused m a n d (taken m a n .value))
       (same-or-not (refusal (length m) a n) 0)
 
-  -- Nor does what was taken out signed, given back as the 32 bits that it has.
+  -- What was taken out as signed, put in again as the 32 bits that it has, changes nothing; nor does a refused call.
   pub put-after-signed : put-memory m a n (same-bits (taken-signed m a n .value)) ≡ m
   put-after-signed =
       ⊎-elim

@@ -21,7 +21,7 @@ use Rattle.field_spec.specs.InPlainWords.{InRange, at-least-zero, below-
 pub top-clear : (n x : ℕ) → x < 2 ^ (n - 1) → bit x (n - 1) ≡ false
 top-clear n x h = bit-above (n - 1) h (omega arith)
 
--- Twice the top bit's weight.
+-- 2^n is twice the top bit's weight.
 pub twice : (n : ℕ) → 1 ≤ n → 2 ^ n ≡ 2 * 2 ^ (n - 1)
 twice n s =
     let e : n ≡ suc (n - 1) = omega arith in
@@ -46,12 +46,12 @@ less-larger : (x k : ℕ) → x < k → pos x -ℤ pos k ≡ negsuc (k - suc x)
 less-larger x zero h = absurd (omega arith)
 less-larger x (suc k) h = rw (lt-ltb x (suc k) h)
 
--- Below half of 2^n a field reads as itself.
+-- Below 2^(n - 1) the signed reading of a field is the field.
 pub reads-low : (n x : ℕ) → x < 2 ^ (n - 1) → signed n x ≡ pos x
 unfolding signed
 reads-low n x h = rw (top-clear n x h)
 
--- From there on it reads as the negative number that lies 2^n below it.
+-- From 2^(n - 1) on the signed reading of a field is the field less 2^n.
 pub reads-high : (n x : ℕ) → 1 ≤ n → x < 2 ^ n → 2 ^ (n - 1) ≤ x → signed n x ≡ negsuc (2 ^ n - suc x)
 unfolding signed
 reads-high n x s l h = rw (top-set n x s l h) (less-larger x (2 ^ n) l)

@@ -22,7 +22,7 @@ module _ (f : WordNumber → ℕ) (w : WordNumber) where
   unfolding sum-over
   sum-of-one = rw (add-zero (w .0), zero-add (f w))
 
-  -- Two sums over the same words, added up.
+  -- Two sums over the same words add up to the sum of both.
   pub sum-of-sums : (g : WordNumber → ℕ) (k : ℕ) → sum-over (λ v. f v + g v) w k ≡ sum-over f w k + sum-over g w k
   unfolding sum-over
   sum-of-sums g zero = refl

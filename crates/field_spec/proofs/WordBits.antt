@@ -51,12 +51,12 @@ module _ (w o n b : ℕ) (h : b < 2 ^ n) where
       subst (λ (j : ℕ). w / 2 ^ (o + n) * 2 ^ (o + n) + (b * 2 ^ o + w % 2 ^ o) < j)
       (sym (pow-add 2 (k - (o + n)) (o + n)) ∙ ap (λ (j : ℕ). 2 ^ j) (sym e)) (digits-lt q below-top))
 
--- No bits replaced.
+-- With no bits replaced the word stays.
 pub no-bits : (w o : ℕ) → with-bits w o 0 0 ≡ w
 unfolding with-bits
 no-bits w o = rw (add-zero o) (omega (arith, split w o))
 
--- One bit more of v replaced.
+-- n bits of v replaced, and then one bit more, are n + 1 bits of v replaced.
 pub next-bit : (w o n v : ℕ) → with-bit (with-bits w o n (v % 2 ^ n)) (o + n) (bit v n) ≡ with-bits w o (n + 1) (v % 2 ^ (n + 1))
 unfolding with-bit
 next-bit w o n v =

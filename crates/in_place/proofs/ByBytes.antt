@@ -33,7 +33,7 @@ by-words : {s t : Machine} (l : List Sixteen) {xs : List Answer} → Day s (whol
 by-words [] over = no-word
 by-words (a ∷ l) (next e d) = a-word a e (by-words l d)
 
--- A day by bytes leaves the record and the memory that the day by words leaves, and tells what it tells, access by access.
+-- A day by bytes leaves the record and the memory that the day by words leaves, and each pair of answers adds up to the word's.
 pub days-alike : {s t u : Machine} (l : List Sixteen) {xs : List Answer} {ps : List (Answer × Answer)} →
     Day s (wholes l) xs t → ByteDay s l ps u → AllAddUp ps xs × (u .registers ≡ t .registers) × (u .memory ≡ t .memory)
 days-alike l w b =

@@ -59,15 +59,15 @@ module _ {M : Type 1} {𝓤 : URA M} {H : Heap 𝓤} {A : Atoms 𝓤} (W : Given
   pub registers-fit : (r : Registers) {v : Val} → IsRegisters r v → T (hasTy registers′.mir v) × WT v
   registers-fit r {v} is = Struct.lawful registers.the-type registers′.the-laws 𝓤 H A W .typed r (v ∷ []) is .0
 
-  -- So does one that stands for an access.
+  -- A machine value that stands for an access fits a local of that type.
   pub access-fits : (a : Access) {v : Val} → IsAccess a v → T (hasTy access′.mir v) × WT v
   access-fits a {v} is = Enum.lawful access.the-type access′.the-laws 𝓤 H A W tt .typed a (v ∷ []) is .0
 
-  -- So does one that stands for an answer.
+  -- A machine value that stands for an answer fits a local of that type.
   pub answer-fits : (x : Answer) {v : Val} → IsAnswer x v → T (hasTy answer′.mir v) × WT v
   answer-fits x {v} is = Struct.lawful answer.the-type answer′.the-laws 𝓤 H A W .typed x (v ∷ []) is .0
 
-  -- So does one that stands for an outcome.
+  -- A machine value that stands for an outcome fits a local of that type.
   pub outcome-fits : (o : Outcome) {v : Val} → IsOutcome o v → T (hasTy outcome′.mir v) × WT v
   outcome-fits o {v} is = Struct.lawful outcome.the-type outcome′.the-laws 𝓤 H A W .typed o (v ∷ []) is .0
 
@@ -78,17 +78,17 @@ module _ {M : Type 1} {𝓤 : URA M} {H : Heap 𝓤} {A : Atoms 𝓤} {K : Type 
   have-registers t r {v} is =
       owned t registers.the-row (Is registers.the-row) (Struct.makes registers.the-type registers′.the-plain 𝓤 H A) r (v ∷ []) is
 
-  -- So may what an access owns.
+  -- What an access owns may be taken as had, in a machine value that stands for it.
   pub have-access : K → (a : Access) {v : Val} → IsAccess a v → Step K W (‵ (access.the-row .own a (v ∷ [])) ∷ Γ) G Γ G
   have-access t a {v} is =
       owned t access.the-row (Is access.the-row) (Enum.makes access.the-type access′.the-plain 𝓤 H A) a (v ∷ []) is
 
-  -- So may what an answer owns.
+  -- What an answer owns may be taken as had, in a machine value that stands for it.
   pub have-answer : K → (x : Answer) {v : Val} → IsAnswer x v → Step K W (‵ (answer.the-row .own x (v ∷ [])) ∷ Γ) G Γ G
   have-answer t x {v} is =
       owned t answer.the-row (Is answer.the-row) (Struct.makes answer.the-type answer′.the-plain 𝓤 H A) x (v ∷ []) is
 
-  -- So may what an outcome owns.
+  -- What an outcome owns may be taken as had, in a machine value that stands for it.
   pub have-outcome : K → (o : Outcome) {v : Val} → IsOutcome o v → Step K W (‵ (outcome.the-row .own o (v ∷ [])) ∷ Γ) G Γ G
   have-outcome t o {v} is =
       owned t outcome.the-row (Is outcome.the-row) (Struct.makes outcome.the-type outcome′.the-plain 𝓤 H A) o (v ∷ []) is
@@ -98,12 +98,12 @@ module _ {M : Type 1} {𝓤 : URA M} {H : Heap 𝓤} {A : Atoms 𝓤} {K : Type 
       Seq K W (‵ (registers.the-row .own r (v ∷ [])) ∷ Γ) G
   tell-registers t r v = facts t registers.the-row (Is registers.the-row) (shows 𝓤 H A registers.the-row) r (v ∷ [])
 
-  -- So may what an answer owns.
+  -- What an answer owns may be let go for the fact that the machine value stands for it.
   pub tell-answer : K → (x : Answer) (v : Val) → (IsAnswer x v → Seq K W Γ G) →
       Seq K W (‵ (answer.the-row .own x (v ∷ [])) ∷ Γ) G
   tell-answer t x v = facts t answer.the-row (Is answer.the-row) (shows 𝓤 H A answer.the-row) x (v ∷ [])
 
-  -- So may what an outcome owns.
+  -- What an outcome owns may be let go for the fact that the machine value stands for it.
   pub tell-outcome : K → (o : Outcome) (v : Val) → (IsOutcome o v → Seq K W Γ G) →
       Seq K W (‵ (outcome.the-row .own o (v ∷ [])) ∷ Γ) G
   tell-outcome t o v = facts t outcome.the-row (Is outcome.the-row) (shows 𝓤 H A outcome.the-row) o (v ∷ [])

@@ -1,7 +1,6 @@
 -- What the contract of an access in place promises, said of any outcome that `AccessedInPlace` allows, with the call's own record, memory
 -- and access: the number when, and only then; what a refusal answers and leaves; that it is the access by value. `ByBytes` says demand 3
 -- of it, `WholeDay` what a day of such calls comes to. Last, what the contracts of both functions say.
---   Untouched   zeros, and all that was lent as it stood
 use Prim.Native.Nat.{ℕ}
 use mathlib.Core.Path.{_≡_, refl, sym, ap, subst, _∙_}
 use mathlib.Core.Bool.{false}
@@ -32,6 +31,7 @@ use Rattle.in_place.proofs.host_access_in_place as in-place
 use Rattle.in_place.proofs.host_access_by_lending.Kinds as lending-kinds
 use Rattle.in_place.proofs.host_access_by_lending.Reads as lending
 
+-- an answer of zeros, and the record and the memory as they stood
 pub record Untouched (r : Registers) (m : List ℕ) (x : Answer) (r′ : Registers) (m′ : List ℕ) : Type 0 where
   pub word : x .word ≡ 0
   pub hollow : x .hollow ≡ false
@@ -40,7 +40,7 @@ pub record Untouched (r : Registers) (m : List ℕ) (x : Answer) (r′ : Registe
   pub memory : m′ ≡ m
 
 module _ {r r′ : Registers} {m m′ : List ℕ} {a : Access} {x : Answer} (e : AccessedInPlace r m a x r′ m′) where
-  -- An access in place is numbered 0 to 3, each when, and only then.
+  -- An access in place is numbered 0 to 3, each when, and only then, as the access by value (`AccessWhen`).
   pub numbered-in-place : AccessWhen (length m) (register-of a) (lanes-of a) (x .number)
   numbered-in-place =
       subst (λ (y : Answer). AccessWhen (length m) (register-of a) (lanes-of a) (y .number)) (sym (e .answer)) (numbered r m a)
@@ -74,7 +74,7 @@ pub answered : {s u : Machine} {a : Access} {x : Answer} →
 unfolding answer-of
 answered e = e .answer
 
--- It leaves the machine that comes after it.
+-- An access in place leaves the machine that comes after it.
 pub left : {s u : Machine} {a : Access} {x : Answer} →
     AccessedInPlace (s .registers) (s .memory) a x (u .registers) (u .memory) → u ≡ after s a
 unfolding after
@@ -90,8 +90,8 @@ can-be-done s a = record { answer = refl; registers = refl; memory = refl }
 
 -- ---- the contracts themselves: what the check makes of a function's `ensures`, its arguments named by their places
 
--- In place: the record, the memory, the access. `spec` is the contract that the code is proved to meet, `exits` the kit's word for what
--- holds of the parameters at exit.
+-- `host_access_in_place`: the contract that the code is proved to meet (`spec`) says `AccessedInPlace` of the function's own record, memory
+-- and access, each in its place. `exits` is the kit's word for what holds of the parameters at exit.
 pub in-place-says : {M : Type 1} (𝓤 : URA M) (H : Heap 𝓤) (A : Atoms 𝓤) (at-mem : Memory → SProp 𝓤) (run : Routine → Fun 𝓤)
     (κs : Lfts 2) (a : Args in-place.signature κs) (x : Answer) →
     in-place.spec 𝓤 H A at-mem run κs a .ensures tt x ≡
@@ -99,12 +99,12 @@ pub in-place-says : {M : Type 1} (𝓤 : URA M) (H : Heap 𝓤) (A : Atoms 𝓤)
     (λ s. fact 𝓤 (AccessedInPlace (a .0 .now) (a .1 .0 .now) (a .1 .1 .0) x (s .0 .now) (s .1 .0 .now)))
 in-place-says 𝓤 H A at-mem run κs a x = refl
 
--- It asks nothing of its caller.
+-- That contract asks nothing of the caller.
 pub in-place-asks-nothing : {M : Type 1} (𝓤 : URA M) (H : Heap 𝓤) (A : Atoms 𝓤) (at-mem : Memory → SProp 𝓤) (run : Routine → Fun 𝓤)
     (κs : Lfts 2) (a : Args in-place.signature κs) → in-place.spec 𝓤 H A at-mem run κs a .requires tt ≡ emp 𝓤
 in-place-asks-nothing 𝓤 H A at-mem run κs a = refl
 
--- `host_access_by_lending`: r, memory, a.
+-- `host_access_by_lending` takes any r, memory and a, and all that its contract allows is `Accessed` of them.
 pub host-access-by-lending-contract : Contract lending-kinds.ps lending-kinds.r lending.Pre lending.Post
     (λ κs args o left.
     let r = args .0 in

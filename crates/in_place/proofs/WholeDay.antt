@@ -28,7 +28,7 @@ unfolding day-answers day-ends
 every-day s [] = over
 every-day s (a ∷ l) = next (can-be-done s a) (every-day (after s a) l)
 
--- So a day has one outcome.
+-- A day has one outcome.
 pub one-day : {s t u : Machine} {l : List Access} {xs ys : List Answer} → Day s l xs t → Day s l ys u → (xs ≡ ys) × (t ≡ u)
 one-day d e =
     let p = day-by-value d in
@@ -47,7 +47,8 @@ unfolding day-ends ends
 wholes-end s [] = refl
 wholes-end s (a ∷ l) = wholes-end (after s (on 3 a)) l
 
--- Sixteen-bit accesses, each done whole, are a sequence of `Runs`: what port's laws say of its answers and of its end holds of the day.
+-- A day of sixteen-bit accesses, each done whole, answers and ends as that sequence does by value (`answers`, `ends`): what port_spec's
+-- laws say of its answers and of its end holds of the day.
 pub whole-day : {s t : Machine} {xs : List Answer} (l : List Sixteen) → Day s (wholes l) xs t → (xs ≡ answers s l) × (t ≡ ends s l)
 whole-day {s} l d =
     let p = day-by-value d in
@@ -58,6 +59,7 @@ unfolding day-ends ran does
 ran-by-host s [] = refl
 ran-by-host s (a ∷ l) = ran-by-host (after s a) l
 
--- Accesses of any kind are a run of deeds of the host: what the keeper's law says of HSTDATA after a run holds after the day.
+-- A day of accesses of any kind ends where the run of these deeds of the host ends: what the keeper's law says of HSTDATA after a run holds
+-- after the day.
 pub day-of-deeds : {s t : Machine} {l : List Access} {xs : List Answer} → Day s l xs t → t ≡ ran s (by-host l)
 day-of-deeds {s} {t} {l} d = day-by-value d .1 ∙ ran-by-host s l

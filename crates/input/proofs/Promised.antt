@@ -35,7 +35,7 @@ module _ {b : List ℕ} {held : ℕ} {r : Filled} {b′ : List ℕ} (p : FilledB
       (e .1, ap (λ (x : Filled). x .all) (e .0), ap (λ (x : Filled). x .failed) (e .0))
 
 -- ---- the contracts themselves
--- `fill`: buffer, held.
+-- `fill` takes any buffer and held, and all that its contract allows is `FilledBehind` of them.
 pub fill-contract : Contract fill-kinds.ps fill-kinds.r fill.Pre fill.Post
     (λ κs args r left.
     let buffer = args .0 in
@@ -44,7 +44,7 @@ pub fill-contract : Contract fill-kinds.ps fill-kinds.r fill.Pre fill.Post
     FilledBehind (buffer .now) held r (buffer′ .now))
 fill-contract = record { takes-any = λ κs args. tt; says = λ κs args r left p. p }
 
--- `read_record`: bytes.
+-- `read_record` takes any bytes, and all that its contract allows is that there are as many afterwards, whatever they are.
 pub read-record-contract : Contract read-record-kinds.ps read-record-kinds.r read-record.Pre read-record.Post
     (λ κs args r left.
     let bytes = args .0 in
@@ -52,7 +52,7 @@ pub read-record-contract : Contract read-record-kinds.ps read-record-kinds.r rea
     length (bytes′ .now) ≡ length (bytes .now))
 read-record-contract = record { takes-any = λ κs args. tt; says = λ κs args r left p. p }
 
--- `places_lent`: b, places.
+-- `places_lent` takes any b and places, and all that its contract allows is the smaller (`min`).
 pub places-lent-contract : Contract places-lent-kinds.ps places-lent-kinds.r places-lent.Pre places-lent.Post
     (λ κs args r left.
     let b = args .0 in

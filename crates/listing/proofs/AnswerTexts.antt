@@ -10,26 +10,26 @@ use Rattle.port_spec.specs.declared.Cycle.{Cycle}
 use Rattle.port_spec.specs.declared.Cycle.the-variants.{None, Inside, Empty}
 use Rattle.listing.specs.Answer.{number-text, shows-mark, mark-text, cycle-text, answer-text}
 
--- The number and the word take 6 bytes,
+-- The number and the word of an answer take 6 bytes.
 pub head-length : (number w : ℕ) → length (number-text number w) ≡ 6
 unfolding number-text
 head-length number w = refl
 
--- the mark at most 8,
+-- Its mark takes at most 8 bytes.
 pub mark-length : (shown hollow : Bool) → length (mark-text shown hollow) ≤ 8
 unfolding mark-text
 mark-length true true = omega arith
 mark-length true false = omega arith
 mark-length false hollow = omega arith
 
--- the cycle at most 6,
+-- Its cycle takes at most 6 bytes.
 pub cycle-length : (x : Cycle) → length (cycle-text x) ≤ 6
 unfolding cycle-text
 cycle-length None = omega arith
 cycle-length Inside = omega arith
 cycle-length Empty = omega arith
 
--- and the whole line at most 20.
+-- The whole line of an answer takes at most 20 bytes.
 pub answer-length : (a : Access) (x : Answer) → length (answer-text a x) ≤ 20
 unfolding answer-text
 answer-length a x =

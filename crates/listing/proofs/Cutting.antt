@@ -56,6 +56,7 @@ behind-next t n x b =
     behind-if t n (x .ended) x (cond (eqb b 10) ends goes) refl
     (behind-if t n (eqb b 10) ends goes (behind-line t n x (line-of (x .begun))) last)
 
+-- A text lists alike behind what was printed and used before, which stays in front.
 pub behind-all : (t : List ℕ) (n : ℕ) (x : Listing) (v : List ℕ) → listing (behind t n x) v ≡ behind t n (listing x v)
 unfolding listing
 behind-all t n x [] = refl
@@ -69,6 +70,8 @@ pub record Place (t : List ℕ) (used : ℕ) (begun : List ℕ) : Type 0 where
   pub size : length lines ≡ used
   pub is : t ≡ lines ++ begun
 
+-- how far the listing x of a text t has come: the bytes used and those begun are all of it, unless a bad line ended it; what is begun has
+-- no line feed and at most 31 bytes, and is nothing after a bad line
 pub record Come (x : Listing) (t : List ℕ) : Type 0 where
   pub place : x .ended ≡ false → Place t (x .used) (x .begun)
   pub most : x .used ≤ length t
@@ -193,7 +196,7 @@ begun-is s t e =
 
 -- ---- the cut
 
--- A text lists as its first part, with the second behind what is left of a line.
+-- Unless a bad line ended its first part, a text lists as that part, with the second behind what the first left of a line.
 pub cut : (s : Machine) (u v : List ℕ) → let x = listing (start s) u in x .ended ≡ false →
     listing (start s) (u ++ v) ≡ behind (x .text) (x .used) (listing (start (x .machine)) (x .begun ++ v))
 cut s u v e =

@@ -49,7 +49,7 @@ output =
     48 ∷ 32 ∷ 48 ∷ 48 ∷ 48 ∷ 48 ∷ 32 ∷ 104 ∷ 101 ∷ 108 ∷ 100 ∷ 32 ∷ 105 ∷ 110 ∷ 10 ∷
     []
 
--- "Whole output (number, word, hollow or held, cycle)"
+-- Document 01's listing prints its "Whole output (number, word, hollow or held, cycle)".
 pub document-listing : printed (woken (0 ∷ 0 ∷ [])) input ≡ output
 unfolding
     listing next line-of headed tailed is-decimal value-of digit-for number-text shows-mark mark-text cycle-text answer-text
@@ -101,7 +101,8 @@ more-output =
     98 ∷ 97 ∷ 100 ∷ 32 ∷ 108 ∷ 105 ∷ 110 ∷ 101 ∷ 10 ∷
     []
 
--- In a memory of one word, 1234h: the last word is held, and what is fetched behind it is hollow.
+-- A second listing, in a memory of one word, 1234h, with a hollow word, the end of memory, where the last word is held and what is fetched
+-- behind it hollow, refusals and a bad line.
 pub second-listing : printed (woken (0x1234 ∷ [])) more-input ≡ more-output
 unfolding
     listing next line-of headed tailed is-decimal value-of digit-for number-text shows-mark mark-text cycle-text answer-text

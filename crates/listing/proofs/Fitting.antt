@@ -23,10 +23,11 @@ taken-is n l = go (less-or-not n (length l))
         ap (λ (k : ℕ). take k l) e
     go (inr h) = take-all (min n (length l)) l (omega (arith, h)) ∙ sym (take-all n l h)
 
--- The room that they surely have.
+-- The bytes of a piece that are listed need no more room than there is, at 10 bytes for each 3 and 9 for `bad line`: with `text-fits`, they
+-- surely have room for their answers.
 pub fits : (room : ℕ) → 10 * fitting room ≤ 3 * (room - 9)
 fits room = omega arith
 
--- Three bytes more would not surely have it.
+-- Three bytes more would need more room than that, and not surely have it.
 pub three-more : (room : ℕ) → 3 * (room - 9) < 10 * (fitting room + 3)
 three-more room = omega arith

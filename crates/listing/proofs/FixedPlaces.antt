@@ -11,6 +11,7 @@ use Rattle.digits.specs.Digits.{is-decimal, is-hex}
 use Rattle.listing.specs.Line.{byte, headed, tailed}
 use Rattle.listing.specs.Parts.{reads, writes}
 
+-- the first five bytes of a text: a letter, a space, a decimal digit, a space, a decimal digit
 pub record Head (letter : ℕ) (t : List ℕ) : Type 0 where
   pub first : byte t 0 ≡ letter
   pub space : byte t 1 ≡ 32
@@ -18,6 +19,7 @@ pub record Head (letter : ℕ) (t : List ℕ) : Type 0 where
   pub then : byte t 3 ≡ 32
   pub lanes : is-decimal (byte t 4) ≡ true
 
+-- A text that passes the test for such a beginning has it.
 pub head-is : (letter : ℕ) (t : List ℕ) → headed letter t ≡ true → Head letter t
 unfolding headed
 head-is letter t e =
@@ -37,6 +39,7 @@ head-is letter t e =
       lanes = s .1;
     }
 
+-- the next five bytes of a text: a space and four hex digits
 pub record Tail (t : List ℕ) : Type 0 where
   pub space : byte t 5 ≡ 32
   pub d6 : is-hex (byte t 6) ≡ true
@@ -44,6 +47,7 @@ pub record Tail (t : List ℕ) : Type 0 where
   pub d8 : is-hex (byte t 8) ≡ true
   pub d9 : is-hex (byte t 9) ≡ true
 
+-- A text that passes the test for these five has them.
 pub tail-is : (t : List ℕ) → tailed t ≡ true → Tail t
 unfolding tailed
 tail-is t e =
@@ -62,12 +66,14 @@ second-way : (a b : Bool) → cond a false b ≡ true → (a ≡ false) × (b �
 second-way true b e = (sym e, cc)
 second-way false b e = (refl, e)
 
+-- a text that begins with a good read: 6 bytes or more, `R` and the rest of such a beginning, and a line feed at place 5
 pub record ReadLine (t : List ℕ) : Type 0 where
   pub long : 6 ≤ length t
   pub feed : byte t 5 ≡ 10
   pub headed : headed 82 t ≡ true
   pub head : Head 82 t
 
+-- A text that passes the test for a read begins with one.
 pub read-line : (t : List ℕ) → reads t ≡ true → ReadLine t
 unfolding reads
 read-line t e =
@@ -80,6 +86,7 @@ read-line t e =
       head = head-is 82 t (q .1);
     }
 
+-- a text that begins with a good write: 11 bytes or more, `W` and the rest of such a beginning, the next five, and a line feed at place 10
 pub record WriteLine (t : List ℕ) : Type 0 where
   pub long : 11 ≤ length t
   pub feed : byte t 10 ≡ 10
@@ -88,6 +95,7 @@ pub record WriteLine (t : List ℕ) : Type 0 where
   pub head : Head 87 t
   pub tail : Tail t
 
+-- A text that passes the test for a write begins with one.
 pub write-line : (t : List ℕ) → writes t ≡ true → WriteLine t
 unfolding writes
 write-line t e =

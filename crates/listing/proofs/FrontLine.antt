@@ -137,6 +137,7 @@ write-front u v e h t =
 cut-at : (n : ℕ) (t : List ℕ) → n < length t → byte t n ≡ 10 → t ≡ take n t ++ 10 ∷ drop (suc n) t
 cut-at n t h e = split-at t n 0 h ∙ ap (λ (b : ℕ). take n t ++ b ∷ drop (suc n) t) e
 
+-- A text that passes the test for a read begins with a good line of 6 bytes, and that asks for this read.
 pub reads-front : (t : List ℕ) → reads t ≡ true → front-line t ≡ Good (read-in t) 6
 reads-front t e =
     let l = read-line t e in
@@ -150,6 +151,7 @@ reads-front t e =
     read-front u (drop 6 t) five head ∙
     ap (λ (a : Access). Good a 6) (sym (same-read u w enough) ∙ ap read-in (sym is))
 
+-- A text that passes the test for a write begins with a good line of 11 bytes, and that asks for this write.
 pub writes-front : (t : List ℕ) → writes t ≡ true → front-line t ≡ Good (write-in t) 11
 writes-front t e =
     let l = write-line t e in
@@ -230,7 +232,7 @@ bad-line-there u v r w =
     in
     rw (no-read, no-write) refl
 
--- A text that begins with no good line: bad if it has a line feed or is too long already.
+-- A text that passes neither test begins with a bad line if it has a line feed or is over 31 bytes long, and else with one that may go on.
 pub others-front : (t : List ℕ) → reads t ≡ false → writes t ≡ false → front-line t ≡ other-front t
 unfolding front-line other-front
 others-front t r w = go (either-way (has-feed t))

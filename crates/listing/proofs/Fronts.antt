@@ -72,7 +72,8 @@ module _ (t : List ℕ) where
       (λ e. ⊎-elim (λ k. (_, plain.FrontAs.long-line e k)) (λ k. (_, plain.FrontAs.open-line e k)) (less-or-not 31 (length t)))
       (either-way (has-feed t))
 
-  -- Its numbers are these exactly if the text begins so: with a good line, with a bad one, or with one that may go on.
+  -- The numbers of what `front_line` answers are these exactly if the text begins so: with a good line, with a bad one, or with one that
+  -- may go on (`FrontAs`).
   pub front-exactly : {x : Front} → x ≡ front-line t → (n : FrontNumbers) → front-numbers x ≡ n ↔ FrontAs t n
   front-exactly p n = (
     λ e. subst (FrontAs t) (sym (says (some .0) (some .1)) ∙ ap front-numbers (sym p) ∙ e) (some .1),

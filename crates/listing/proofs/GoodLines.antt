@@ -32,7 +32,7 @@ four-digits w h =
     let g : w / 4096 / 16 ≡ 0 = omega (arith, h) in
     omega (arith, e, f, g)
 
--- Such an access is what its line asks for.
+-- The line of an access whose register and lanes have one digit asks for that access.
 pub says-it : (a : Access) → Sayable a → line-of (line-text a) ≡ good a
 unfolding line-of headed tailed
 says-it (Read register lanes) h =
@@ -152,7 +152,7 @@ spells u = go (either-way (eqb (length u) 5 && headed 82 u)) (either-way (eqb (l
         rw (e, f) (write-spelled u (eqb-true (length u) 10 (p .0)) (head-is 87 u (q .0)) (tail-is u (q .1)))
     go (inr e) (inr f) = rw (e, f) tt
 
--- A good line is the text of what it asks for, and that is sayable.
+-- A good line is the text of the access that it asks for, and the register and lanes of that have one digit.
 pub only-it : (u : List ℕ) (a : Access) → line-of u ≡ good a → (u ≡ line-text a) × Sayable a
 only-it u a e = subst (Spells u) e (spells u)
 
@@ -164,6 +164,7 @@ plain-digit n = ne-eqb (48 + n) 10 (λ g. absurd (omega (arith, g)))
 plain-hex : (n : ℕ) → eqb (digit-for n) 10 ≡ false
 plain-hex n = ne-eqb (digit-for n) 10 (hex-apart (digit-for n) (digit-is-hex n))
 
+-- No byte of the line of an access is a line feed.
 pub no-feed-in : (a : Access) → No-feed (line-text a)
 unfolding has-feed
 no-feed-in (Read register lanes) = rw (plain-digit register, plain-digit lanes) refl

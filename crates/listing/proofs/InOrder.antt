@@ -16,7 +16,7 @@ use Rattle.listing.proofs.GoodLines.{says-it, no-feed-in}
 use Rattle.listing.proofs.LineByLine.{between, whole-good, good-size}
 use Rattle.listing.proofs.Cutting.{behind-all, come}
 
--- A good line prints its answer, and then what follows it prints.
+-- A good line prints its answer, and then what follows it prints, from where its access left the port.
 pub line-then : (s : Machine) (a : Access) (v : List ℕ) → Sayable a →
     printed s (line-text a ++ 10 ∷ v) ≡ answer-text a (answer-of s a) ++ printed (after s a) v
 line-then s a v h =

@@ -47,7 +47,7 @@ turns (piece ∷ rest) s left h k =
     one-turn s u (flatten rest) ∙
     ap (λ (t : List ℕ). printed s t) (append-assoc left piece (flatten rest))
 
--- The program prints the same, however its input comes.
+-- An input in any number of pieces, listed one after the other as the program reads them, prints the same as the whole.
 pub in-pieces : (s : Machine) (pieces : List (List ℕ)) → in-turns s [] pieces ≡ printed s (flatten pieces)
 unfolding has-feed
 in-pieces s pieces = turns pieces s [] refl (omega arith)

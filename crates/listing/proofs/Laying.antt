@@ -10,7 +10,7 @@ use borrow.Rule.Slice.PartMut.{putMid, postOf}
 use Rattle.listing.specs.Listing.{with-text}
 use Rattle.listing.specs.Parts.{laid, Put}
 
--- The output is as long as it was.
+-- A text laid into the output leaves it as long as it was.
 pub laid-length : (o : List ℕ) (at : ℕ) (t : List ℕ) → at + length t ≤ length o → length (laid o at t) ≡ length o
 laid-length o at t h = simp (length-append, length-take, length-drop) (omega arith)
 
@@ -82,6 +82,7 @@ copied-in o at t ys h e =
     (take-length t)) ∙
     ap (λ (x : List ℕ). take at o ++ (t ++ x)) behind
 
+-- A text put into the output leaves it as long as it was.
 pub put-length : {o o′ t : List ℕ} {at e : ℕ} → at + length t ≤ length o → Put o at t e o′ → length o′ ≡ length o
 put-length {o = o} {t = t} {at = at} h x = ap length (x .output) ∙ laid-length o at t h
 

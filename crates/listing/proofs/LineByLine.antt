@@ -58,7 +58,7 @@ module _ (s : Machine) (text : List ℕ) (used : ℕ) where
   unfolding next
   too-many u b e h = rw (e, eq-eqb (length u) 31 h) refl
 
-  -- So do several bytes.
+  -- Several bytes without a line feed go on with the line, as long as that has at most 31.
   pub goes-on : (v u w : List ℕ) → No-feed v → length u + length v ≤ 31 →
       listing (within s text used u) (v ++ w) ≡ listing (within s text used (u ++ v)) w
   unfolding listing has-feed
@@ -99,6 +99,7 @@ module _ (s : Machine) (text : List ℕ) (used : ℕ) where
   unfolding listing next
   line-feed u v = refl
 
+  -- A good line, with its line feed, is answered and used, and the listing goes on with what follows.
   pub whole-good : (a : Access) (u v : List ℕ) → No-feed u → length u ≤ 31 → line-of u ≡ good a →
       listing (between s text used) (u ++ 10 ∷ v) ≡
       listing (between (after s a) (text ++ answer-text a (answer-of s a)) (used + (length u + 1))) v
@@ -107,6 +108,7 @@ module _ (s : Machine) (text : List ℕ) (used : ℕ) where
       line-feed u v ∙
       ap (λ (l : Line). listing (line-ends (within s text used u) l) v) e
 
+  -- A bad line, with its line feed, stops the listing, whatever follows.
   pub whole-bad : (u v : List ℕ) → No-feed u → line-of u ≡ bad → listing (between s text used) (u ++ 10 ∷ v) ≡ stopped (between s text used)
   whole-bad u v h e = go (less-or-not 31 (length u))
     where
@@ -118,10 +120,12 @@ module _ (s : Machine) (text : List ℕ) (used : ℕ) where
           ap (λ (l : Line). listing (line-ends (within s text used u) l) v) e ∙
           nothing-more (stopped (between s text used)) v refl
 
+  -- A text of at most 31 bytes without a line feed is a line begun.
   pub never-ends : (t : List ℕ) → No-feed t → length t ≤ 31 → listing (between s text used) t ≡ within s text used t
   unfolding listing
   never-ends t h k = ap (listing (between s text used)) (sym (append-nil t)) ∙ goes-on t [] [] h (omega (arith, k))
 
+  -- A text of more than 31 bytes without a line feed stops the listing.
   pub never-good : (t : List ℕ) → No-feed t → 31 < length t → listing (between s text used) t ≡ stopped (between s text used)
   never-good t h k = ap (listing (between s text used)) (sym (append-nil t)) ∙ too-long t [] h k
 
@@ -141,7 +145,8 @@ Fronts t (Good a n) = GoodFront t a n
 Fronts t Bad = (s : Machine) (text : List ℕ) (used : ℕ) → listing (between s text used) t ≡ stopped (between s text used)
 Fronts t Open = No-feed t × (length t ≤ 31)
 
--- What the line that a text begins with means for the listing.
+-- What the line that a text begins with means for the listing: a good one is its bytes, the line feed and what follows; a bad one stops it;
+-- one that may go on has no line feed and at most 31 bytes.
 pub fronts : (t : List ℕ) → Fronts t (front-line t)
 unfolding front-line
 fronts t = go (either-way (has-feed t)) (either-way (ltb 31 (length t))) (line-of (before-feed t)) refl

@@ -77,13 +77,13 @@ module _ {r : Registers} {m input out : List ℕ} {o : Listed} {m′ out′ : Li
       drop-append-seam (piece-listing r m input out .text) _ ∙
       ap (λ (n : ℕ). drop n out) (sym wrote-is)
 
-  -- It writes no more bytes than the output has, and leaves the output as long as it was.
+  -- A piece writes no more bytes than the output has, and leaves the output as long as it was.
   pub writes-within : (o .wrote ≤ length out) × (length out′ ≡ length out)
   writes-within =
       let n = room r m input out in
       (omega (arith, n, wrote-is), ap length (k .output) ∙ simp (length-append, length-drop) (omega (arith, n)))
 
-  -- It uses no more bytes than the input has.
+  -- A piece uses no more bytes than the input has.
   pub uses-within : o .used ≤ length input
   uses-within =
       let n = come (machine r m) (take (fitting (length out)) input) .most in
@@ -173,14 +173,14 @@ module _ {r : Registers} {m input out : List ℕ} {o : Listed} {m′ out′ : Li
       )
 
 -- ---- the contracts themselves: each is a statement on the call's own arguments
--- `front_line`: s.
+-- `front_line` takes any s, and all that its contract allows is `front-line` of it.
 pub front-line-contract : Contract front-line-kinds.ps front-line-kinds.r front-line.Pre front-line.Post
     (λ κs args r left.
     let s = args .0 in
     r ≡ front-line (s .now))
 front-line-contract = record { takes-any = λ κs args. tt; says = λ κs args r left p. p }
 
--- `list_piece`: r, memory, input, output.
+-- `list_piece` takes any r, memory, input and output, and all that its contract allows is `ListedPiece` of them.
 pub list-piece-contract : Contract list-piece-kinds.ps list-piece-kinds.r list-piece.Pre list-piece.Post
     (λ κs args o left.
     let r = args .0 in

@@ -35,6 +35,7 @@ pub record Kept (r₀ : Registers) (m₀ input out₀ m out : List ℕ) (r : Reg
   pub size : length m ≡ length m₀
   pub room : length out ≡ length out₀
 
+-- All this holds at the start, with nothing used and nothing written (`Kept`).
 pub at-start : (r : Registers) (m input out : List ℕ) → Kept r m input out m out r 0 0
 at-start r m input out =
     record {
@@ -63,13 +64,13 @@ module _ {r₀ r : Registers} {m₀ input out₀ m out : List ℕ} {used wrote :
       let here = length-drop used input in
       (omega (arith, short .0, g .size), omega (arith, all, here, g .size, k .most, short .0))
 
-  -- Its answer has room.
+  -- The answer to a good line has room.
   pub room-for-answer : {a : Access} {n : ℕ} → front-line (drop used input) ≡ Good a n → wrote + 20 ≤ length out
   room-for-answer e =
       let lies = good-lies e in
       omega (arith, lies .0, lies .1, k .few, k .end, k .room, enough)
 
-  -- So has `bad line`, where a byte is left.
+  -- So has `bad line`, where a byte of the input is left.
   pub room-for-bad : used < length input → wrote + 9 ≤ length out
   room-for-bad h = omega (arith, h, k .few, k .end, k .room, enough)
 
@@ -150,14 +151,14 @@ module _ {r₀ r : Registers} {m₀ input out₀ m out : List ℕ} {used wrote :
         output = k .printed ∙ ap (λ (y : Listing). with-text out₀ (y .text)) (sym is);
       }
 
-  -- A line begun,
+  -- A line begun ends the loop, with what was listed so far.
   pub ends-open : front-line (drop used input) ≡ Open →
       ListedLines r₀ m₀ input out₀ (record { registers = r; used = used; wrote = wrote; ended = false }) m out
   ends-open f =
       let p = subst (Fronts (drop used input)) f (fronts (drop used input)) in
       leaves (drop used input) (k .come ∙ never-ends (machine r m) (k .text) used (drop used input) (p .0) (p .1))
 
-  -- and the input's end.
+  -- The input's end ends the loop, with what was listed so far.
   pub ends-even : length input ≤ used →
       ListedLines r₀ m₀ input out₀ (record { registers = r; used = used; wrote = wrote; ended = false }) m out
   unfolding listing

@@ -68,7 +68,7 @@ listing x (b ∷ rest) = listing (next x b) rest
 
 -- ---- a piece of input, whose answers go to an output of so many bytes
 
--- a good line has 6 bytes or more and its answer at most 20, and after the last of them `bad line` may come, with 9
+-- (ours) a good line has 6 bytes or more and its answer at most 20, and after the last of them `bad line` may come, with 9
 abbrev pub fitting : ℕ → ℕ
 fitting room = (room - 9) / 10 * 3
 

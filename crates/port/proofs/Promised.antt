@@ -30,7 +30,7 @@ use Rattle.port.proofs.cycles.carry.Reads as carry
 use Rattle.port.proofs.cycles.number_of_cycle.Kinds as number-of-cycle-kinds
 use Rattle.port.proofs.cycles.number_of_cycle.Reads as number-of-cycle
 
--- `begin_read`: r, register, lanes.
+-- `begin_read` takes any r, register and lanes, and all that its contract allows is `begin-access` of that read.
 pub begin-read-contract : Contract begin-read-kinds.ps begin-read-kinds.r begin-read.Pre begin-read.Post
     (λ κs args b left.
     let r = args .0 in
@@ -39,7 +39,7 @@ pub begin-read-contract : Contract begin-read-kinds.ps begin-read-kinds.r begin-
     b ≡ begin-access r (Read register lanes))
 begin-read-contract = record { takes-any = λ κs args. tt; says = λ κs args b left p. p }
 
--- `begin_write`: r, register, lanes, word.
+-- `begin_write` takes any r, register, lanes and word, and all that its contract allows is `begin-access` of that write.
 pub begin-write-contract : Contract begin-write-kinds.ps begin-write-kinds.r begin-write.Pre begin-write.Post
     (λ κs args b left.
     let r = args .0 in
@@ -49,7 +49,7 @@ pub begin-write-contract : Contract begin-write-kinds.ps begin-write-kinds.r beg
     b ≡ begin-access r (Write register lanes word))
 begin-write-contract = record { takes-any = λ κs args. tt; says = λ κs args b left p. p }
 
--- `begin`: r, a.
+-- `begin` takes any r and a, and all that its contract allows is `begin-access` of them.
 pub begin-contract : Contract begin-kinds.ps begin-kinds.r begin.Pre begin.Post
     (λ κs args b left.
     let r = args .0 in
@@ -57,7 +57,7 @@ pub begin-contract : Contract begin-kinds.ps begin-kinds.r begin.Pre begin.Post
     b ≡ begin-access r a)
 begin-contract = record { takes-any = λ κs args. tt; says = λ κs args b left p. p }
 
--- `number_of`: words, a.
+-- `number_of` takes any words and a, and all that its contract allows is `refusal` of the words, the register and the lanes of a.
 pub number-of-contract : Contract number-of-kinds.ps number-of-kinds.r number-of.Pre number-of.Post
     (λ κs args r left.
     let words = args .0 in
@@ -65,7 +65,7 @@ pub number-of-contract : Contract number-of-kinds.ps number-of-kinds.r number-of
     r ≡ refusal words (register-of a) (lanes-of a))
 number-of-contract = record { takes-any = λ κs args. tt; says = λ κs args r left p. p }
 
--- `refuse`: number, r.
+-- `refuse` takes any number and r, and all that its contract allows is `refused` of them.
 pub refuse-contract : Contract refuse-kinds.ps refuse-kinds.r refuse.Pre refuse.Post
     (λ κs args o left.
     let number = args .0 in
@@ -73,7 +73,7 @@ pub refuse-contract : Contract refuse-kinds.ps refuse-kinds.r refuse.Pre refuse.
     o ≡ refused number r)
 refuse-contract = record { takes-any = λ κs args. tt; says = λ κs args o left p. p }
 
--- `finish`: b, c.
+-- `finish` takes any b and c, and all that its contract allows is `finished` of them.
 pub finish-contract : Contract finish-kinds.ps finish-kinds.r finish.Pre finish.Post
     (λ κs args o left.
     let b = args .0 in
@@ -81,7 +81,7 @@ pub finish-contract : Contract finish-kinds.ps finish-kinds.r finish.Pre finish.
     o ≡ finished b c)
 finish-contract = record { takes-any = λ κs args. tt; says = λ κs args o left p. p }
 
--- `host_access`: r, memory, a.
+-- `host_access` takes any r, memory and a, and all that its contract allows is `Accessed` of them.
 pub host-access-contract : Contract host-access-kinds.ps host-access-kinds.r host-access.Pre host-access.Post
     (λ κs args o left.
     let r = args .0 in
@@ -91,7 +91,7 @@ pub host-access-contract : Contract host-access-kinds.ps host-access-kinds.r hos
     Accessed r (memory .now) a o (memory′ .now))
 host-access-contract = record { takes-any = λ κs args. tt; says = λ κs args o left p. p }
 
--- `step_if`: step, r.
+-- `step_if` takes any step and r, and all that its contract allows is `stepped` of them.
 pub step-if-contract : Contract step-if-kinds.ps step-if-kinds.r step-if.Pre step-if.Post
     (λ κs args x left.
     let step = args .0 in
@@ -99,7 +99,7 @@ pub step-if-contract : Contract step-if-kinds.ps step-if-kinds.r step-if.Pre ste
     x ≡ stepped step r)
 step-if-contract = record { takes-any = λ κs args. tt; says = λ κs args x left p. p }
 
--- `settle_fetch`: r, f.
+-- `settle_fetch` takes any r and f, and all that its contract allows is `after-fetch` of them.
 pub settle-fetch-contract : Contract settle-fetch-kinds.ps settle-fetch-kinds.r settle-fetch.Pre settle-fetch.Post
     (λ κs args c left.
     let r = args .0 in
@@ -107,7 +107,7 @@ pub settle-fetch-contract : Contract settle-fetch-kinds.ps settle-fetch-kinds.r 
     c ≡ after-fetch r f)
 settle-fetch-contract = record { takes-any = λ κs args. tt; says = λ κs args c left p. p }
 
--- `settle_store`: r, step, inside.
+-- `settle_store` takes any r, step and inside, and all that its contract allows is `after-store` of them.
 pub settle-store-contract : Contract settle-store-kinds.ps settle-store-kinds.r settle-store.Pre settle-store.Post
     (λ κs args c left.
     let r = args .0 in
@@ -116,14 +116,14 @@ pub settle-store-contract : Contract settle-store-kinds.ps settle-store-kinds.r 
     c ≡ after-store r step inside)
 settle-store-contract = record { takes-any = λ κs args. tt; says = λ κs args c left p. p }
 
--- `number_of_cycle`: c.
+-- `number_of_cycle` takes any c, and all that its contract allows is `cycle-number` of it, at most 2.
 pub number-of-cycle-contract : Contract number-of-cycle-kinds.ps number-of-cycle-kinds.r number-of-cycle.Pre number-of-cycle.Post
     (λ κs args n left.
     let c = args .0 in
     (n ≡ cycle-number c) × (n ≤ 2))
 number-of-cycle-contract = record { takes-any = λ κs args. tt; says = λ κs args n left p. p }
 
--- `carry`: r, due, memory.
+-- `carry` takes any r, due and memory, and all that its contract allows is `Cycled` of them.
 pub carry-contract : Contract carry-kinds.ps carry-kinds.r carry.Pre carry.Post
     (λ κs args c left.
     let r = args .0 in

@@ -165,7 +165,8 @@ module _ (s : Machine) (a : Sixteen) where
           end = rw stood (stays (closing s a) number-last ∙ sym (stays (on 3 a) refl));
         }
 
-  -- One access by bytes ends as the whole access does.
+  -- Of every sixteen-bit access done by bytes, the first byte shows the number and the hollow mark of the whole access and has no cycle;
+  -- the two answers together are the whole answer (words added, number and both marks of the second); registers and memory end the same.
   pub alike : Alike s a
   alike =
       ⊎-elim (λ e. alike-taken (eqb-true _ _ e)) (λ e. alike-barred (eqb-false _ _ e)) (either-way (eqb (number-for m (on 3 a)) 0))

@@ -67,8 +67,8 @@ any-machine s = Unit
 pairs : (s : Machine) (a : Sixteen) → any-machine s → PairAlike control-of answer-of after s a
 pairs s a h = bytes-alike s a
 
--- A sixteen-bit access done by two byte calls, the second on what the first left, answers what one call answers, and leaves the registers
--- and the memory that it leaves.
+-- A sixteen-bit access done by two byte calls, the second on what the first left, answers what one call answers (`AddUp`), and leaves the
+-- registers and the memory that it leaves.
 pub byte-calls-alike : {s t t₁ t₂ : Machine} (a : Sixteen) {x x₁ x₂ : Answer} → by-value s (on 3 a) x t →
     by-value s (opening s a) x₁ t₁ → by-value t₁ (closing s a) x₂ t₂ → AddUp x₁ x₂ x × (t₂ ≡ t)
 byte-calls-alike a whole first second =
@@ -80,18 +80,18 @@ pub calls-end-alike : {s t u : Machine} {l : List Sixteen} {xs : List Answer} {p
     ByWords by-value s l xs t → ByBytes by-value control-of s l ps u → AllAddUp ps xs × (u ≡ t)
 calls-end-alike w b = sequences-alike by-value control-of answer-of after any-machine call-exact (λ _ _ _. tt) pairs tt w b
 
--- Any such sequence can be made by byte calls.
+-- Any sequence of sixteen-bit accesses can be made by byte calls.
 pub bytes-called : (s : Machine) (l : List Sixteen) → (ps : List (Answer × Answer)) × (t : Machine) × ByBytes by-value control-of s l ps t
 bytes-called s l = bytes-made by-value control-of answer-of after any-machine call-exact (λ _ _ _. tt) pairs call-made s l
 
 -- ---- a sequence of calls is the run of the definitions
--- Any sequence of accesses can be made, and this is what it answers and leaves,
+-- Any sequence of sixteen-bit accesses can be made by word calls, and may answer and end as the definitions say.
 pub calls-made : (s : Machine) (l : List Sixteen) → ByWords by-value s l (answers s l) (ends s l)
 unfolding answers ends
 calls-made s [] = no-word
 calls-made s (a ∷ rest) = a-word a (call-made s (on 3 a)) (calls-made (after s (on 3 a)) rest)
 
--- and nothing else.
+-- A sequence of word calls answers and ends as the definitions say, and not otherwise.
 pub words-called : {s t : Machine} {l : List Sixteen} {xs : List Answer} → ByWords by-value s l xs t → (xs ≡ answers s l) × (t ≡ ends s l)
 unfolding answers ends
 words-called no-word = (refl, refl)
@@ -103,7 +103,7 @@ words-called {s} (a-word {t = t} a {x} {rest} c cs) =
       q .1 ∙ ap (λ (z : Machine). ends z rest) (e .1),
     )
 
--- So too where the accesses are done by bytes.
+-- Any sequence that is made, by words or by bytes, answers and ends as the definitions say.
 pub made-as-run : {s t : Machine} {l : List Sixteen} {xs : List Answer} → Made s l xs t → (xs ≡ answers s l) × (t ≡ ends s l)
 made-as-run (inl w) = words-called w
 made-as-run {s} {l = l} (inr b) =
@@ -120,7 +120,8 @@ module _ {s t u : Machine} (a : BitAddress) (n : ℕ) {xs ys : List Answer}
       let q = made-as-run read in
       (q .0 ∙ ap (λ (z : Machine). answers z (reading n)) p, q .1 ∙ ap (λ (z : Machine). ends z (reading n)) p)
 
-  -- Every word of a table that lies in memory is handed out, in order, the last included, each held, whatever lies after it; memory and
+  -- Calls that load the pointer, by words or by bytes, and read n times, with a memory that is not refused and INCR set: every word of a
+  -- table that lies in memory is handed out, in order, the last included, each numbered 0 and held, whatever lies after it; memory and
   -- HSTCTL stay, and the pointer stands just past the table.
   pub calls-hand-out-every-word : Lies (s .memory) a n →
       (map given ys ≡ map held-word (table (s .memory) a n))
@@ -136,14 +137,15 @@ module _ {s t u : Machine} (a : BitAddress) (n : ℕ) {xs ys : List Answer}
         ap (λ (z : Machine). z .registers .pointer .0) e ∙ w .pointer,
       )
 
-  -- Past the end of memory, behind the words that are there, they hand out FFFFh, hollow, up to word 2^28, where the pointer comes round.
+  -- Past the end of memory, behind the words that are there, such reads hand out FFFFh, hollow, up to word 2^28, where the pointer comes
+  -- round.
   pub calls-then-hollow : (before after : ℕ) → n ≡ before + after → word-at a .0 + before ≡ length (s .memory) → word-at a .0 + n ≤ 2 ^ 28 →
       map given ys ≡ map held-word (table (s .memory) a before) ++ replicate after filler
   calls-then-hollow before after e h q =
       ap (map given) (answered .0 ∙ ap (λ (j : ℕ). answers (loaded s a) (reading j)) e) ∙
       then-hollow s k i a before after h (omega (arith, e))
 
-  -- Begun past the end of memory, they hand out nothing else.
+  -- Begun past the end of memory, such reads hand out nothing but FFFFh, hollow, up to word 2^28.
   pub calls-only-hollow : a .0 < 2 ^ 32 → length (s .memory) ≤ word-at a .0 → word-at a .0 + n ≤ 2 ^ 28 → map given ys ≡ replicate n filler
   calls-only-hollow b h q = ap (map given) (answered .0) ∙ only-hollow s k i a n b h q
 
@@ -167,10 +169,11 @@ module _ {m : List ℕ} {l : List Deed} {lanes : ℕ} {s t : Machine} {x : Answe
   done-so : answer-of (ran (woken m) l) (Read 2 lanes) .number ≡ 0
   done-so = sym (ap (λ (y : Answer). y .number) there) ∙ z
 
-  -- It hands out the word of its story, and says held exactly if the story does.
+  -- After any calls of the host, the processor and reset, from reset on, whatever others do to the memory: a read of HSTDATA that is done
+  -- hands out the word of its story, and says held exactly if the story does.
   pub call-says-its-story : Says x lanes (as-content (story (woken m) l unset))
   call-says-its-story = rw there (since-reset m l lanes done-so)
 
-  -- A word that it hands out as held came out of memory, or was written by the host or the processor.
+  -- A word that such a read hands out as held came out of memory, or was written by the host or the processor.
   pub held-word-came : x .hollow ≡ false → Came (story (woken m) l unset)
   held-word-came e = held-came m l lanes done-so (sym (ap (λ (y : Answer). y .hollow) there) ∙ e)

@@ -34,7 +34,7 @@ cycle-told Empty =
       empty = (λ z. refl, λ z. refl);
     }
 
--- Two bits are enough for it.
+-- Two bits are enough for the number of a cycle.
 pub cycle-below : (c : Cycle) → cycle-number c < 4
 cycle-below None = omega arith
 cycle-below Inside = omega arith

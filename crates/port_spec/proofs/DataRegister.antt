@@ -25,7 +25,7 @@ module _ (r : Registers) (m : List ℕ) where
   c = r .control
 
   module _ (lanes : ℕ) (n : access r m (Read 2 lanes) .answer .number ≡ 0) where
-    -- "If the closing byte is selected, then: with INCR 1 the pointer gains 16; then a fetch": the step comes first.
+    -- "If the closing byte is selected, then: with INCR 1 the pointer gains 16; then a fetch": the step comes first, and HSTCTL stays.
     pub read-fetches : closes c lanes ≡ true → access r m (Read 2 lanes) .registers ≡ standing m c (ahead r)
     unfolding begin-access read-due
     read-fetches e = left-by r m (Read 2 lanes) n ∙ rw e (fetch-leaves r m (incr c))
@@ -36,7 +36,8 @@ module _ (r : Registers) (m : List ℕ) where
     read-open e = left-by r m (Read 2 lanes) n ∙ rw e
 
   module _ (lanes w : ℕ) (n : access r m (Write 2 lanes w) .answer .number ≡ 0) where
-    -- "the whole of HSTDATA is stored at the pointer": with the written bytes in it, and at the pointer as it stood before any step.
+    -- With the closing byte, "the whole of HSTDATA is stored at the pointer": with the written bytes in it, and at the pointer as it stood
+    -- before any step.
     pub write-stores : closes c lanes ≡ true →
         access-memory r m (Write 2 lanes w) ≡ store-at m (word-at (r .pointer)) (replaced lanes (r .latch) w)
     unfolding begin-access write-due written memory-after
@@ -66,13 +67,13 @@ module _ (r : Registers) (m : List ℕ) where
       go true false s = refl
       go false u s = refl
 
-  -- "The pointer gains 16 modulo 2^32: after FFFFFFF0h comes 0": before a fetch.
+  -- "The pointer gains 16 modulo 2^32: after FFFFFFF0h comes 0": so goes the step of a read, before its fetch.
   pub read-wraps : (lanes : ℕ) → access r m (Read 2 lanes) .answer .number ≡ 0 → closes c lanes ≡ true → incr c ≡ true →
       r .pointer ≡ address 0xfffffff0 →
       access r m (Read 2 lanes) .registers ≡ standing m c (address 0)
   read-wraps lanes n e i p = read-fetches lanes n e ∙ rw (i, p)
 
-  -- And after a store.
+  -- So goes the step of a write, after its store: from FFFFFFF0h to 0.
   pub write-wraps : (lanes w : ℕ) → access r m (Write 2 lanes w) .answer .number ≡ 0 → closes c lanes ≡ true → incw c ≡ true →
       r .pointer ≡ address 0xfffffff0 →
       access r m (Write 2 lanes w) .registers .pointer ≡ address 0

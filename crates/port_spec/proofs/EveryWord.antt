@@ -53,7 +53,9 @@ module _ (s : Machine) (k : Memory (s .memory)) (i : incr (s .registers .control
   by-bytes : (n : ℕ) → byte-answers (byte-loaded s a) (reading n) ≡ answers (loaded s a) (reading n)
   by-bytes n = rw (ends-alike s (loading (s .registers .control) a)) (answers-alike (loaded s a) (reading n))
 
-  -- Every word of a table that lies in memory is handed out.
+  -- With a memory that is not refused, INCR set, and the pointer loaded at a table of n words that lies in memory, n reads answer exactly
+  -- the table's words in order, the last included, each numbered 0 and held, whatever lies after it; the same where all is done by bytes.
+  -- Memory and HSTCTL stay, and the pointer stands just past the table.
   pub every-word : (n : ℕ) → Lies (s .memory) a n → EveryWord s a n
   unfolding standing
   every-word n h =
@@ -68,7 +70,7 @@ module _ (s : Machine) (k : Memory (s .memory)) (i : incr (s .registers .control
         pointer = ap (λ (t : Machine). t .registers .pointer .0) e ∙ just-past n h;
       }
 
-  -- Its last word is held, wherever the table ends.
+  -- The read of the table's last word is numbered 0, answers that word, and is held; if the table ends with memory, its cycle is empty.
   pub last-word-held : (n : ℕ) → Lies (s .memory) a (n + 1) → LastWord s a n
   last-word-held n h =
       let p = just-past n (omega arith) in
@@ -83,8 +85,8 @@ module _ (s : Machine) (k : Memory (s .memory)) (i : incr (s .registers .control
         ahead = λ q. ap (λ (x : Answer). x .cycle) e ∙ ahead-empty (s .memory) (on-by n a) (omega arith);
       }
 
-  -- Read on past the end of memory: after its last word every answer is FFFFh, marked hollow, up to word 2^28, where the
-  -- pointer comes round.
+  -- With INCR set, reads that run past the end of memory answer its words, held, and after the last of them FFFFh, marked hollow, up to
+  -- word 2^28, where the pointer comes round.
   pub then-hollow : (n j : ℕ) → word-at a .0 + n ≡ length (s .memory) → word-at a .0 + n + j ≤ 2 ^ 28 →
       map given (answers (loaded s a) (reading (n + j))) ≡ map held-word (table (s .memory) a n) ++ replicate j filler
   then-hollow n j h q =
@@ -94,7 +96,8 @@ module _ (s : Machine) (k : Memory (s .memory)) (i : incr (s .registers .control
       handed-on (s .memory) n j a ∙
       rw (table-handed (s .memory) (k .size) n a (omega arith), rest)
 
-  -- Loaded past the end of memory, the same: nothing but FFFFh, marked hollow.
+  -- With INCR set and the pointer loaded past the end of memory, reads answer nothing but FFFFh, marked hollow, up to word 2^28, where the
+  -- pointer comes round.
   pub only-hollow : (j : ℕ) → a .0 < 2 ^ 32 → length (s .memory) ≤ word-at a .0 → word-at a .0 + j ≤ 2 ^ 28 →
       map given (answers (loaded s a) (reading j)) ≡ replicate j filler
   only-hollow j b h q = ap (map given) (reads-hand s k i a b j) ∙ filler-handed (s .memory) j a h q

@@ -82,7 +82,7 @@ module _ (s : Machine) (k : Memory (s .memory)) where
     unfolding answer-of
     read-answer a = ap (λ (o : Outcome). o .answer) (one-read a)
 
-    -- And leaves them standing one word on.
+    -- A read leaves the registers standing one word on.
     pub read-after : (a : BitAddress) → after (stands s a) (Read 2 3) ≡ stands s (step a)
     unfolding after access-memory refusal are-lanes begin-access read-due memory-after standing
     read-after a = rw (one-read a, not-over, both-close (s .registers .control))
@@ -93,13 +93,14 @@ module _ (s : Machine) (k : Memory (s .memory)) where
     reads-answer zero a = refl
     reads-answer (suc n) a = rw (read-answer a, read-after a, reads-answer n (step a))
 
-    -- And leave the registers standing n words on.
+    -- n reads leave the registers standing n words on.
     pub reads-end : (n : ℕ) (a : BitAddress) → ends (stands s a) (reading n) ≡ stands s (on-by n a)
     unfolding ends reading on-by
     reads-end zero a = refl
     reads-end (suc n) a = ap (λ (t : Machine). ends t (reading n)) (read-after a) ∙ reads-end n (step a)
 
-    -- Load the pointer anywhere and read n times: the answers hand out memory as it lies from there on.
+    -- With INCR set and the pointer loaded anywhere, n reads hand out memory as it lies from there on, each word with its own marks, also
+    -- where the pointer comes round.
     pub reads-hand : (a : BitAddress) → a .0 < 2 ^ 32 → (n : ℕ) → answers (loaded s a) (reading n) ≡ handed (s .memory) a n
     reads-hand a h n = rw (loads a h) (reads-answer n a)
 

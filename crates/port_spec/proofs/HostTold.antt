@@ -24,7 +24,7 @@ pub record Silent (r : Registers) (m : List ℕ) (k lanes w : ℕ) : Type 0 wher
   pub word : access r m (Write k lanes w) .answer .word ≡ 0
   pub hollow : access r m (Write k lanes w) .answer .hollow ≡ false
 
--- So every write answers.
+-- Every write answers word 0 and no mark, done or refused.
 pub write-is-silent : (r : Registers) (m : List ℕ) (k lanes w : ℕ) → Silent r m k lanes w
 unfolding done begin-access
 write-is-silent r m k lanes w =

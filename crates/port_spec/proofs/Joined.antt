@@ -19,7 +19,7 @@ unfolding ends
 ends-join s [] ys = refl
 ends-join s (x ∷ xs) ys = ends-join (after s (on 3 x)) xs ys
 
--- Its answers come after the first part's.
+-- The answers of the second part come after those of the first.
 pub answers-join : (s : Machine) (xs ys : List Sixteen) → answers s (xs ++ ys) ≡ answers s xs ++ answers (ends s xs) ys
 unfolding answers ends
 answers-join s [] ys = refl
@@ -59,6 +59,6 @@ reads-keep-memory s zero = refl
 reads-keep-memory s (suc n) =
     reads-keep-memory (after s (Read 2 3)) n ∙ read-keeps-memory (s .registers) (s .memory) 2 3
 
--- A read hands out a word for each place.
+-- n reads hand out n words.
 pub filled-length : (s : Machine) (n : ℕ) → length (words-in (answers s (reading n))) ≡ n
 filled-length s n = length-map (answers s (reading n)) (λ x. x .word) ∙ answers-length s (reading n) ∙ reading-length n

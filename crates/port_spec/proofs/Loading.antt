@@ -31,12 +31,12 @@ module _ (s : Machine) (a : BitAddress) where
 
   -- l and h are the two halves; t is the machine after one write, u after both
   module _ {l h : ℕ} (low : l ≡ low-half a) (high : h ≡ high-half a) where
-    -- Where the low half fetches, it goes last.
+    -- Where the low half fetches, it goes last: the high half written, and then the low one, loads the pointer.
     pub low-last : {t u : Machine} → fetches (s .registers .control) 0 ≡ true →
         t ≡ after s (Write 1 3 h) → u ≡ after t (Write 0 3 l) → u ≡ loaded s a
     low-last f x y = rw (y, x, low, high) (sym (run-low-last (sym (low-fetches _) ∙ f)))
 
-    -- Where it does not, the high half does.
+    -- Where the low half does not fetch, the high half goes last: the low half written, and then the high one, loads the pointer.
     pub high-last : {t u : Machine} → fetches (s .registers .control) 0 ≡ false →
         t ≡ after s (Write 0 3 l) → u ≡ after t (Write 1 3 h) → u ≡ loaded s a
     high-last f x y = rw (y, x, low, high) (sym (run-high-last (sym (low-fetches _) ∙ f)))

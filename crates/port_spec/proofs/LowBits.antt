@@ -71,7 +71,7 @@ module _ (m : List ℕ) (q r : Registers) (e : word-at (q .pointer) ≡ word-at 
         next = one-word s (q .pointer) (r .pointer) e;
       }
 
-  -- And it leaves the same memory.
+  -- Every cycle from two such pointers leaves the same memory.
   pub memory-by-word : (d : Due) → memory-after q d m ≡ memory-after r d m
   unfolding memory-after
   memory-by-word Nothing = refl
@@ -133,13 +133,15 @@ module _ (r : Registers) (m : List ℕ) (a b : BitAddress) (e : word-at a ≡ wo
       memories false = refl
 
 module _ (r : Registers) (m : List ℕ) (a b : BitAddress) (e : word-at a ≡ word-at b) where
-  -- A read of HSTDATA does not use the low bits.
+  -- With two pointers into one word a read of HSTDATA answers the same, leaves the same memory, HSTDATA and mark, and pointers into one
+  -- word again: it does not use the low bits.
   pub read-low-bits-unused : (lanes : ℕ) → Unused r m a b (Read 2 lanes)
   unfolding begin-access register-word
   read-low-bits-unused lanes = unused r m a b e (Read 2 lanes)
       (record { word = refl; hollow = refl; data-left = refl; due = refl; aim = e })
 
-  -- Nor does a write of it.
+  -- With two pointers into one word a write of HSTDATA answers and stores the same, leaves the same HSTDATA and mark, and pointers into one
+  -- word again.
   pub write-low-bits-unused : (lanes w : ℕ) → Unused r m a b (Write 2 lanes w)
   unfolding begin-access written
   write-low-bits-unused lanes w = unused r m a b e (Write 2 lanes w)

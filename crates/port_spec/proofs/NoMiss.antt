@@ -50,8 +50,8 @@ pub record Rule (r : Registers) (m : List ℕ) (lanes : ℕ) : Type 0 where
   pub hollow : access r m (Read 2 lanes) .answer .hollow ≡ r .hollow
   pub cycle : access r m (Read 2 lanes) .answer .cycle ≡ cond (closes (r .control) lanes) (cycle-of (in-memory m (word-at (ahead r)))) None
 
--- A read of HSTDATA that is done answers the word that was there, hollow if that was, whatever memory holds; its cycle, if the closing
--- byte is among its lanes, is marked by whether memory has the word ahead.
+-- A read of HSTDATA that is done answers the word that was there, on its lanes, hollow if that was, whatever memory holds; its cycle, if
+-- the closing byte is among its lanes, is marked by whether memory has the word ahead.
 pub rule : (r : Registers) (m : List ℕ) (lanes : ℕ) → access r m (Read 2 lanes) .answer .number ≡ 0 → Rule r m lanes
 unfolding done begin-access register-word has-cycle word-used
 rule r m lanes n =
@@ -61,7 +61,7 @@ rule r m lanes n =
       cycle = cycle-done r m (Read 2 lanes) n;
     }
 
--- So it says what HSTDATA had.
+-- A read of HSTDATA that is done says what HSTDATA had: its word, on the lanes of the read, and its mark.
 pub says : (r : Registers) (m : List ℕ) (lanes : ℕ) {c : Content} →
     access r m (Read 2 lanes) .answer .number ≡ 0 → content r ≡ c → Says (access r m (Read 2 lanes) .answer) lanes c
 says r m lanes n k =
@@ -124,7 +124,7 @@ miss-leaves r m a w e =
     ap (λ (o : Outcome). content (o .registers)) (as-done r m a n) ∙ leaves r m a .data-left ∙
     rw (t .0, w, fetched-beyond m (word-used r a) (t .1), t .1)
 
--- So the next read, on whatever lanes and with whatever memory, hands out the filler's bytes and says that they are hollow.
+-- After such a miss the next read, on whatever lanes and with whatever memory, hands out the filler's bytes and says that they are hollow.
 pub read-after-miss : (r : Registers) (m : List ℕ) (a : Access) → writes-data a ≡ false → access r m a .answer .cycle ≡ Empty →
     (m′ : List ℕ) (lanes : ℕ) → access (access r m a .registers) m′ (Read 2 lanes) .answer .number ≡ 0 →
     Says (access (access r m a .registers) m′ (Read 2 lanes) .answer) lanes hollow-filler
@@ -151,7 +151,8 @@ pub held-has-a-story : (s : Machine) (o : Origin) → content (s .registers) ≡
 unfolding answer-of
 held-has-a-story s o k l lanes n = says (ran s l .registers) (ran s l .memory) lanes n (run-told s l o k)
 
--- So from reset on, where nothing was fetched yet.
+-- From reset on, where nothing was fetched yet, a read of HSTDATA that is done hands out the word of its story, and says hollow exactly if
+-- the story does.
 pub since-reset : (m : List ℕ) (l : List Deed) (lanes : ℕ) →
     answer-of (ran (woken m) l) (Read 2 lanes) .number ≡ 0 →
     Says (answer-of (ran (woken m) l) (Read 2 lanes)) lanes (as-content (story (woken m) l unset))
@@ -168,7 +169,8 @@ came (by-processor w) e = from-processor
 came (laid lanes w o) e = under-bytes (came o e)
 came (stored o) e = from-host
 
--- From reset on, whatever is done: a word that is handed out as held came out of memory, or was written by the host or the processor.
+-- From reset on, whatever host, processor and others who hold the memory do: a word that is handed out as held came out of memory, or was
+-- written by the host or the processor.
 pub held-came : (m : List ℕ) (l : List Deed) (lanes : ℕ) →
     answer-of (ran (woken m) l) (Read 2 lanes) .number ≡ 0 → answer-of (ran (woken m) l) (Read 2 lanes) .hollow ≡ false →
     Came (story (woken m) l unset)

@@ -22,7 +22,8 @@ use Rattle.port_spec.proofs.Taken.{barred, barred-memory, number-is}
 abbrev pub NoLanes : ℕ → Type 0
 NoLanes lanes = (lanes ≢ 1) × (lanes ≢ 2) × (lanes ≢ 3)
 
--- v is the number for a memory of so many words, a register and lanes
+-- v is the number for a memory of so many words, a register and lanes: at most 3; 1 exactly if there are over 32,768 words; 2 exactly if
+-- not, and the register is over 3; 3 exactly if neither, and the lanes are not 1, 2 or 3; 0 exactly otherwise
 pub record AccessWhen (words register lanes v : ℕ) : Type 0 where
   pub listed : v ≤ 3
   pub over : v ≡ 1 ↔ 32768 < words
@@ -30,7 +31,7 @@ pub record AccessWhen (words register lanes v : ℕ) : Type 0 where
   pub no-lanes : v ≡ 3 ↔ (words ≤ 32768) × (register ≤ 3) × NoLanes lanes
   pub done : v ≡ 0 ↔ (words ≤ 32768) × (register ≤ 3) × (1 ≤ lanes) × (lanes ≤ 3)
 
--- The number that applies is one of 0 to 3, each when, and only then.
+-- The number that applies is one of 0 to 3, each when, and only then (`AccessWhen`).
 pub when : (words register lanes : ℕ) → AccessWhen words register lanes (refusal words register lanes)
 unfolding refusal
 when n r l = go (ltb 32768 n) (ltb 3 r) (are-lanes l) refl refl refl
@@ -41,7 +42,7 @@ when n r l = go (ltb 32768 n) (ltb 3 r) (are-lanes l) refl refl refl
     go false false true p q e = omega (arith, ltb-false 32768 n p, ltb-false 3 r q, lanes-named l .0 e)
     go false false false p q e = omega (arith, ltb-false 32768 n p, ltb-false 3 r q, lanes-unnamed l e)
 
--- A refused access answers its number and zeros, and leaves the registers and the memory as they stood.
+-- A refused access answers word 0, no mark and no cycle beside its number, and leaves the registers and the memory as they stood.
 pub record Refused (r : Registers) (m : List ℕ) (a : Access) : Type 0 where
   pub word : access r m a .answer .word ≡ 0
   pub hollow : access r m a .answer .hollow ≡ false
@@ -50,11 +51,12 @@ pub record Refused (r : Registers) (m : List ℕ) (a : Access) : Type 0 where
   pub memory : access-memory r m a ≡ m
 
 module _ (r : Registers) (m : List ℕ) (a : Access) where
-  -- The number of an access by the host is one of 0 to 3, each when, and only then.
+  -- The number of an access by the host is at most 3: 1 exactly if memory has over 32,768 words; 2 exactly if not, and the register is over
+  -- 3; 3 exactly if neither, and the lanes are not 1, 2 or 3; 0 exactly otherwise.
   pub numbered : AccessWhen (length m) (register-of a) (lanes-of a) (access r m a .answer .number)
   numbered = rw (number-is r m a) (when (length m) (register-of a) (lanes-of a))
 
-  -- Every access that answers another number than 0 is refused so.
+  -- With another number than 0 the word is 0, the mark false, the cycle none, and registers and memory stay as they stood.
   pub refuses : access r m a .answer .number ≢ 0 → Refused r m a
   refuses n =
       let e : number-for m a ≢ 0 = λ q. n (number-is r m a ∙ q) in

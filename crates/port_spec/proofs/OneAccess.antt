@@ -9,12 +9,12 @@ use Rattle.port_spec.specs.declared.Access.{Access}
 use Rattle.port_spec.specs.declared.Outcome.{Outcome}
 
 module _ {r : Registers} {m : List ℕ} {a : Access} {o : Outcome} {m′ : List ℕ} (e : Accessed r m a o m′) where
-  -- It leaves the machine that comes after it.
+  -- What an access leaves by its contract is the machine that comes after it.
   pub leaves : machine (o .registers) m′ ≡ after (machine r m) a
   unfolding after
   leaves = rw (e .outcome, e .memory)
 
-  -- It answers what that machine answers.
+  -- What an access answers by its contract is what the machine answers.
   pub says : o .answer ≡ answer-of (machine r m) a
   unfolding answer-of
   says = ap (λ (p : Outcome). p .answer) (e .outcome)

@@ -23,12 +23,12 @@ module _ (r : Registers) (m : List ℕ) (a : Access) (e : begin-access r a .due 
   unfolding done carried
   uncalled-cycle = either-done r m a (λ (o : Outcome). o .answer .cycle ≡ None) (rw e) (λ _. refl)
 
-  -- It leaves the registers, if it wrote to none.
+  -- An access that calls for no cycle leaves the registers, if it wrote to none.
   pub uncalled-registers : begin-access r a .registers ≡ r → access r m a .registers ≡ r
   unfolding done carried
   uncalled-registers s = either-done r m a (λ (o : Outcome). o .registers ≡ r) (rw e s) (λ _. refl)
 
-  -- It leaves the memory.
+  -- An access that calls for no cycle leaves the memory.
   pub uncalled-memory : access-memory r m a ≡ m
   unfolding access-memory memory-after
   uncalled-memory = go (eqb (number-for m a) 0)
@@ -52,6 +52,6 @@ pub open-has-no-cycle : (r : Registers) (m : List ℕ) (a : Access) → closes (
     access r m a .answer .cycle ≡ None
 open-has-no-cycle r m a e = uncalled-cycle r m a (open-calls-none r a e)
 
--- And it leaves the memory.
+-- An access without the closing byte leaves the memory.
 pub open-keeps-memory : (r : Registers) (m : List ℕ) (a : Access) → closes (r .control) (lanes-of a) ≡ false → access-memory r m a ≡ m
 open-keeps-memory r m a e = uncalled-memory r m a (open-calls-none r a e)

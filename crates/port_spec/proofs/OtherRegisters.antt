@@ -26,7 +26,8 @@ module _ (r : Registers) (m : List ℕ) where
   c = r .control
 
   module _ (k lanes w : ℕ) (h : eqb k 2 ≡ false) (n : access r m (Write k lanes w) .answer .number ≡ 0) where
-    -- "memory is fetched at the new pointer. This fetch doesn't increment, whatever INCR says."
+    -- A write, with the closing byte, of the half that fetches: "memory is fetched at the new pointer. This fetch doesn't increment,
+    -- whatever INCR says." What is found there is left in HSTDATA.
     pub load-fetches : closes c lanes ≡ true → fetches c k ≡ true →
         access r m (Write k lanes w) .registers ≡ standing m (written r k lanes w .control) (written r k lanes w .pointer)
     unfolding begin-access write-due
@@ -41,16 +42,16 @@ module _ (r : Registers) (m : List ℕ) where
         go true false d e = refl
         go false u d e = refl
 
-    -- Any other write of these registers, where the byte or the register is not the one, starts no cycle.
+    -- Any other write of registers 0, 1 and 3, where the byte or the register is not the one, starts no cycle.
     pub load-has-no-cycle : (closes c lanes && fetches c k) ≡ false → access r m (Write k lanes w) .answer .cycle ≡ None
     load-has-no-cycle e = uncalled-cycle r m (Write k lanes w) (load-calls-none e)
 
-    -- In the registers it leaves the write of its bytes and no more.
+    -- Any such other write leaves the registers as written, and no more.
     pub load-open : (closes c lanes && fetches c k) ≡ false → access r m (Write k lanes w) .registers ≡ written r k lanes w
     unfolding begin-access carried
     load-open e = left-by r m (Write k lanes w) n ∙ rw (load-calls-none e)
 
-    -- No write of these registers stores to memory.
+    -- No write of registers 0, 1 and 3 stores to memory.
     pub load-keeps-memory : access-memory r m (Write k lanes w) ≡ m
     unfolding begin-access write-due memory-after
     load-keeps-memory = as-done-memory r m (Write k lanes w) n ∙ rw h (go (closes c lanes) (fetches c k) _)
@@ -70,7 +71,7 @@ module _ (r : Registers) (m : List ℕ) where
     pub memory : access-memory r m a ≡ m
     pub cycle : access r m a .answer .cycle ≡ None
 
-  -- So every read of a register but HSTDATA, done or refused.
+  -- A read of any register but HSTDATA, done or refused, changes neither registers nor memory, and has no cycle.
   pub read-changes-nothing : (k lanes : ℕ) → k ≢ 2 → ReadLeaves (Read k lanes)
   unfolding begin-access
   read-changes-nothing k lanes h =
@@ -81,7 +82,7 @@ module _ (r : Registers) (m : List ℕ) where
         cycle = uncalled-cycle r m (Read k lanes) e;
       }
 
-  -- "Writing register 3": in the registers, the selected bytes of HSTCTL by the host's rule, and nothing besides.
+  -- "Writing register 3" changes the selected bytes of HSTCTL by the host's rule, and no other register.
   pub control-written : (lanes w : ℕ) → access r m (Write 3 lanes w) .answer .number ≡ 0 →
       access r m (Write 3 lanes w) .registers ≡ with-control r (control-laid host-low lanes c w)
   unfolding written fetches

@@ -22,7 +22,8 @@ use Rattle.port_spec.specs.declared.Due.the-variants.{Nothing}
 use Rattle.port_spec.specs.declared.Begun.{Begun}
 use Rattle.port_spec.proofs.OpenByte.{open-calls-none}
 
--- b is a whole access, b₁ and b₂ its two byte accesses
+-- b is a whole access, b₁ and b₂ its two byte accesses: their words add up to its word, both have its hollow mark, the first calls for no
+-- cycle and the second for its cycle, and they leave its registers
 pub record Paired (b b₁ b₂ : Begun) : Type 0 where
   pub word : b₁ .word + b₂ .word ≡ b .word
   pub hollow-first : b₁ .hollow ≡ b .hollow
@@ -114,7 +115,7 @@ module _ (r : Registers) where
     registers = e;
   }
 
-  -- The two byte accesses of any sixteen-bit access are so paired.
+  -- The two byte accesses of any sixteen-bit access are paired so, before any cycle.
   pub begin-pair : (a : Sixteen) → Paired (begin-access r (on 3 a)) (first-of r a) (last-of r a)
   unfolding begin-access write-due written half-written
   begin-pair (load k) = read-pair r k

@@ -33,23 +33,23 @@ use Rattle.port_spec.proofs.NoMiss.{TrueMark, true-mark, rule, hollow-f
 
 -- ---- any access
 module _ {r : Registers} {m : List ℕ} {a : Access} {o : Outcome} {m′ : List ℕ} (k : Accessed r m a o m′) where
-  -- The number is one of 0 to 3, each when, and only then.
+  -- The number of an access is one of 0 to 3, each when, and only then (`AccessWhen`).
   pub returns-number : AccessWhen (length m) (register-of a) (lanes-of a) (o .answer .number)
   returns-number = rw (k .outcome) (numbered r m a)
 
-  -- Refused, it answers zeros, and leaves the registers and the memory.
+  -- Refused, an access answers zeros, and leaves the registers and the memory.
   pub refused-access : o .answer .number ≢ 0 →
       (o .answer .word ≡ 0) × (o .answer .hollow ≡ false) × (o .answer .cycle ≡ None) × (o .registers ≡ r) × (m′ ≡ m)
   refused-access d =
       let f = refuses r m a (λ z. d (ap (λ (x : Outcome). x .answer .number) (k .outcome) ∙ z)) in
       rw (k .outcome, k .memory) (f .word, f .hollow, f .cycle, f .registers, f .memory)
 
-  -- Without the closing byte it has no cycle, and leaves the memory.
+  -- Without the closing byte an access has no cycle, and leaves the memory.
   pub open-access : closes (r .control) (lanes-of a) ≡ false → (o .answer .cycle ≡ None) × (m′ ≡ m)
   open-access e = rw (k .outcome, k .memory) (open-has-no-cycle r m a e, open-keeps-memory r m a e)
 
-  -- Done, its cycle is marked inside exactly if one was called for and its word is in the lent memory, empty exactly if one was called
-  -- for and its word isn't, and none exactly if none was called for.
+  -- Done, the cycle of an access is marked inside exactly if one was called for and its word is in the lent memory, empty exactly if one
+  -- was called for and its word isn't, and none exactly if none was called for.
   pub marks-its-cycle : o .answer .number ≡ 0 → TrueMark (o .answer .cycle) (has-cycle r a) (in-memory m (word-used r a))
   marks-its-cycle z =
       rw (k .outcome) (true-mark r m a (sym (ap (λ (x : Outcome). x .answer .number) (k .outcome)) ∙ z))
@@ -67,11 +67,11 @@ done-there k z = sym (ap (λ (x : Outcome). x .answer .number) (k .outcome)) ∙
 
 -- ---- a read
 module _ {r : Registers} {m : List ℕ} {register lanes : ℕ} {o : Outcome} {m′ : List ℕ} (k : Accessed r m (Read register lanes) o m′) where
-  -- Done or refused, it leaves the memory.
+  -- A read, done or refused, leaves the memory.
   pub read-leaves-memory : m′ ≡ m
   read-leaves-memory = k .memory ∙ read-keeps-memory r m register lanes
 
-  -- Done, it answers its register's word as it stood, on the lanes asked for, an unselected byte 0.
+  -- A read that is done answers its register's word as it stood, on the lanes asked for, an unselected byte 0.
   pub read-hands-out : o .answer .number ≡ 0 → o .answer .word ≡ shown lanes (register-word r register)
   read-hands-out z = ap (λ (x : Outcome). x .answer .word) (k .outcome) ∙ read-answers r m register lanes (done-there k z)
 
@@ -84,7 +84,7 @@ module _ {r : Registers} {m : List ℕ} {register lanes : ℕ} {o : Outcome} {m�
 -- a read of HSTDATA that is done
 module _ {r : Registers} {m : List ℕ} {lanes : ℕ} {o : Outcome} {m′ : List ℕ} (k : Accessed r m (Read 2 lanes) o m′)
     (z : o .answer .number ≡ 0) where
-  -- It hands out the word that was held, on its lanes, and says whether that was filler.
+  -- A read of HSTDATA that is done hands out the word that was held, on its lanes, and says whether that was filler.
   pub hands-out-the-held-word : Says (o .answer) lanes (content r)
   hands-out-the-held-word =
       let q = rule r m lanes (done-there k z) in
@@ -94,14 +94,14 @@ module _ {r : Registers} {m : List ℕ} {lanes : ℕ} {o : Outcome} {m′ : List
   pub read-then-fetches : closes (r .control) lanes ≡ true → o .registers ≡ standing m (r .control) (ahead r)
   read-then-fetches e = ap (λ (x : Outcome). x .registers) (k .outcome) ∙ read-fetches r m lanes (done-there k z) e
 
-  -- Without it no register changes.
+  -- Without the closing byte a read of HSTDATA changes no register.
   pub read-stays : closes (r .control) lanes ≡ false → o .registers ≡ r
   read-stays e = ap (λ (x : Outcome). x .registers) (k .outcome) ∙ read-open r m lanes (done-there k z) e
 
 -- ---- a write
 module _ {r : Registers} {m : List ℕ} {register lanes w : ℕ} {o : Outcome} {m′ : List ℕ}
     (k : Accessed r m (Write register lanes w) o m′) where
-  -- Done or refused, it answers no word and no hollow mark.
+  -- A write, done or refused, answers no word and no hollow mark.
   pub write-answers-nothing : (o .answer .word ≡ 0) × (o .answer .hollow ≡ false)
   write-answers-nothing =
       let q = write-is-silent r m register lanes w in
@@ -109,7 +109,7 @@ module _ {r : Registers} {m : List ℕ} {register lanes w : ℕ} {o : Outcome} {
 
   -- a write of a register but HSTDATA that is done
   module _ (d : register ≢ 2) (z : o .answer .number ≡ 0) where
-    -- It leaves the memory.
+    -- A write of another register than HSTDATA leaves the memory.
     pub write-leaves-memory : m′ ≡ m
     write-leaves-memory = k .memory ∙ load-keeps-memory r m register lanes w (ne-eqb register 2 d) (done-there k z)
 
@@ -120,13 +120,13 @@ module _ {r : Registers} {m : List ℕ} {register lanes w : ℕ} {o : Outcome} {
         ap (λ (x : Outcome). x .registers) (k .outcome) ∙
         load-fetches r m register lanes w (ne-eqb register 2 d) (done-there k z) e f
 
-    -- Any other write replaces the selected bytes of its register, and no more.
+    -- Any other write of a register but HSTDATA replaces the selected bytes of its register, and no more.
     pub write-replaces : (closes (r .control) lanes && fetches (r .control) register) ≡ false → o .registers ≡ written r register lanes w
     write-replaces e =
         ap (λ (x : Outcome). x .registers) (k .outcome) ∙
         load-open r m register lanes w (ne-eqb register 2 d) (done-there k z) e
 
--- Of HSTCTL, the selected bytes by the host's rule.
+-- A write of HSTCTL that is done changes its selected bytes by the host's rule, and no other register.
 pub write-of-control : {r : Registers} {m : List ℕ} {lanes w : ℕ} {o : Outcome} {m′ : List ℕ} → Accessed r m (Write 3 lanes w) o m′ →
     o .answer .number ≡ 0 → o .registers ≡ with-control r (control-laid host-low lanes (r .control) w)
 write-of-control {r} {m} {lanes} {w} k z =
@@ -135,15 +135,15 @@ write-of-control {r} {m} {lanes} {w} k z =
 -- a write of HSTDATA that is done
 module _ {r : Registers} {m : List ℕ} {lanes w : ℕ} {o : Outcome} {m′ : List ℕ} (k : Accessed r m (Write 2 lanes w) o m′)
     (z : o .answer .number ≡ 0) where
-  -- With the closing byte "the whole of HSTDATA is stored at the pointer", as it stood before any step.
+  -- A write of HSTDATA with the closing byte: "the whole of HSTDATA is stored at the pointer", as it stood before any step.
   pub write-then-stores : closes (r .control) lanes ≡ true → m′ ≡ store-at m (word-at (r .pointer)) (replaced lanes (r .latch) w)
   write-then-stores e = k .memory ∙ write-stores r m lanes w (done-there k z) e
 
-  -- "the hollow mark clears, then with INCW 1 the pointer gains 16".
+  -- After that store "the hollow mark clears, then with INCW 1 the pointer gains 16".
   pub write-then-steps : closes (r .control) lanes ≡ true → o .registers ≡ after-storing r (replaced lanes (r .latch) w) (incw (r .control))
   write-then-steps e = ap (λ (x : Outcome). x .registers) (k .outcome) ∙ write-steps r m lanes w (done-there k z) e
 
-  -- Without it the byte is laid into HSTDATA; the mark and the other registers stay.
+  -- Without the closing byte the byte is laid into HSTDATA; the mark and the other registers stay.
   pub write-stays-open : closes (r .control) lanes ≡ false → o .registers ≡ with-latch r (replaced lanes (r .latch) w) (r .hollow)
   write-stays-open e = ap (λ (x : Outcome). x .registers) (k .outcome) ∙ write-open r m lanes w (done-there k z) e
 

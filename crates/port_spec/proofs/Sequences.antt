@@ -14,7 +14,7 @@ pub one-sum : {x y z w : Answer} → AddUp x y z → AddUp x y w → z ≡ w
 one-sum {z = z} {w = w} p q =
     rw (sym (p .word) ∙ q .word, sym (p .number) ∙ q .number, sym (p .hollow) ∙ q .hollow, sym (p .cycle) ∙ q .cycle)
 
--- So are any answers that the same pairs add up to.
+-- Any answers that the same pairs add up to, one by one, are the same.
 pub one-sums : {ps : List (Answer × Answer)} {zs ws : List Answer} → AllAddUp ps zs → AllAddUp ps ws → zs ≡ ws
 one-sums no-pair no-pair = refl
 one-sums (a-pair {zs = zs} p ps) (a-pair {z = w} q qs) =
@@ -38,7 +38,9 @@ module _ {S : Type 0} (call : Call S) (control : S → ℕ) (tells : S → Acces
     (exact : (s : S) (a : Access) (x : Answer) (t : S) → call s a x t → (x ≡ tells s a) × (t ≡ leaves s a))
     (stays : (s : S) (a : Access) → Holds s → Holds (leaves s a))
     (alike : (s : S) (a : Sixteen) → Holds s → PairAlike control tells leaves s a) where
-  -- Two byte calls answer and leave what the one call answers and leaves.
+  -- If each call has one outcome, and each sixteen-bit access done as two byte calls ends like the whole one in every state where `Holds`,
+  -- which calls keep, then so do all calls that the contract allows: the two answers add up to the one (`AddUp`), and both end in the same
+  -- state.
   pub pair-alike : {s t t₁ t₂ : S} (a : Sixteen) {x x₁ x₂ : Answer} → Holds s → call s (on 3 a) x t →
       call s (on (first-lane (control s)) a) x₁ t₁ → call t₁ (on (last-lane (control s)) a) x₂ t₂ → AddUp x₁ x₂ x × (t₂ ≡ t)
   pair-alike {s} {t} {t₁} {t₂} a {x} {x₁} {x₂} h c d e =
@@ -52,7 +54,8 @@ module _ {S : Type 0} (call : Call S) (control : S → ℕ) (tells : S → Acces
         last .1 ∙ ap (λ (z : S). leaves z l) (first .1) ∙ p .end ∙ sym (whole .1),
       )
 
-  -- Any sequence of sixteen-bit accesses done by byte calls answers and ends as done by word calls.
+  -- Under the same conditions any sequence of sixteen-bit accesses ends alike, done by byte calls and by word calls: each pair of answers
+  -- adds up to the word's (`AddUp`), and they end in the same state.
   pub sequences-alike : {s t u : S} {l : List Sixteen} {xs : List Answer} {ps : List (Answer × Answer)} → Holds s →
       ByWords call s l xs t → ByBytes call control s l ps u → AllAddUp ps xs × (u ≡ t)
   sequences-alike h no-word no-byte = (no-pair, refl)
@@ -63,14 +66,14 @@ module _ {S : Type 0} (call : Call S) (control : S → ℕ) (tells : S → Acces
       (a-pair (p .0) (q .0), q .1)
 
   module _ (made : (s : S) (a : Access) → call s a (tells s a) (leaves s a)) where
-    -- Any sequence can be done by word calls,
+    -- If every call can be made, any sequence can be done by word calls.
     pub words-made : (s : S) (l : List Sixteen) → (xs : List Answer) × (t : S) × ByWords call s l xs t
     words-made s [] = ([], s, no-word)
     words-made s (a ∷ rest) =
         let q = words-made (leaves s (on 3 a)) rest in
         (tells s (on 3 a) ∷ q .0, q .1, a-word a (made s (on 3 a)) (q .2))
 
-    -- and by byte calls.
+    -- If every call can be made, any sequence can be done by byte calls.
     pub bytes-made : (s : S) (l : List Sixteen) → (ps : List (Answer × Answer)) × (t : S) × ByBytes call control s l ps t
     bytes-made s [] = ([], s, no-byte)
     bytes-made s (a ∷ rest) =

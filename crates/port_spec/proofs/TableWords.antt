@@ -19,7 +19,7 @@ use Rattle.port_spec.specs.declared.Cycle.the-variants.{Empty}
 
 module _ (m : List ℕ) where
   -- ---- one answer
-  -- A word that is in memory is handed out held, one that is not as filler.
+  -- A word that is in memory is handed out as held.
   pub held-here : (a : BitAddress) → word-at a .0 < length m → given (hand m a) ≡ held-word (getD m (word-at a .0) 0)
   unfolding hand fetch-at
   held-here a h = rw (lt-ltb (word-at a .0) (length m) h)

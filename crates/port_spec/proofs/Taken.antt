@@ -19,7 +19,7 @@ module _ (r : Registers) (m : List ℕ) (a : Access) where
   unfolding access
   taken e = rw (eq-eqb _ _ e)
 
-  -- So the memory is what its cycle leaves.
+  -- The memory after an access that is accepted is what its cycle leaves.
   pub taken-memory : number-for m a ≡ 0 → access-memory r m a ≡ memory-after (begin-access r a .registers) (begin-access r a .due) m
   unfolding access-memory
   taken-memory e = rw (eq-eqb _ _ e)
@@ -29,7 +29,7 @@ module _ (r : Registers) (m : List ℕ) (a : Access) where
   unfolding access
   barred n = rw (ne-eqb _ _ n)
 
-  -- And it leaves the memory.
+  -- An access that is refused leaves the memory.
   pub barred-memory : number-for m a ≢ 0 → access-memory r m a ≡ m
   unfolding access-memory
   barred-memory n = rw (ne-eqb _ _ n)
@@ -58,7 +58,7 @@ module _ (r : Registers) (m : List ℕ) (a : Access) where
   pub as-done : access r m a .answer .number ≡ 0 → access r m a ≡ done (begin-access r a) m
   as-done n = taken (sym number-is ∙ n)
 
-  -- So the memory is what its cycle left.
+  -- The memory after an access that answers number 0 is what its cycle left.
   pub as-done-memory : access r m a .answer .number ≡ 0 →
       access-memory r m a ≡ memory-after (begin-access r a .registers) (begin-access r a .due) m
   as-done-memory n = taken-memory (sym number-is ∙ n)

@@ -70,13 +70,15 @@ deed-real s (processor register w) o h k = go (eqb register 2)
 deed-real s reset o h k = λ g. absurd (false≢true g)
 deed-real s (elsewhere m) o h k = k
 
--- Over any run of deeds in which the host writes HSTDATA in whole words, both bytes of a held word came out of memory or were written.
+-- Over any run of deeds in which the host writes HSTDATA in whole words, on lanes 3, both bytes of a held word came out of memory or were
+-- written, if that was so when the run began.
 pub both-bytes-real : (s : Machine) (l : List Deed) (o : Origin) → All-whole l → Real o → Real (story s l o)
 unfolding story
 both-bytes-real s [] o h k = k
 both-bytes-real s (d ∷ rest) o h k = both-bytes-real (does s d) rest (story-after s d o) (h .1) (deed-real s d o (h .0) k)
 
--- So from reset on, a read that says held hands out no byte of filler.
+-- From reset on, if the host writes HSTDATA in whole words, a read that says held hands out no byte of filler: both bytes came out of
+-- memory or were written.
 pub no-filler-in-held : (m : List ℕ) (l : List Deed) (lanes : ℕ) → All-whole l →
     answer-of (ran (woken m) l) (Read 2 lanes) .number ≡ 0 → answer-of (ran (woken m) l) (Read 2 lanes) .hollow ≡ false →
     BothReal (story (woken m) l unset)
@@ -99,7 +101,8 @@ pub record HalfReal (l : List Deed) (w : ℕ) : Type 0 where
 abbrev lone-byte : Deed
 lone-byte = host (Write 2 2 0x1200)
 
--- A lone closing byte 12h gives a held 12FFh over the filler of a load that missed, and a held 1200h over the nothing of a reset.
+-- The limit: with no memory, a lone closing byte 12h gives a held 12FFh over the filler of a load that missed, and a held 1200h after
+-- reset; the low byte came from nowhere.
 pub lone-closing-byte : HalfReal (host (Write 1 3 0) ∷ lone-byte ∷ []) 0x12ff × HalfReal (lone-byte ∷ []) 0x1200
 unfolding
     answer-of ran does after access access-memory refusal are-lanes done begin-access register-word half-written written read-due

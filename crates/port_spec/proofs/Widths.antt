@@ -78,14 +78,14 @@ memory-fits r (Store s) m f h = stored-words m (word-at (r .pointer)) h (r .latc
 
 -- ---- the whole access
 module _ (r : Registers) (m : List ℕ) (a : Access) where
-  -- An access leaves registers of 32 and 16 bits.
+  -- An access to registers of 32 and 16 bits, with a memory of 16-bit words, leaves registers of as many bits.
   pub access-fits : FitWidths r → AreWords m → FitWidths (access r m a .registers)
   unfolding done
   access-fits f h =
       either-done r m a (λ (o : Outcome). FitWidths (o .registers))
       (carried-fits (begin-access r a .registers) (begin-access r a .due) m (begun-fits r a f) h) (λ n. f)
 
-  -- It leaves words of 16 bits.
+  -- Such an access leaves a memory of 16-bit words.
   pub access-memory-fits : FitWidths r → AreWords m → AreWords (access-memory r m a)
   unfolding access-memory
   access-memory-fits f h = go (eqb (number-for m a) 0)
@@ -94,14 +94,14 @@ module _ (r : Registers) (m : List ℕ) (a : Access) where
       go true = memory-fits (begin-access r a .registers) (begin-access r a .due) m (begun-fits r a f) h
       go false = h
 
-  -- It leaves a clear bit 10 clear.
+  -- An access leaves a clear bit 10 of HSTCTL clear.
   pub access-ten-clear : TenClear r → TenClear (access r m a .registers)
   unfolding done
   access-ten-clear h =
       either-done r m a (λ (o : Outcome). TenClear (o .registers))
       (ap (λ (c : ℕ). bit c 10) (carried-control (begin-access r a .registers) (begin-access r a .due) m) ∙ begun-ten-clear r a h) (λ n. h)
 
-  -- The word that it answers has 16 bits, whatever the registers.
+  -- The word that an access answers has 16 bits, whatever the registers.
   pub access-word : access r m a .answer .word < 65536
   unfolding done
   access-word = either-done r m a (λ (o : Outcome). o .answer .word < 65536) (begun-word r a) (λ n. omega arith)

@@ -15,6 +15,7 @@ abbrev pub part-moved : List ℕ → ℕ → ℕ → ℕ → List ℕ
 part-moved s from to i = take i (slice from to s) ++ drop i s
 
 module _ (s : List ℕ) (from to : ℕ) (h : from ≤ to) (k : to ≤ length s) where
+  -- There are as many bytes to move as lie between the two places.
   pub count : length (slice from to s) ≡ to - from
   count = length-slice from to s k
 
@@ -29,7 +30,7 @@ module _ (s : List ℕ) (from to : ℕ) (h : from ≤ to) (k : to ≤ length s) 
       ap (λ (n : ℕ). getD s n 0) (add-comm i from) ∙
       sym (getD-drop from (take to s) i 0 ∙ getD-take to s (from + i) 0 (omega (arith, m, h)))
 
-  -- It is moved.
+  -- The next byte, set at its place in front, is moved.
   pub one-moved : (i : ℕ) → i < to - from →
       set (part-moved s from to i) i (getD (part-moved s from to i) (from + i) 0) ≡ part-moved s from to (i + 1)
   one-moved i m =
@@ -51,6 +52,6 @@ module _ (s : List ℕ) (from to : ℕ) (h : from ≤ to) (k : to ≤ length s) 
   pub all-moved : part-moved s from to (to - from) ≡ moved s from to
   all-moved = ap (λ (l : List ℕ). l ++ drop (to - from) s) (take-all (to - from) (slice from to s) (omega (arith, count)))
 
-  -- They are the front then.
+  -- The bytes that were moved are the front then.
   pub front-moved : take (to - from) (moved s from to) ≡ slice from to s
   front-moved = take-at (slice from to s) (drop (to - from) s) (to - from) count

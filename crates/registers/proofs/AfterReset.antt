@@ -8,6 +8,7 @@ use Rattle.bus.specs.Order.{waits}
 use Rattle.bus.proofs.Sources.{quiet-waits}
 use Rattle.registers.specs.Processor.{at-reset}
 
+-- what reset leaves of the registers and the bus
 pub record AfterReset : Type 0 where
   pub pointer : at-reset .registers .pointer ≡ address 0
   pub data-register : at-reset .registers .latch ≡ 0
@@ -16,7 +17,7 @@ pub record AfterReset : Type 0 where
   pub hollow : at-reset .registers .hollow ≡ true
   pub quiet : (source : ℕ) → waits (at-reset .bus) source ≡ false
 
--- So the registers and the bus stand after reset.
+-- After reset the pointer and HSTDATA are 0, HLT is 1 and all else of HSTCTL 0, the mark is hollow, and no source waits.
 pub after-reset : AfterReset
 unfolding bit
 after-reset = record {

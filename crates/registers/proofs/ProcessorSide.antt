@@ -19,7 +19,7 @@ use Rattle.registers.specs.declared.ProcessorRead.{ProcessorRead}
 use Rattle.registers.specs.declared.ProcessorWrite.{ProcessorWrite}
 
 -- ---- demand 1
--- n is the number of a call that names register k
+-- n is the number of a call that names register k: 0 exactly if k is 4 or less, 2 exactly if it is over 4, and no other
 pub record Numbered (k n : ℕ) : Type 0 where
   pub listed : (n ≡ 0) ⊎ (n ≡ 2)
   pub done : n ≡ 0 ↔ k ≤ 4
@@ -31,15 +31,18 @@ served k h = record { listed = inl refl; done = omega arith; unlisted = omega ar
 away : (k : ℕ) → 4 < k → Numbered k 2
 away k h = record { listed = inr refl; done = omega arith; unlisted = omega arith }
 
+-- what a read of register k by the processor answers: such a number, and with another than 0 word 0
 pub record ReadSays (k : ℕ) (x : ProcessorRead) : Type 0 where
   pub number : Numbered k (x .number)
   pub refused : x .number ≢ 0 → x .word ≡ 0
 
+-- what a write of register k by the processor answers: such a number, and with another than 0 the registers as they stood
 pub record WriteSays (r : Registers) (k : ℕ) (x : ProcessorWrite) : Type 0 where
   pub number : Numbered k (x .number)
   pub refused : x .number ≢ 0 → x .registers ≡ r
 
--- A read by the processor answers 0 or 2, each when, and only then, and zeros with 2.
+-- A read by the processor answers 0 exactly if the register is 4 or less, 2 exactly if it is over 4, and no other number; with 2 its word
+-- is 0.
 pub read-says : (r : Registers) (k : ℕ) → ReadSays k (processor-reads r k)
 unfolding processor-reads
 read-says r k = go (ltb 4 k) refl
@@ -48,7 +51,8 @@ read-says r k = go (ltb 4 k) refl
     go true e = record { number = away k (ltb-true 4 k e); refused = λ _. refl }
     go false e = record { number = served k (ltb-false 4 k e); refused = λ n. absurd (n refl) }
 
--- A write by the processor answers 0 or 2, each when, and only then, and leaves the registers with 2.
+-- A write by the processor answers 0 exactly if the register is 4 or less, 2 exactly if it is over 4, and no other number; with 2 it leaves
+-- the registers.
 pub write-says : (r : Registers) (k w : ℕ) → WriteSays r k (processor-writes r k w)
 unfolding processor-writes
 write-says r k w = go (ltb 4 k) refl
@@ -69,13 +73,15 @@ module _ (r : Registers) where
     pub low-control : processor-reads r 3 .word ≡ lo (bare (r .control))
     pub high-control : processor-reads r 4 .word ≡ 256 * hi (bare (r .control))
 
-  -- So the five registers read.
+  -- The processor reads the pointer's halves and HSTDATA as they stand, of HSTCTL the low byte as HSTCTLL and the high byte, over a zero
+  -- low byte, as HSTCTLH, both with bit 10 as 0.
   pub reads : Reads
   unfolding processor-reads processor-word register-word lay takes-low takes-high
   reads = record { low = refl; high = refl; data-register = refl; low-control = omega arith; high-control = omega arith }
 
   -- ---- what it writes: one register, and nothing besides
   module _ (w : ℕ) where
+    -- what a write of w by the processor leaves, of its register and of all others
     pub record Writes : Type 0 where
       pub low : w < 65536 → processor-writes r 0 w .registers ≡ with-pointer r (halves w (high-half (r .pointer)))
       pub high : w < 65536 → processor-writes r 1 w .registers ≡ with-pointer r (halves (low-half (r .pointer)) w)
@@ -83,7 +89,8 @@ module _ (r : Registers) where
       pub low-control : processor-writes r 3 w .registers ≡ with-control r (control-laid processor-low 1 (r .control) w)
       pub high-control : processor-writes r 4 w .registers ≡ with-control r (control-laid processor-low 2 (r .control) w)
 
-    -- So the five registers are written.
+    -- A write by the processor changes its own register alone: a half of the pointer becomes the word, and so does HSTDATA, whose mark
+    -- clears; HSTCTLL is the low byte of HSTCTL, by the processor's rule, HSTCTLH its high byte, all but bit 10.
     pub writes : Writes
     unfolding processor-writes processor-written half-written written lay takes-low takes-high
     writes = record {

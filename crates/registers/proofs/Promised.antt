@@ -22,21 +22,21 @@ use Rattle.registers.proofs.processor.processor_write.Reads as processo
 use Rattle.registers.proofs.processor.reset.Kinds as reset-kinds
 use Rattle.registers.proofs.processor.reset.Reads as reset
 
--- `low_half_of`: a.
+-- `low_half_of` takes any a, and all that its contract allows is `low-half` of it.
 pub low-half-of-contract : Contract low-half-of-kinds.ps low-half-of-kinds.r low-half-of.Pre low-half-of.Post
     (λ κs args x left.
     let a = args .0 in
     x ≡ low-half a)
 low-half-of-contract = record { takes-any = λ κs args. tt; says = λ κs args x left p. p }
 
--- `high_half_of`: a.
+-- `high_half_of` takes any a, and all that its contract allows is `high-half` of it.
 pub high-half-of-contract : Contract high-half-of-kinds.ps high-half-of-kinds.r high-half-of.Pre high-half-of.Post
     (λ κs args x left.
     let a = args .0 in
     x ≡ high-half a)
 high-half-of-contract = record { takes-any = λ κs args. tt; says = λ κs args x left p. p }
 
--- `set_pointer`: r, a.
+-- `set_pointer` takes any r and a, and all that its contract allows is `with-pointer` of them.
 pub set-pointer-contract : Contract set-pointer-kinds.ps set-pointer-kinds.r set-pointer.Pre set-pointer.Post
     (λ κs args x left.
     let r = args .0 in
@@ -44,7 +44,7 @@ pub set-pointer-contract : Contract set-pointer-kinds.ps set-pointer-kinds.r set
     x ≡ with-pointer r a)
 set-pointer-contract = record { takes-any = λ κs args. tt; says = λ κs args x left p. p }
 
--- `set_latch`: r, w, hollow.
+-- `set_latch` takes any r, w and hollow, and all that its contract allows is `with-latch` of them.
 pub set-latch-contract : Contract set-latch-kinds.ps set-latch-kinds.r set-latch.Pre set-latch.Post
     (λ κs args x left.
     let r = args .0 in
@@ -53,7 +53,7 @@ pub set-latch-contract : Contract set-latch-kinds.ps set-latch-kinds.r set-latch
     x ≡ with-latch r w hollow)
 set-latch-contract = record { takes-any = λ κs args. tt; says = λ κs args x left p. p }
 
--- `read_register`: r, register.
+-- `read_register` takes any r and register, and all that its contract allows is `register-word` of them.
 pub read-register-contract : Contract read-register-kinds.ps read-register-kinds.r read-register.Pre read-register.Post
     (λ κs args x left.
     let r = args .0 in
@@ -61,7 +61,7 @@ pub read-register-contract : Contract read-register-kinds.ps read-register-kinds
     x ≡ register-word r register)
 read-register-contract = record { takes-any = λ κs args. tt; says = λ κs args x left p. p }
 
--- `write_register`: r, register, lanes, w.
+-- `write_register` takes any r, register, lanes and w, and all that its contract allows is `written` of them.
 pub write-register-contract : Contract write-register-kinds.ps write-register-kinds.r write-register.Pre write-register.Post
     (λ κs args x left.
     let r = args .0 in
@@ -71,7 +71,7 @@ pub write-register-contract : Contract write-register-kinds.ps write-register-ki
     x ≡ written r register lanes w)
 write-register-contract = record { takes-any = λ κs args. tt; says = λ κs args x left p. p }
 
--- `processor_read`: r, register.
+-- `processor_read` takes any r and register, and all that its contract allows is `processor-reads` of them.
 pub processor-read-contract : Contract processor-read-kinds.ps processor-read-kinds.r processor-read.Pre processor-read.Post
     (λ κs args x left.
     let r = args .0 in
@@ -79,7 +79,7 @@ pub processor-read-contract : Contract processor-read-kinds.ps processor-read-ki
     x ≡ processor-reads r register)
 processor-read-contract = record { takes-any = λ κs args. tt; says = λ κs args x left p. p }
 
--- `processor_write`: r, register, w.
+-- `processor_write` takes any r, register and w, and all that its contract allows is `processor-writes` of them.
 pub processor-write-contract : Contract processor-write-kinds.ps processor-write-kinds.r processor-write.Pre processor-write.Post
     (λ κs args x left.
     let r = args .0 in
@@ -88,7 +88,7 @@ pub processor-write-contract : Contract processor-write-kinds.ps processor-write
     x ≡ processor-writes r register w)
 processor-write-contract = record { takes-any = λ κs args. tt; says = λ κs args x left p. p }
 
--- `reset`: nothing.
+-- `reset` takes nothing, and all that its contract allows is `at-reset`.
 pub reset-contract : Contract reset-kinds.ps reset-kinds.r reset.Pre reset.Post
     (λ κs args w left.
     w ≡ at-reset)

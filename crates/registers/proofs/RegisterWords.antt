@@ -18,7 +18,7 @@ pub record ReadAs (r : Registers) : Type 0 where
   pub data-register : register-word r 2 ≡ r .latch
   pub control : register-word r 3 ≡ bare (r .control)
 
--- So the four registers read.
+-- Registers 0 to 3 read as the pointer's low half, its high half, HSTDATA, and HSTCTL with bit 10 as 0.
 pub read-as : (r : Registers) → ReadAs r
 unfolding register-word
 read-as r = record { low = refl; high = refl; data-register = refl; control = refl }
@@ -40,7 +40,7 @@ pub record HalvesWritten (r : Registers) (lanes w : ℕ) : Type 0 where
   pub high : high-half (written r 1 lanes w .pointer) ≡ replaced lanes (high-half (r .pointer)) w
   pub high-leaves-low : low-half (written r 1 lanes w .pointer) ≡ low-half (r .pointer)
 
--- So every write of registers 0 and 1.
+-- Every write of register 0 or 1 replaces the selected bytes of its half of the pointer, and leaves the other half.
 pub halves-written : (r : Registers) (lanes w : ℕ) → HalvesWritten r lanes w
 unfolding written half-written
 halves-written r lanes w =
@@ -62,7 +62,7 @@ pub record OneWritten (r : Registers) (lanes w : ℕ) : Type 0 where
   pub data-register : written r 2 lanes w ≡ with-latch r (replaced lanes (r .latch) w) (r .hollow)
   pub control : written r 3 lanes w ≡ with-control r (control-laid host-low lanes (r .control) w)
 
--- So every write of the four.
+-- Every write of one of the four changes its own register alone; that of HSTDATA leaves the mark.
 pub one-written : (r : Registers) (lanes w : ℕ) → OneWritten r lanes w
 unfolding written
 one-written r lanes w = record { low = refl; high = refl; data-register = refl; control = refl }

@@ -46,7 +46,7 @@ chosen P false p q = q
 
 -- ---- the host
 module _ (r : Registers) (k lanes w : ℕ) where
-  -- A write by the host leaves 32 and 16 bits.
+  -- A write by the host to registers of 32 and 16 bits leaves registers of as many.
   pub written-fits : FitWidths r → FitWidths (written r k lanes w)
   unfolding written
   written-fits f =
@@ -54,7 +54,7 @@ module _ (r : Registers) (k lanes w : ℕ) where
       (chosen FitWidths (eqb k 2) (latch-fits r f _ _ (replaced-word lanes (r .latch) w))
       (with-control-fits r f _ (control-fits host-low host-byte lanes (r .control) w)))
 
-  -- It leaves a clear bit 10 clear.
+  -- A write by the host leaves a clear bit 10 clear.
   pub written-ten-clear : TenClear r → TenClear (written r k lanes w)
   unfolding written
   written-ten-clear h =
@@ -72,7 +72,7 @@ module _ (r : Registers) (k w : ℕ) where
       go true = p
       go false = q
 
-  -- A write of a word by the processor leaves 32 and 16 bits.
+  -- A write of a word by the processor to registers of 32 and 16 bits leaves registers of as many.
   pub processor-fits : w < 65536 → FitWidths r → FitWidths (processor-writes r k w .registers)
   unfolding processor-written
   processor-fits p f =
@@ -82,7 +82,7 @@ module _ (r : Registers) (k w : ℕ) where
       (chosen FitWidths (eqb k 3) (with-control-fits r f _ (control-fits processor-low processor-byte 1 (r .control) w))
       (with-control-fits r f _ (control-fits processor-low processor-byte 2 (r .control) w)))))
 
-  -- It leaves a clear bit 10 clear.
+  -- A write by the processor leaves a clear bit 10 clear.
   pub processor-ten-clear : TenClear r → TenClear (processor-writes r k w .registers)
   unfolding processor-written
   processor-ten-clear h =

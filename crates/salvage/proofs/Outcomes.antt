@@ -13,17 +13,17 @@ use Rattle.salvage_spec.specs.Salvage.{run, rest, report, salvage-answer, bytes
 use Rattle.salvage_spec.proofs.Divides.{divides, run-length}
 
 module _ (s : List ℕ) {f : Scanned} (e : f ≡ scanned s) where
-  -- The scan ends where the run does,
+  -- The scan ends where the run does.
   pub ends-with-run : f .place ≡ length (run s)
   ends-with-run = ap (λ (x : Scanned). x .place) e ∙ sym (run-length s)
 
-  -- and that is within the string.
+  -- Where the scan ends is within the string.
   pub within : f .place ≤ length s
   within =
       let n = ap length (divides s .all) ∙ length-append (run s) (rest s) in
       omega (arith, ends-with-run, n)
 
-  -- So many bytes are handed on to be copied.
+  -- As many bytes are handed on to be copied as there are up to where the scan ends.
   pub as-long : f .place ≡ length (take (f .place) s)
   as-long = sym (length-take-le (f .place) s within)
 
@@ -33,14 +33,14 @@ module _ (s : List ℕ) {f : Scanned} (e : f ≡ scanned s) where
       omega (arith, ends-with-run, n)
 
   module _ (out : List ℕ) where
-    -- The run does not fit: nothing is written.
+    -- Where the run does not fit, the answer is 24 and zeros, and nothing is written.
     pub too-small : length out < f .place → SalvagedTranscript s out (report 24 0 0 0) out
     unfolding salvage-answer bytes-after
     too-small h =
         let t = lt-ltb (length out) (length (run s)) (rw ends-with-run at h) in
         record { answer = rw t; bytes = rw t }
 
-    -- It fits: it is written.
+    -- Where the run fits, it is written into the first bytes, and the answer tells what the scan found.
     pub written : f .place ≤ length out → {out′ : List ℕ} →
         out′ ≡ take (length (take (f .place) s)) (take (f .place) s) ++ drop (length (take (f .place) s)) out →
         SalvagedTranscript s out (report 0 (f .entries) (length s - f .place) (f .refusal)) out′

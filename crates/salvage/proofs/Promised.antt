@@ -4,7 +4,7 @@ use Rattle.salvage_spec.specs.Salvage.{SalvagedTranscript}
 use Rattle.salvage.proofs.salvage_transcript.Kinds as salvage-transcript-kinds
 use Rattle.salvage.proofs.salvage_transcript.Reads as salvage-transcript
 
--- `salvage_transcript`: damaged, sound.
+-- `salvage_transcript` takes any damaged and sound, and all that its contract allows is `SalvagedTranscript` of them.
 pub salvage-transcript-contract :
     Contract salvage-transcript-kinds.ps salvage-transcript-kinds.r salvage-transcript.Pre salvage-transcript.Post
     (λ κs args o left.

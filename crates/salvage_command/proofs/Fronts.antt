@@ -8,7 +8,7 @@ use lib.ListN.{length, take, drop, length-take, length-drop}
 use lib.Seq.{length-take-le, take-all, take-length, take-append-seam, take-add, take-take, drop-at}
 use Rattle.words.proofs.Choices.{less-or-not}
 
--- No more places than there are.
+-- No more places are taken of a list than there are.
 pub take-min : (n : ℕ) (l : List ℕ) → take (min n (length l)) l ≡ take n l
 take-min n l =
     ⊎-elim
@@ -22,7 +22,7 @@ take-min n l =
 last-of-first : (w n : ℕ) (l : List ℕ) → w ≤ length l → drop w (take (w + n) l) ≡ take n (drop w l)
 last-of-first w n l h = ap (drop w) (take-add w n l) ∙ drop-at (take w l) (take n (drop w l)) w (length-take-le w l h)
 
--- They are the same of the list's first places, where these reach so far.
+-- Places further on are the same of a list and of its first places, where these reach so far.
 pub within-first : (all w n : ℕ) (l : List ℕ) → all ≤ length l → w + n ≤ all → take n (drop w (take all l)) ≡ take n (drop w l)
 within-first all w n l k h =
     let m = length-take-le all l k in
@@ -56,7 +56,7 @@ module _ (from n : ℕ) (piece by : List ℕ) (h : from + n ≤ length piece) wh
     pub as-many : n ≡ length (take n by′)
     as-many = sym (ap length by-front ∙ as-long)
 
-    -- The second one brings it to the front of the piece.
+    -- The second copy brings these bytes to the front of the piece.
     pub moved : {piece′ : List ℕ} → piece′ ≡ take (length (take n by′)) (take n by′) ++ drop (length (take n by′)) piece →
         take n piece′ ≡ take n (drop from piece)
     moved {piece′} f =

@@ -12,7 +12,7 @@ use Rattle.salvage_command.specs.Turning.{Room, SalvagedTurn, SoFar, Tel
 use Rattle.salvage_command.specs.declared.Turn.{Turn}
 use Rattle.salvage_command.specs.declared.pieces.Progress.{Progress}
 
--- 65,540 bytes a turn, and 2^46 turns
+-- between two turns, with so many turns left: 65,540 bytes a turn, and 2^46 turns in all
 pub record Going (piece sound : List ℕ) (p : Progress) (turns : ℕ) : Type 0 where
   pub so-far : SoFar p piece
   pub few : p .held ≤ 4
@@ -21,13 +21,13 @@ pub record Going (piece sound : List ℕ) (p : Progress) (turns : ℕ) : Type 0 
   pub kept : p .kept + 65540 * turns ≤ 4611967493404098560
   pub gone : p .gone + 65540 * turns ≤ 4611967493404098560
 
--- Before the first piece.
+-- Before the first piece the progress is that of no pieces.
 pub nothing-yet : (piece : List ℕ) → SoFar (record { kept = 0; gone = 0; held = 0; stop = 0 }) piece
 unfolding pieces-taken
 nothing-yet piece = record { pieces = []; made = refl }
 
 module _ {piece sound : List ℕ} {p : Progress} {turns : ℕ} (g : Going piece sound p turns) (more : 0 < turns) where
-  -- A turn can be taken.
+  -- As long as turns are left, one can be taken.
   pub ready : Room p piece sound
   ready =
       record {
@@ -51,7 +51,7 @@ module _ {piece sound : List ℕ} {p : Progress} {turns : ℕ} (g : Going piece 
               ∙ sym (taken-on beginning (before .pieces) (x .came));
         }
 
-    -- After it the next one can be.
+    -- After a turn that keeps the buffers' lengths, the next one can be taken.
     pub goes-on : length piece′ ≡ length piece → length sound′ ≡ length sound → Going piece′ sound′ (t .progress) (turns - 1)
     goes-on a b =
         record {
@@ -63,11 +63,11 @@ module _ {piece sound : List ℕ} {p : Progress} {turns : ℕ} (g : Going piece 
           gone = omega (arith, x .gone, g .gone, g .piece-long);
         }
 
-    -- The report's count has room.
+    -- The report's count of bytes left has room.
     pub can-say : t .progress .gone + t .progress .held < 18446744073709551616
     can-say = omega (arith, x .few, x .gone, g .gone, g .piece-long)
 
-    -- The report is that of the pieces: what is held at the end is left.
+    -- The report is that of the pieces that came: what is held at the end is left.
     pub tells : length piece′ ≡ length piece →
         Tells (record { kept = t .progress .kept; left = t .progress .gone + t .progress .held; stop = t .progress .stop })
     tells a =

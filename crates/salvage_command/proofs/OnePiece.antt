@@ -89,7 +89,7 @@ module _ (p : Progress) (piece sound : List ℕ) (all : ℕ) (ready : Ready p pi
   written-long : all - o .left ≡ length (run x)
   written-long = omega (arith, left-is, all-long, parts-long p x)
 
-  -- There are no more records than bytes.
+  -- No more records are kept than there are bytes.
   pub kept-within : o .kept ≤ all
   kept-within = let n = no-more-than-bytes (divides x .good) in omega (arith, n, kept-is, all-long, parts-long p x)
 
@@ -97,11 +97,11 @@ module _ (p : Progress) (piece sound : List ℕ) (all : ℕ) (ready : Ready p pi
     held-is : held ≡ held-count (refusal-read x) (length (rest x))
     held-is = h ∙ ap (λ (k : ℕ). held-count k (o .left)) stop-is ∙ ap (held-count (refusal-read x)) left-is
 
-    -- Four at most are held, and no more than are left.
+    -- Four bytes at most are held, and no more than are left.
     pub held-within : (held ≤ 4) × (held ≤ o .left)
     held-within = (omega (arith, held-is, few p x), omega (arith, held-is, few p x, left-is))
 
-    -- They stand within the piece.
+    -- The bytes that are held stand within the piece.
     pub held-there : all - o .left + held ≤ length piece
     held-there = omega (arith, held-within .1, left-within, ready .within)
 
@@ -114,7 +114,8 @@ module _ (p : Progress) (piece sound : List ℕ) (all : ℕ) (ready : Ready p pi
           ∙ ap (λ (n : ℕ). take n (rest x)) held-is
           ∙ held-first p x
 
-      -- The turn is as it should be.
+      -- Where no bad record has stopped it for good, a turn takes the bytes at hand as the pieces of `salvage_spec` are taken: records
+      -- kept, bytes left and held, what stopped it, and what is written.
       pub salvaged : may-go-on (p .stop) ≡ true →
           Took p x
           (record {
@@ -144,6 +145,8 @@ module _ (p : Progress) (piece sound : List ℕ) (all : ℕ) (ready : Ready p pi
           }
 
 -- ---- a piece that is left
+
+-- Behind a bad record a turn leaves all bytes that came: it counts them, and writes nothing.
 pub left : (p : Progress) (piece sound : List ℕ) (all : ℕ) → Ready p piece sound all → may-go-on (p .stop) ≡ false →
     Took p (take all piece) (leaving p all) piece sound
 unfolding piece-taken piece-written

@@ -13,7 +13,8 @@ use Rattle.salvage_command.specs.declared.pieces.Progress.{Progress}
 use Rattle.salvage_command.specs.declared.pieces.Taken.{Taken}
 use Rattle.salvage_command.proofs.OnePiece.{by-parts}
 
--- What came is what stands behind the bytes that were held, which stayed.
+-- Where the bytes that were held stayed, and the bytes at hand are taken, that is a whole turn: what came is what stands behind those that
+-- were held.
 pub turn-taken : (p : Progress) (piece filled : List ℕ) (all : ℕ) {t : Taken} {piece′ sound′ : List ℕ} {more failed : Bool} →
     p .held ≤ all → all ≤ length filled → length filled ≡ length piece → take (p .held) filled ≡ take (p .held) piece →
     Took p (take all filled) t piece′ sound′ → more ≡ ltb 0 (all - p .held) →

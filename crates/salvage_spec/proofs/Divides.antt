@@ -31,13 +31,14 @@ read-so s es t u n e q (next-bad b) =
     let x = reads-bad s t u es n e q b in
     record { entries = x .entries; place = x .place; refusal = x .refusal }
 
--- The parts are those that salvage finds.
+-- the parts are those that salvage finds
 pub record Found (s : List ℕ) (es : List Entry) (t u : List ℕ) (n : ℕ) : Type 0 where
   pub entries : entries-read s ≡ es
   pub kept : run s ≡ t
   pub left : rest s ≡ u
   pub refusal : refusal-read s ≡ n
 
+-- The parts into which a string divides are those that salvage finds: records, run, rest and what stopped it.
 pub found : {s : List ℕ} {es : List Entry} {t u : List ℕ} {n : ℕ} → Divides s es t u n → Found s es t u n
 found {s} {es} {t} {u} {n} d =
     let x = read-so s es t u n (d .all) (d .good) (d .behind) in
@@ -49,7 +50,7 @@ found {s} {es} {t} {u} {n} d =
     }
 
 -- ---- every string divides
--- some parts
+-- some parts into which a string divides
 pub record Parts (s : List ℕ) : Type 0 where
   pub entries : List Entry
   pub kept : List ℕ
@@ -63,7 +64,8 @@ some-parts s (all-good es q) =
 some-parts s (then-bad es t u n e q b) =
     record { entries = es; kept = t; left = u; stop = n; divides = record { all = e; good = q; behind = next-bad b } }
 
--- The run is whole good records, those that the reader reads; behind it is a bad record, refused as the reader says, or nothing.
+-- Every string is the run, which is good records, those that the reader reads, and the rest, which is nothing or begins with a bad record,
+-- refused as the reader says.
 pub divides : (s : List ℕ) → Divides s (entries-read s) (run s) (rest s) (refusal-read s)
 divides s =
     let p = some-parts s (divided s) in
@@ -79,7 +81,7 @@ run-length s =
     let d = divides s in
     sym (read-so s (entries-read s) (run s) (rest s) (refusal-read s) (d .all) (d .good) (d .behind) .place)
 
--- A string divides in one way.
+-- A string divides into good records and such a rest in one way only.
 pub one-division : {s : List ℕ} {es fs : List Entry} {t u v w : List ℕ} {n k : ℕ} → Divides s es t u n → Divides s fs v w k →
     (es ≡ fs) × (t ≡ v) × (u ≡ w) × (n ≡ k)
 one-division d e =

@@ -36,6 +36,7 @@ module _ (s : List ℕ) (room : ℕ) where
       (λ h. (_, plain.SalvagedAs.done (divides s) h))
       (less-or-not room (length (run s)))
 
-  -- The answer of salvage is o exactly if o's row holds.
+  -- The answer of salvage is o exactly if o's row of `SalvagedAs` holds: the string is good records and a rest, which is nothing or begins
+  -- with a bad record, and the records fit, or they do not (24).
   pub salvages-exactly : (o : Salvaged) → salvage-answer s room ≡ o ↔ SalvagedAs s room o
   salvages-exactly o = (λ e. subst (SalvagedAs s room) (sym (says (some .0) (some .1)) ∙ e) (some .1), says o)

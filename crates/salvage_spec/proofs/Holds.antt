@@ -6,6 +6,7 @@ use Rattle.salvage_spec.specs.Pieces.{held-of, piece-taken, piece-writte
 use Rattle.salvage_spec.specs.Salvage.{salvage-answer, bytes-after}
 use Rattle.salvage_spec.specs.Examples.{worked, wholes, cuts, examples}
 
+-- The worked examples of `specs/Examples` hold, by computation: each stop, in heads and in words, 24 at its edge, and inputs in pieces.
 pub examples-hold : map worked examples ≡ examples
 unfolding
     examples wholes cuts with-group head-read word-read byte-taken feed feeds salvage-answer bytes-after held-of piece-taken piece-written

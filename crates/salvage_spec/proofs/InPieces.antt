@@ -37,12 +37,13 @@ go-on (v ∷ vs) s p a k =
           append-assoc (run s) (piece-written p v) (pieces-written (piece-taken p v) vs);
     }
 
--- A piece more is taken as the last one, and what is written of it is behind what was written.
+-- A piece more is taken as the last one.
 pub taken-on : (p : Progress) (vs : List (List ℕ)) (v : List ℕ) → pieces-taken p (vs ++ (v ∷ [])) ≡ piece-taken (pieces-taken p vs) v
 unfolding pieces-taken
 taken-on p [] v = refl
 taken-on p (w ∷ vs) v = taken-on (piece-taken p w) vs v
 
+-- What is written of a piece more is behind what was written.
 pub written-on : (p : Progress) (vs : List (List ℕ)) (v : List ℕ) →
     pieces-written p (vs ++ (v ∷ [])) ≡ pieces-written p vs ++ piece-written (pieces-taken p vs) v
 unfolding pieces-taken pieces-written
@@ -51,21 +52,23 @@ written-on p (w ∷ vs) v =
     ap (λ (l : List ℕ). piece-written p w ++ l) (written-on (piece-taken p w) vs v)
     ∙ sym (append-assoc (piece-written p w) (pieces-written (piece-taken p w) vs) (piece-written (pieces-taken (piece-taken p w) vs) v))
 
--- What stands at the end, of pieces that make the string s
+-- what stands at the end, of pieces that make the string s
 pub record Ends (s : List ℕ) (p : Progress) (out : List ℕ) : Type 0 where
   pub writes : out ≡ run s
   pub kept : p .kept ≡ length (entries-read s)
   pub left : p .gone + length (p .held) ≡ length (rest s)
   pub stop : p .stop ≡ refusal-read s
 
--- An input in pieces ends like the whole.
+-- However an input is cut into pieces, empty ones among them, what is written of all of them, the records kept, the bytes left and what
+-- stopped it are those of the whole.
 pub in-pieces : (vs : List (List ℕ)) → AreBytes (flatten vs) → Ends (flatten vs) (pieces-taken beginning vs) (pieces-written beginning vs)
 unfolding feeds held-of
 in-pieces vs a =
     let x = go-on vs [] beginning a (record { kept = refl; held = refl; left = refl; stop = refl }) in
     record { writes = sym (x .writes); kept = x .stands .kept; left = x .stands .left; stop = x .stands .stop }
 
--- In plain words: what is written is good records, as many as are kept, and behind them as many bytes are left as are counted or held.
+-- In plain words: what is written of the pieces is good records, as many as are kept, and behind them as many bytes are left as are counted
+-- or held, which are nothing or begin with a bad record, refused as is reported.
 pub pieces-divide : (vs : List (List ℕ)) → AreBytes (flatten vs) →
     (es : List Entry) × (u : List ℕ) × Divides (flatten vs) es (pieces-written beginning vs) u (pieces-taken beginning vs .stop)
     × (pieces-taken beginning vs .kept ≡ length es)

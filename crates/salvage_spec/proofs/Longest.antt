@@ -34,7 +34,7 @@ no-more-than-bytes (and-more {r} {s} g q) =
         let n = length-append h w in
         omega arith
 
--- Salvage keeps good records in front, and goes on behind them as if they were not there.
+-- Good records in front change nothing of what follows: salvage keeps them, and goes on behind them as if they were not there.
 pub good-front : (t v : List ℕ) {es : List Entry} → Sound t es →
     Found (t ++ v) (es ++ entries-read v) (t ++ run v) (rest v) (refusal-read v)
 good-front t v q =
@@ -46,7 +46,7 @@ good-front t v q =
       behind = d .behind;
     })
 
--- No front that is whole good records is longer than the run, and each is a front of it.
+-- Each front of the string that is good records is a front of the run, and no longer.
 pub longest : (s t v : List ℕ) {es : List Entry} → s ≡ t ++ v → Sound t es → (length t ≤ length (run s)) × (run s ≡ t ++ run v)
 longest s t v e q =
     let front : run s ≡ t ++ run v = ap run e ∙ good-front t v q .kept in
@@ -67,11 +67,11 @@ rest-empty none-left z = refl
 rest-empty (next-bad {u} {n} b) z = absurd (bad-record-number u n b z)
 
 module _ (s : List ℕ) where
-  -- The next record, if any, is bad, with the refusal that stopped it.
+  -- The next record behind the run, if any, is bad, with the refusal that stopped it.
   pub next-is-bad : rest s ≢ [] → BadRecord (rest s) (refusal-read s)
   next-is-bad = rest-bad (divides s .behind)
 
-  -- If something stopped it, there is such a record.
+  -- If something stopped it, there is such a bad record, with that refusal.
   pub stopped-is-bad : refusal-read s ≢ 0 → BadRecord (rest s) (refusal-read s)
   stopped-is-bad = rest-stopped (divides s .behind)
 
@@ -83,13 +83,14 @@ module _ (s : List ℕ) where
         rest-empty (d .behind),
       )
 
-  -- What stopped it is what the reader says of the whole string, and where the run ends is the place that the reader names.
+  -- Where something stopped it, the reader refuses the whole string with that refusal, whatever room its lists have, and names the place
+  -- where the run ends.
   pub stopped-as-read : (room : ℕ) → refusal-read s ≢ 0 → read-answer s room ≡ format.answer (refusal-read s) 0 (length (run s))
   stopped-as-read room d =
       let x = divides s in
       reads-exactly s room (format.answer (refusal-read s) 0 (length (run s))) .1
       (format.ReadAs.bad-record (x .all) (x .good) (stopped-is-bad d))
 
-  -- Of the rest alone the reader says the same, at its first byte.
+  -- Of the rest alone nothing is kept, and the reader says the same, at its first byte.
   pub rest-alone : Found (rest s) [] [] (rest s) (refusal-read s)
   rest-alone = found (record { all = refl; good = nothing; behind = divides s .behind })

@@ -22,7 +22,7 @@ use Rattle.salvage_spec.specs.Salvage.{run, rest}
 use Rattle.salvage_spec.proofs.Divides.{Found, found}
 
 -- ---- a bad record with more behind it
--- One that is not cut off stays as bad as it is.
+-- A bad record that is not cut off stays as bad as it is with more behind it.
 pub bad-with-more : (u v : List ℕ) (n : ℕ) → BadRecord u n → n ≢ 20 → BadRecord (u ++ v) n
 bad-with-more _ v _ (head-cut c) d = absurd (d refl)
 bad-with-more _ v n (head-bad {h} s p q) d = subst (λ (t : List ℕ). BadRecord t n) (sym (append-assoc h s v)) (head-bad (s ++ v) p q)
@@ -36,7 +36,7 @@ stopped-at-once : (u : List ℕ) (n : ℕ) → BadRecord u n → Found u [] [] u
 stopped-at-once u n b = found (record { all = refl; good = nothing; behind = next-bad b })
 
 -- ---- what is held of a rest stands for all of it
--- whatever follows: v behind u ends like v behind h, but that so many bytes more are left
+-- u and h with v behind them: the same is kept, held and reported, but that so many bytes more of u are left
 pub record Alike (u h v : List ℕ) : Type 0 where
   pub entries : entries-read (u ++ v) ≡ entries-read (h ++ v)
   pub kept : run (u ++ v) ≡ run (h ++ v)
@@ -84,7 +84,7 @@ cut-alike u v a b =
 cut-only : (u : List ℕ) (k : ℕ) → BadRecord u k → may-go-on k ≡ true → k ≡ 20
 cut-only u k b t = eqb-true k 20 (ap (λ (z : Bool). z || eqb k 20) (sym (ne-eqb k 0 (bad-record-number u k b))) ∙ t)
 
--- Of the rest of a string that may go on the first four bytes stand for all.
+-- Of the rest of a string that may go on, the first four bytes stand for all, whatever follows.
 pub rest-alike : (u v : List ℕ) (k : ℕ) → AreBytes u → Rest u k → may-go-on k ≡ true → Alike u (take 4 u) v
 rest-alike _ v _ a none-left t = same-alike [] v
 rest-alike u v k a (next-bad b) t = cut-alike u v a (subst (BadRecord u) (cut-only u k b t) b)

@@ -27,6 +27,7 @@ pub record Stands (s : List ℕ) (p : Progress) : Type 0 where
   pub left : p .gone + length (p .held) ≡ length (rest s)
   pub stop : p .stop ≡ refusal-read s
 
+-- what one piece v more makes of the progress p of the string s
 pub record OneMore (s v : List ℕ) (p : Progress) : Type 0 where
   pub stands : Stands (s ++ v) (piece-taken p v)
   pub writes : run (s ++ v) ≡ run s ++ piece-written p v
@@ -134,6 +135,6 @@ module _ (s v : List ℕ) (p : Progress) (k : Stands s p) where
           writes = all-behind .kept ∙ sym (append-nil (run s)) ∙ ap (λ (l : List ℕ). run s ++ l) (rw t);
         }
 
-  -- One piece more.
+  -- One piece more takes the progress of a string to that of the longer string, and what is written of it is what the run has more.
   pub one-more : AreBytes s → OneMore s v p
   one-more a = ⊎-elim (goes-on a) ended (either-way (may-go-on (p .stop)))

@@ -19,11 +19,12 @@ use Rattle.salvage_spec.proofs.Divides.{found}
 use Rattle.salvage_spec.proofs.Exactly.{salvages-exactly}
 
 module _ {s out : List ℕ} {o : Salvaged} {out′ : List ℕ} (p : SalvagedTranscript s out o out′) where
-  -- Its answer is the one that the string calls for.
+  -- The answer of salvage has a row of `SalvagedAs` that holds of the string.
   pub salvage-answers : SalvagedAs s (length out) o
   salvage-answers = salvages-exactly s (length out) o .0 (sym (p .answer))
 
-  -- And it is no other.
+  -- The answer of salvage is a exactly if a's row of `SalvagedAs` holds: the string is good records and a rest, which is nothing or begins
+  -- with a bad record, and the records fit, or they do not (24).
   pub salvage-exactly : (a : Salvaged) → o ≡ a ↔ SalvagedAs s (length out) a
   salvage-exactly a =
       (λ e. subst (SalvagedAs s (length out)) e salvage-answers, λ w. p .answer ∙ salvages-exactly s (length out) a .1 w)
@@ -31,7 +32,7 @@ module _ {s out : List ℕ} {o : Salvaged} {out′ : List ℕ} (p : SalvagedTran
   number-is : o .number ≡ salvage-answer s (length out) .number
   number-is = ap (λ (a : Salvaged). a .number) (p .answer)
 
-  -- Refused, it answers 24 and zeros, and leaves every byte.
+  -- Refused, salvage answers 24 and zeros, and every byte stays.
   pub salvage-refused : o .number ≢ 0 → (o ≡ record { number = 24; kept = 0; left = 0; stop = 0 }) × (out′ ≡ out)
   unfolding bytes-after
   salvage-refused d = (
@@ -44,7 +45,8 @@ module _ {s out : List ℕ} {o : Salvaged} {out′ : List ℕ} (p : SalvagedTran
       zeros (plain.SalvagedAs.done x h) d = absurd (d refl)
       zeros (plain.SalvagedAs.too-small x h) d = refl
 
-  -- Done, it leaves the good records in the first bytes, and the later ones as they were.
+  -- With 0, the string divides into good records and a rest as is reported; the records stand in the first bytes, and the later ones are as
+  -- they were.
   pub salvage-done : o .number ≡ 0 → SalvagedAll s out o out′
   unfolding bytes-after
   salvage-done z = finish salvage-answers z
@@ -68,7 +70,7 @@ module _ {s out : List ℕ} {o : Salvaged} {out′ : List ℕ} (p : SalvagedTran
             later = ap (drop (length t)) left ∙ drop-append-seam t _;
           }
 
-  -- Either way there are as many bytes as were lent.
+  -- Whatever salvage answers, there are as many bytes as were lent.
   pub as-many-bytes : length out′ ≡ length out
   as-many-bytes = ⊎-elim written-over (λ d. ap length (salvage-refused d .1)) (same-or-not (o .number) 0)
     where

@@ -11,14 +11,15 @@ use Rattle.salvage_spec.specs.InPlainWords.{none-left, Divides}
 use Rattle.salvage_spec.specs.Salvage.{run}
 use Rattle.salvage_spec.proofs.Divides.{Found, found, divides}
 
--- A sound transcript comes out the same.
+-- A sound transcript is good records, and nothing is left behind them.
 pub sound-divides : {s : List ℕ} {es : List Entry} → Sound s es → Divides s es s [] 0
 sound-divides {s} q = record { all = sym (append-nil s); good = q; behind = none-left }
 
+-- A sound transcript comes out the same, with nothing left and no refusal.
 pub comes-out-same : {s : List ℕ} {es : List Entry} → Sound s es → Found s es s [] 0
 comes-out-same q = found (sound-divides q)
 
--- It does so exactly if it is sound; then its entries are those that are kept.
+-- A transcript comes out the same exactly if it is sound; then its entries are those that are kept.
 pub same-exactly : (s : List ℕ) (es : List Entry) → Sound s es ↔ (run s ≡ s) × (entries-read s ≡ es)
 same-exactly s es = (
   λ q. let f = comes-out-same q in (f .kept, f .entries),
@@ -29,6 +30,6 @@ same-exactly s es = (
 pub kept-is-sound : (s : List ℕ) → (refusal-read (run s) ≡ 0) × (entries-read (run s) ≡ entries-read s)
 kept-is-sound s = let f = comes-out-same (divides s .good) in (f .refusal, f .entries)
 
--- Salvaging it again changes nothing.
+-- Salvaging what is kept again changes nothing.
 pub again-same : (s : List ℕ) → Found (run s) (entries-read s) (run s) [] 0
 again-same s = comes-out-same (divides s .good)

@@ -28,14 +28,14 @@ module _ {s out : List ℕ} {o : Salvaged} {out′ : List ℕ} (p : SalvagedTran
   found : Found s (all .entries) (all .kept) (all .left) (o .stop)
   found = parts p z
 
-  -- The next record, if any, is bad, with the refusal that is reported,
+  -- The next record behind what was kept, if any, is bad, with the refusal that is reported.
   pub next-record-bad : o .left ≢ 0 → BadRecord (drop (length s - o .left) s) (o .stop)
   next-record-bad d =
       subst (λ (u : List ℕ). BadRecord u (o .stop)) (found .left ∙ sym (is-left p z))
       (subst (BadRecord (rest s)) (found .refusal)
       (next-is-bad s (λ e. d (all .bytes-left ∙ ap length (sym (found .left) ∙ e)))))
 
-  -- and the reader says so of the whole string, and names the place where the run ends.
+  -- The reader refuses the whole string with what is reported, if that is not 0, and names the place where the run ends.
   pub reader-says-so : {l l′ : Lists} {a : Transcribed} → ReadTranscript s l a l′ → o .stop ≢ 0 →
       a ≡ format.answer (o .stop) 0 (length s - o .left)
   reader-says-so {l} q d =
@@ -44,12 +44,12 @@ module _ {s out : List ℕ} {o : Salvaged} {out′ : List ℕ} (p : SalvagedTran
       ∙ ap (λ (n : ℕ). format.answer n 0 (length (run s))) (found .refusal)
       ∙ ap (format.answer (o .stop) 0) (ap length (found .kept) ∙ kept-length p z)
 
-  -- Of what was left alone the reader says the same, at its first byte.
+  -- Of what was left alone, if anything, the reader says the same, at its first byte.
   pub reader-says-there : {l l′ : Lists} {a : Transcribed} → ReadTranscript (drop (length s - o .left) s) l a l′ → o .left ≢ 0 →
       a ≡ format.answer (o .stop) 0 0
   reader-says-there q d = reader-exactly q (format.answer (o .stop) 0 0) .1 (format.ReadAs.bad-record refl nothing (next-record-bad d))
 
-  -- Nothing is left exactly if nothing stopped it,
+  -- Nothing is left exactly if nothing stopped it.
   pub left-by-stop : o .left ≡ 0 ↔ (o .stop ≡ 0)
   left-by-stop = (
     λ e. sym (found .refusal) ∙ left-exactly s .0 (found .left ∙ no-bytes (all .left) (sym (all .bytes-left) ∙ e)),
@@ -60,7 +60,7 @@ module _ {s out : List ℕ} {o : Salvaged} {out′ : List ℕ} (p : SalvagedTran
       no-bytes [] e = refl
       no-bytes (b ∷ l) e = absurd (omega arith)
 
-  -- and exactly if the string is sound.
+  -- Nothing is left exactly if the string is sound.
   pub left-by-soundness : o .left ≡ 0 ↔ ((es : List Entry) × Sound s es)
   left-by-soundness = (
     λ e. (entries-read s, sound-exactly s (entries-read s) .1 (found .refusal ∙ left-by-stop .0 e, refl)),

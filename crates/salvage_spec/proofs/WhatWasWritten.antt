@@ -28,7 +28,7 @@ use Rattle.salvage_spec.proofs.Longest.{longest}
 use Rattle.salvage_spec.proofs.Promised.{salvage-exactly, salvage-done}
 use Rattle.salvage_spec.proofs.Unchanged.{comes-out-same}
 
--- Where the string would fit, so does its run: it is written, and the report speaks of all of the string.
+-- Bytes as many as the damaged ones are always enough: the run is written, and the report speaks of all of the string.
 pub fits-if-all-would : {s out : List ℕ} {o : Salvaged} {out′ : List ℕ} → SalvagedTranscript s out o out′ → length s ≤ length out →
     (o ≡ answer 0 (length (entries-read s)) (length (rest s)) (refusal-read s)) × (take (length (run s)) out′ ≡ run s)
 fits-if-all-would {s} {out} {o} {out′} p room =
@@ -39,7 +39,7 @@ fits-if-all-would {s} {out} {o} {out′} p room =
     let x = salvage-done p (ap (λ (a : Salvaged). a .number) e) in
     (e, subst (λ (t : List ℕ). take (length t) out′ ≡ t) (sym (found (x .divides) .kept)) (x .written))
 
--- A sound transcript comes out the same, with nothing left and no refusal.
+-- A sound transcript that fits comes out the same, with nothing left and no refusal.
 pub comes-out : {s out : List ℕ} {o : Salvaged} {out′ : List ℕ} {es : List Entry} → SalvagedTranscript s out o out′ → Sound s es →
     length s ≤ length out → (o ≡ answer 0 (length es) 0 0) × (take (length s) out′ ≡ s)
 comes-out {s} {out} {o} {out′} {es} p q room =
@@ -51,12 +51,16 @@ comes-out {s} {out} {o} {out′} {es} p q room =
 
 module _ {s out : List ℕ} {o : Salvaged} {out′ : List ℕ} (p : SalvagedTranscript s out o out′) (z : o .number ≡ 0) where
   -- ---- the parts of the string, by the answer
+
+  -- A salvage that is done leaves what `SalvagedAll` says.
   pub done : SalvagedAll s out o out′
   done = salvage-done p z
 
+  -- The parts that it reports are those that salvage finds.
   pub parts : Found s (done .entries) (done .kept) (done .left) (o .stop)
   parts = found (done .divides)
 
+  -- As many bytes are kept as the string has and were not left.
   pub kept-length : length (done .kept) ≡ length s - o .left
   kept-length =
       let n = ap length (done .divides .all) ∙ length-append (done .kept) (done .left) in
@@ -65,6 +69,7 @@ module _ {s out : List ℕ} {o : Salvaged} {out′ : List ℕ} (p : SalvagedTran
   is-kept : written s o out′ ≡ done .kept
   is-kept = ap (λ (n : ℕ). take n out′) (sym kept-length) ∙ done .written
 
+  -- The bytes behind those that were kept are those that were left.
   pub is-left : drop (length s - o .left) s ≡ done .left
   is-left =
       ap (λ (n : ℕ). drop n s) (sym kept-length)
@@ -72,7 +77,7 @@ module _ {s out : List ℕ} {o : Salvaged} {out′ : List ℕ} (p : SalvagedTran
       ∙ drop-append-seam (done .kept) (done .left)
 
   -- ---- what was written
-  -- It stands in the first of the lent bytes, and the later ones are as they were.
+  -- The first of the lent bytes, as many as were not left, are the string's.
   pub first-written : take (length s - o .left) out′ ≡ take (length s - o .left) s
   first-written =
       is-kept
@@ -80,15 +85,16 @@ module _ {s out : List ℕ} {o : Salvaged} {out′ : List ℕ} (p : SalvagedTran
       ∙ ap (take (length (done .kept))) (sym (done .divides .all))
       ∙ ap (λ (n : ℕ). take n s) kept-length
 
+  -- The later of the lent bytes are as they were.
   pub later-stay : drop (length s - o .left) out′ ≡ drop (length s - o .left) out
   later-stay = subst (λ (n : ℕ). drop n out′ ≡ drop n out) kept-length (done .later)
 
-  -- It is the front of the string.
+  -- What was written is the front of the string.
   pub front : s ≡ written s o out′ ++ drop (length s - o .left) s
   front =
       done .divides .all ∙ ap (λ (l : List ℕ). l ++ done .left) (sym is-kept) ∙ ap (λ (l : List ℕ). written s o out′ ++ l) (sym is-left)
 
-  -- It is sound: its records are the first ones of the string, as many as were kept.
+  -- What was written is sound: its records are the first ones of the string, as many as were kept.
   pub written-sound : Sound (written s o out′) (entries-read s) × (length (entries-read s) ≡ o .kept)
   written-sound = (
     subst (λ (t : List ℕ). Sound t (entries-read s)) (sym is-kept)
@@ -96,21 +102,21 @@ module _ {s out : List ℕ} {o : Salvaged} {out′ : List ℕ} (p : SalvagedTran
     ap length (parts .entries) ∙ sym (done .count),
   )
 
-  -- The writer makes the same bytes of these records.
+  -- The writer makes the same bytes of the records that were kept.
   pub as-the-writer : AreBytes s → written s o out′ ≡ transcript-of (entries-read s)
   as-the-writer b =
       let parted : AreBytes (written s o out′ ++ drop (length s - o .left) s) = λ i. rw (sym front) (b i) in
       sound-is (written s o out′) (entries-read s) (bytes-first (written s o out′) (drop (length s - o .left) s) parted)
       (written-sound .0) .1
 
-  -- No front of the string that is sound is longer.
+  -- No front of the string that is sound is longer than what was written.
   pub none-longer : (t v : List ℕ) {es : List Entry} → s ≡ t ++ v → Sound t es → length t ≤ length s - o .left
   none-longer t v e q =
       let l = longest s t v e q in
       let n = ap length (parts .kept) in
       omega (arith, l .0, n, kept-length)
 
-  -- The reader accepts it, and has the records that were kept.
+  -- The reader accepts what was written, into any lists with as many places, and has the records that were kept.
   pub reads-kept : {l l′ : Lists} {a : Transcribed} → ReadTranscript (written s o out′) l a l′ → o .kept ≤ size l →
       (a ≡ format.answer 0 (o .kept) 0) × (first-places (o .kept) l′ ≡ columns (entries-read s))
   reads-kept {l} {l′} {a} q room =
@@ -124,7 +130,7 @@ module _ {s out : List ℕ} {o : Salvaged} {out′ : List ℕ} (p : SalvagedTran
             ∙ ap columns (sound-exactly (written s o out′) (entries-read s) .0 (x .0) .1),
       )
 
-  -- Salvaging it again changes nothing.
+  -- Salvaging what was written again, with room for it, leaves it as it is.
   pub again : {out₂ out₂′ : List ℕ} {q : Salvaged} → SalvagedTranscript (written s o out′) out₂ q out₂′ →
       length (written s o out′) ≤ length out₂ →
       (q ≡ answer 0 (o .kept) 0 0) × (take (length (written s o out′)) out₂′ ≡ written s o out′)
@@ -133,7 +139,7 @@ module _ {s out : List ℕ} {o : Salvaged} {out′ : List ℕ} (p : SalvagedTran
     comes-out p₂ (x .0) room .1,
   )
 
--- It is done exactly if every front of the string that is whole good records fits the bytes that are lent.
+-- Salvage is done, and not refused, exactly if every front of the string that is good records fits the bytes that are lent.
 pub done-exactly : {s out : List ℕ} {o : Salvaged} {out′ : List ℕ} → SalvagedTranscript s out o out′ →
     o .number ≡ 0 ↔ ((t v : List ℕ) (es : List Entry) → s ≡ t ++ v → Sound t es → length t ≤ length out)
 done-exactly {s} p = (

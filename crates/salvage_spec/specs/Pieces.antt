@@ -1,4 +1,4 @@
--- Salvage of an input of any length, that comes piece by piece (house): what is kept of it between two pieces, and what is written of each.
+-- Salvage of an input of any length, that comes piece by piece (ours): what is kept of it between two pieces, and what is written of each.
 --   Progress            how far an input is salvaged
 --   beginning           before the first piece
 --   may-go-on k         what stopped it may be only that a piece ends: nothing is wrong, or a record is cut off

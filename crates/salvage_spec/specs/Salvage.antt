@@ -26,7 +26,7 @@ abbrev pub report : ℕ → ℕ → ℕ → ℕ → Salvaged
 report n kept left k = record { number = n; kept = kept; left = left; stop = k }
 
 -- "24 when that run doesn't fit the caller's bytes"; "reports how many records it kept, how many bytes it left and the refusal that
--- stopped it"
+-- stopped it": what stopped it is no refusal of the call, and a part of its own (ours)
 unfoldable pub salvage-answer : List ℕ → ℕ → Salvaged
 salvage-answer s room =
     cond (ltb room (length (run s))) (report 24 0 0 0) (report 0 (length (entries-read s)) (length (rest s)) (refusal-read s))

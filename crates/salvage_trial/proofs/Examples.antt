@@ -14,6 +14,7 @@ six = 0x1E ∷ 0x1D ∷ 0xA4 ∷ 0x34 ∷ 0x07 ∷ 0x20 ∷ []
 abbrev blank : List ℕ
 blank = 0xEE ∷ 0xEE ∷ 0xEE ∷ 0xEE ∷ 0xEE ∷ []
 
+-- what short records leave, carried out
 pub record Leaves : Type 0 where
   -- four bytes of six, and room for four of five
   pub all-good : CarriedOut 4 4 six blank (answer 0 2 0 0) (0x1E ∷ 0x1D ∷ 0xA4 ∷ 0x34 ∷ 0xEE ∷ [])
@@ -24,7 +25,7 @@ pub record Leaves : Type 0 where
   -- room for three, though four would be there
   pub no-room : CarriedOut 6 3 six blank (answer 24 0 0 0) blank
 
--- They leave so.
+-- By computation: good records alone, one that is cut off behind them, a bad one, and too little room for them.
 pub they-leave : Leaves
 unfolding answer-from bytes-from with-group head-read word-read byte-taken feed feeds salvage-answer bytes-after
 they-leave =

@@ -11,11 +11,11 @@ use Rattle.salvage_spec.specs.Salvage.{salvage-answer, bytes-after, SalvagedTra
 use Rattle.salvage_spec.specs.declared.Salvaged.{Salvaged}
 use Rattle.salvage_trial.specs.CarriedOut.{answer-from, bytes-from, CarriedOut}
 
--- No more are lent than there are.
+-- No more places are lent than there are.
 pub smaller-of : (k m : ℕ) {n : ℕ} → n ≡ min k m → n ≤ m
 smaller-of k m e = omega arith
 
--- The call on the lent parts is what the record asks for.
+-- The call on the lent parts, of which those to be written come back, is what the record asks for.
 pub carried : {k m given room : ℕ} {s out : List ℕ} {o : Salvaged} {part : List ℕ} → given ≡ min k (length s) → room ≡ min m (length out) →
     SalvagedTranscript (take given s) (take (room - 0) out) o part → CarriedOut k m s out o (putMid 0 (room - 0) out part)
 unfolding answer-from bytes-from

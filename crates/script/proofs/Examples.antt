@@ -21,6 +21,7 @@ abbrev which : (ℕ → Bool) → ℕ → List ℕ
 which is zero = []
 which is (suc n) = which is n ++ cond (is n) (n ∷ []) []
 
+-- the letters among the 256 bytes, by what they are calls of
 pub record Letters : Type 0 where
   -- H, K
   pub in-place : which in-place-letter 256 ≡ 72 ∷ 75 ∷ []
@@ -46,7 +47,7 @@ pub record Letters : Type 0 where
   pub all-known : which known 256 ≡
       65 ∷ 66 ∷ 67 ∷ 68 ∷ 70 ∷ 71 ∷ 72 ∷ 73 ∷ 74 ∷ 75 ∷ 76 ∷ 77 ∷ 78 ∷ 79 ∷ 80 ∷ 81 ∷ 82 ∷ 83 ∷ 84 ∷ 87 ∷ 90 ∷ []
 
--- They are these bytes, and no others.
+-- Which bytes are letters, and of what calls: these, and no others.
 pub letters : Letters
 unfolding
     in-place-letter host-letter processor-letter field-letter bus-letter block-letter setting-letter whole-letter
@@ -74,15 +75,15 @@ line =
     32 ∷ 56 ∷ 57 ∷ 65 ∷ 66 ∷ 67 ∷ 68 ∷ 69 ∷ 70 ∷ 32 ∷ 48 ∷ 49 ∷ 50 ∷ 51 ∷ 52 ∷ 53 ∷ 54 ∷ 55 ∷ 10 ∷
     []
 
--- "a letter, then four numbers a, b, c and d"
+-- A line says its call, "a letter, then four numbers a, b, c and d", here each with its own digits.
 pub says-its-call : line-in line ≡ Good (record { letter = 87; a = 0x7A6B5C4D; b = 0x3E2F1098; c = 0x89ABCDEF; d = 0x01234567 })
 unfolding
     line-in is-call shaped has-number digits-from number-from call-in known plain-letter whole-letter lent-letter
     host-letter in-place-letter processor-letter field-letter bus-letter block-letter setting-letter is-decimal value-of
 says-its-call = refl
 
--- Changed in one byte, or in its length, it is bad: an unknown letter, a comma for a space, a lower-case digit, another byte at its end, a
--- byte less, a byte more.
+-- That line, changed in one byte or in its length, is bad: an unknown letter, a comma for a space, a lower-case digit, another byte at its
+-- end, a byte less, a byte more.
 pub others-are-bad :
     (line-in (set line 0 88) ≡ Bad)
     × (line-in (set line 10 44) ≡ Bad)
@@ -100,7 +101,7 @@ abbrev waiting : Bool → Bool → Bool → Bool → Bool → Bus
 waiting hold screen dram host processor =
     record { hold = hold; screen = screen; dram = dram; host = host; processor = processor }
 
--- "bit s set: source s waits"
+-- The bus is printed as a number: "bit s set: source s waits".
 pub sources-counted :
     (bus-number (waiting true false false false false) ≡ 1)
     × (bus-number (waiting false true false false false) ≡ 2)

@@ -23,7 +23,7 @@ pub follows : {a b e : ℕ} {l x l′ y l″ : List ℕ} → Laid a l x b l′ �
 follows {a} {b} {e} {l} {x} {l′} {y} {l″} p q =
     record { laid = q .laid ∙ ap (λ (t : List ℕ). t ++ y) (p .laid) ∙ append-assoc (take a l) x y }
 
--- A place for a line gets the whole of it.
+-- A place of 47 bytes gets the whole of a line.
 pub whole-line : (l : List ℕ) (letter : ℕ) (d : Done) → length l ≡ 47 → with-line l letter d ≡ line-of letter d
 unfolding with-line
 whole-line l letter d e = rw (eq-eqb (length l) 47 e)

@@ -16,6 +16,7 @@ use Rattle.script.specs.declared.Call.{Call}
 use Rattle.script.specs.declared.Line.{Line}
 use Rattle.script.specs.declared.Line.the-variants.{Good, Bad}
 
+-- what a line that is a call has: 38 bytes, and eight digits at the places of each of its four numbers
 pub record Shape (s : List ℕ) : Type 0 where
   pub long : length s ≡ 38
   pub a : digits-from s 2 8 ≡ true
@@ -27,6 +28,7 @@ numbered : (s : List ℕ) (at : ℕ) → has-number s at ≡ true → digits-fro
 unfolding has-number
 numbered s at e = both-true (eqb (getD s at 0) 0x20) (digits-from s (at + 1) 8) e .1
 
+-- Every line that is a call has this length and these digits.
 pub shape-of : (s : List ℕ) → is-call s ≡ true → Shape s
 unfolding is-call shaped
 shape-of s e =
@@ -60,7 +62,7 @@ first-digits s at (suc n) i h e =
     first-digits s at n i (omega (arith, h, q)) (both-true (digits-from s at n) (is-hex (getD s (at + n) 0)) e .0))
     (same-or-not i (suc n))
 
--- Each stands for a number below 16,
+-- Each of eight digits stands for a number below 16.
 pub digit-small : (s : List ℕ) (at n : ℕ) → n < 8 → digits-from s at 8 ≡ true → value-of (getD s (at + n) 0) < 16
 unfolding digits-from
 digit-small s at n h e =
@@ -74,7 +76,7 @@ below s at (suc n) e =
     let p = both-true (digits-from s at n) (is-hex (getD s (at + n) 0)) e in
     rw pow-suc (omega (arith, below s at n (p .0), ltb-true (value-of (getD s (at + n) 0)) 16 (p .1)))
 
--- and fewer than eight of them for one that has room for another digit.
+-- The first of eight digits, fewer than all, stand for a number below 2^28, which has room for another digit.
 pub number-small : (s : List ℕ) (at n : ℕ) → n < 8 → digits-from s at 8 ≡ true → number-from s at n < 268435456
 number-small s at n h e =
     let small = below s at n (first-digits s at 8 n (omega (arith, h)) e) in
@@ -98,7 +100,7 @@ said-is s = go (is-call s)
     go true = refl
     go false = refl
 
--- A call only if it is one, and then that one.
+-- A line is read as a call only if it is one, and then as the call that it says.
 pub read-good : (s : List ℕ) (c : Call) → line-in s ≡ Good c → (is-call s ≡ true) × (c ≡ call-in s)
 unfolding line-in
 read-good s c e =
@@ -106,5 +108,6 @@ read-good s c e =
     let same : line-in s ≡ Good (call-in s) = rw good refl in
     (good, ap (call-or c) (sym e ∙ same))
 
+-- A line is read as bad only if it is no call.
 pub read-bad : (s : List ℕ) → line-in s ≡ Bad → is-call s ≡ false
 read-bad s e = sym (said-is s) ∙ ap said e

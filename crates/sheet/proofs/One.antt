@@ -24,12 +24,12 @@ module _ {s : Machine} {n : ℕ} where
         one-value (a .words) (b .words),
       )
 
-  -- So have ticks that are read, judged and timed,
+  -- Ticks that are read, judged and timed have one outcome.
   pub one-took-ticks : {rule : ℕ} {l : List Float} {o p : Sheet} {m′ m″ : List ℕ} {l′ l″ : List Float} →
       TookTicks s rule n l o m′ l′ → TookTicks s rule n l p m″ l″ → (o ≡ p) × (m′ ≡ m″) × (l′ ≡ l″)
   one-took-ticks a b = (one-value (a .outcome) (b .outcome), one-value (a .memory) (b .memory), one-value (a .list) (b .list))
 
-  -- and a whole table.
+  -- A whole table, read from its count word on, has one outcome.
   pub one-read-table : {a : BitAddress} {rule : ℕ} {l : List Float} {o p : Sheet} {m′ m″ : List ℕ} {l′ l″ : List Float} →
       ReadTable s a rule n l o m′ l′ → ReadTable s a rule n l p m″ l″ → (o ≡ p) × (m′ ≡ m″) × (l′ ≡ l″)
   one-read-table a b = (one-value (a .outcome) (b .outcome), one-value (a .memory) (b .memory), one-value (a .list) (b .list))

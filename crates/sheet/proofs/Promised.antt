@@ -4,7 +4,7 @@ use Rattle.words.proofs.Contracts.{Contract}
 use Rattle.sheet.proofs.sheets.strike_sheet.Kinds as strike-sheet-kinds
 use Rattle.sheet.proofs.sheets.strike_sheet.Reads as strike-sheet
 
--- `strike_sheet`: r, memory, table, rule, t, list.
+-- `strike_sheet` takes any r, memory, table, rule, t and list, and all that its contract allows is `Struck` of them.
 pub strike-sheet-contract : Contract strike-sheet-kinds.ps strike-sheet-kinds.r strike-sheet.Pre strike-sheet.Post
     (λ κs args o left.
     let r = args .0 in

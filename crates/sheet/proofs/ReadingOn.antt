@@ -27,7 +27,7 @@ pub ends-more : (s : Machine) (n : ℕ) → ends s (reading (n + 1)) ≡ after (
 unfolding reading ends
 ends-more s n = ap (ends s) (reading-join n 1) ∙ ends-join s (reading n) (reading 1)
 
--- They answer what n do, and then what that read answers.
+-- n + 1 reads answer what n do, and then what one more read answers after them.
 pub answers-more : (s : Machine) (n : ℕ) →
     answers s (reading (n + 1)) ≡ answers s (reading n) ++ (answer-of (ends s (reading n)) (Read 2 3) ∷ [])
 unfolding reading answers

@@ -60,7 +60,7 @@ module _ (s : Machine) (a : BitAddress) (n : ℕ) where
         ap (λ (x : Answer). count-refusal n (x .hollow) (x .word)) (says e ∙ ap (λ (t : Machine). answer-of t (Read 2 3)) k) ∙
         sym (count-is s a n)
 
-    -- A count that is hollow or wrong: a refusal, after one read.
+    -- A table whose count word is hollow or wrong is refused after one read, and the list stays.
     pub count-refused : number ≢ 0 → (rule : ℕ) (l : List Float) → ReadTable s a rule n l (refused-sheet number (o .registers)) m′ l
     unfolding read-sheet read-list
     count-refused h rule l =
@@ -73,7 +73,7 @@ module _ (s : Machine) (a : BitAddress) (n : ℕ) where
           list = rw no-number;
         }
 
-    -- A count that is right: what the ticks leave.
+    -- A table whose count word is right leaves what its ticks leave, read from there on.
     pub count-right : number ≡ 0 → {rule : ℕ} {l : List Float} {p : Sheet} {m″ : List ℕ} {l′ : List Float} →
         TookTicks (machine (o .registers) m′) rule n l p m″ l′ → ReadTable s a rule n l p m″ l′
     unfolding table-read answers reading read-sheet read-list ticks-sheet ticks-list

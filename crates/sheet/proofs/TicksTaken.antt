@@ -22,7 +22,7 @@ module _ {s : Machine} {n : ℕ} {o : TicksRead} {m ticks : List ℕ} (k : ReadT
   unfolding ticks-number
   told = e ∙ rw (k .hollow, k .words)
 
-  -- A refusal.
+  -- Ticks that are refused leave the list, and answer their number and zeros.
   pub ticks-refused : number ≢ 0 → (rule : ℕ) (l : List Float) → TookTicks s rule n l (refused-sheet number (o .registers)) m l
   unfolding ticks-sheet ticks-list
   ticks-refused h rule l =
@@ -33,13 +33,13 @@ module _ {s : Machine} {n : ℕ} {o : TicksRead} {m ticks : List ℕ} (k : ReadT
         list = rw t;
       }
 
-  -- Ticks that are good: the first lies before the last or is it.
+  -- Of ticks that are not refused, one or more, the first lies before the last or is it.
   pub first-then-last : number ≡ 0 → 1 ≤ n → getD ticks 0 0 ≤ getD ticks (n - 1) 0
   first-then-last h some =
       none-before-first (λ j. getD ticks j 0) (length ticks) (rises ticks (unrefused-rise (o .hollow) ticks (sym e ∙ h))) (n - 1)
       (omega (arith, read-length k))
 
-  -- The list takes their times.
+  -- Of ticks that are not refused the rule and the strokes are shown, and the list takes their times.
   pub ticks-taken : number ≡ 0 → (rule : ℕ) (l l′ : List Float) → l′ ≡ with-times (getD ticks 0 0) (getD ticks (n - 1) 0) n l →
       TookTicks s rule n l (record { number = 0; rule = rule; strokes = n; registers = o .registers }) m l′
   unfolding ticks-sheet ticks-list

@@ -17,7 +17,10 @@ use Rattle.sheet_spec.specs.declared.TimeStruck.{TimeStruck}
 use Rattle.sheet_spec.proofs.Range.{accepted-time, time-accepted}
 use Rattle.sheet_spec.proofs.Rule.{accepted-rule, rule-accepted}
 
--- ---- the order, in numbers: each of these calls would be refused for all that is tested after it too
+-- ---- the order, in numbers
+
+-- the order of the refusals before the port is touched, in numbers: each of the refused calls would be refused for all that is tested after
+-- it too
 pub record InOrder : Type 0 where
   pub memory : refusal-before 32769 3 (time 13 0 0) 0 0 ≡ 1
   pub unknown : refusal-before 32768 3 (time 13 0 0) 0 0 ≡ 45
@@ -29,7 +32,7 @@ pub record InOrder : Type 0 where
   pub begun-by-one : refusal-before 32768 1 (time 12 3 14) 29 0x1000 ≡ 0
   pub begun-by-two : refusal-before 32768 2 (time 12 3 14) 32 0x1000 ≡ 0
 
--- They come out so.
+-- In numbers: 1, 45, 40, 41 and 46 come in this order.
 pub in-order : InOrder
 unfolding refusal-before unknown-rule out-of-range strokes-of bit
 in-order =
@@ -46,12 +49,13 @@ in-order =
 
 -- ---- exactly if
 module _ (s : Machine) (rule : ℕ) (t : TimeStruck) (room : ℕ) where
-  -- A sheet to which none of these applies is begun.
+  -- A sheet whose memory, rule, time, list and INCR are as they should be is begun, that is not refused with 1, 45, 40, 41 or 46.
   pub begun : Begins s rule t room → number-before s rule t room ≡ 0
   unfolding refusal-before
   begun b = rw (le-ltb _ _ (b .size), rule-accepted rule (b .known), time-accepted t (b .time), le-ltb _ _ (b .fits), b .steps)
 
-  -- To one that is begun none does.
+  -- Of a sheet that is begun, memory has at most 32,768 words, the rule is 1 or 2, the time in range, the list long enough for its strokes,
+  -- and INCR set.
   pub begins : number-before s rule t room ≡ 0 → Begins s rule t room
   unfolding refusal-before
   begins e =

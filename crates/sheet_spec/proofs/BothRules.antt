@@ -57,7 +57,8 @@ module _ (w : Way) (s : Machine) (a : BitAddress) where
     unfolding refusal-before unknown-rule
     judged-alike room = rw (no-quarters t e)
 
-    -- The two sheets of such a time differ in the rule shown alone.
+    -- For a time with quarters 0, whatever the memory, the registers, the table and the list, the sheets by rule 1 and by rule 2 have the
+    -- same number, strokes and registers; they show 1 and 2 if they pass, and 0 both if they are refused.
     pub rule-alone : (room : ℕ) → RuleAlone (sheet-of w s a 1 t room) (sheet-of w s a 2 t room)
     rule-alone room =
         ⊎-elim
@@ -71,13 +72,13 @@ module _ (w : Way) (s : Machine) (a : BitAddress) where
         rw (one, two, sym (judged-alike room)) (refused-alike (number-before s 1 t room) d (s .registers)))
         (same-or-not (number-before s 1 t room) 0)
 
-    -- So a table passes under both rules or under neither.
+    -- For a time with quarters 0, a table passes under both rules or under neither.
     pub both-or-neither : (room : ℕ) → sheet-of w s a 1 t room .number ≡ 0 ↔ sheet-of w s a 2 t room .number ≡ 0
     both-or-neither room =
         let same = rule-alone room .number in
         (λ z. sym same ∙ z, λ z. same ∙ z)
 
-    -- Both leave the same list.
+    -- For a time with quarters 0, the sheets by both rules leave the same list.
     pub one-list : (l : List Float) → list-after w s a 1 t l ≡ list-after w s a 2 t l
     unfolding list-after
     one-list l = rw (judged-alike (length l), no-quarters t e)
@@ -96,7 +97,7 @@ module _ (s : Machine) (a : BitAddress) (t : TimeStruck) (some : 1 ≤ t .quarte
       let passed = sym (read-says rule (passed-begins whole s a rule t room z)) ∙ z in
       read-says other b ∙ wrong-count s a (strokes-of rule t) (strokes-of other t) (right-count s a (strokes-of rule t) passed) d
 
-  -- What passes under rule 2 is refused under rule 1, with 43.
+  -- For a time with quarters, a table that passes under rule 2 is refused under rule 1, with 43.
   pub not-by-rule-one : sheet-of whole s a 2 t room .number ≡ 0 → sheet-of whole s a 1 t room .number ≡ 43
   not-by-rule-one z =
       let b = passed-begins whole s a 2 t room z in
@@ -105,7 +106,8 @@ module _ (s : Machine) (a : BitAddress) (t : TimeStruck) (some : 1 ≤ t .quarte
       (record { size = b .size; known = inl refl; time = b .time; fits = omega (arith, b .fits, more); steps = b .steps })
       (λ e. omega (arith, e, more))
 
-  -- What passes under rule 1 is refused under rule 2: with 41 where the list has no room for that many strokes, or else with 43.
+  -- For a time with quarters, a table that passes under rule 1 is refused under rule 2: with 41 where the list has no room for rule 2's
+  -- strokes, or else with 43.
   pub not-by-rule-two : sheet-of whole s a 1 t room .number ≡ 0 →
       (room < strokes-of 2 t → sheet-of whole s a 2 t room .number ≡ 41) ×
       (strokes-of 2 t ≤ room → sheet-of whole s a 2 t room .number ≡ 43)

@@ -14,17 +14,17 @@ use Rattle.sheet_spec.specs.Sheet.{strokes-of, made, read-number, read-s
 use Rattle.sheet_spec.specs.declared.TimeStruck.{TimeStruck}
 
 module _ (s : Machine) (a : BitAddress) (n : ℕ) where
-  -- The reader is told the same.
+  -- A reader whose accesses are each done as two byte accesses is told the same.
   pub told-alike : table-read by-bytes s a n ≡ table-read whole s a n
   unfolding table-read
   told-alike = rw (ends-alike s (loading (s .registers .control) a), answers-alike _ _)
 
-  -- It makes the same accesses, each of them in its way.
+  -- By bytes, the reader makes the same accesses, each of them in its way.
   pub made-alike : made by-bytes s a n ≡ made whole s a n
   unfolding made
   made-alike = rw told-alike
 
-  -- They leave the port in the same state, memory and registers.
+  -- Done by bytes, these accesses leave the same registers and memory.
   pub moves-alike : by-bytes .ended s (made by-bytes s a n) ≡ whole .ended s (made whole s a n)
   moves-alike = rw made-alike (ends-alike s (made whole s a n))
 
@@ -37,12 +37,13 @@ module _ (s : Machine) (a : BitAddress) (n : ℕ) where
   read-list-alike l = rw told-alike
 
 module _ (s : Machine) (a : BitAddress) (rule : ℕ) (t : TimeStruck) where
-  -- A sheet read by bytes answers the same, and leaves the same registers.
+  -- A sheet whose accesses are each done as two byte accesses answers the same, and leaves the same registers, whatever the memory, the
+  -- registers, the table, the rule and the time.
   pub sheet-alike : (room : ℕ) → sheet-of by-bytes s a rule t room ≡ sheet-of whole s a rule t room
   unfolding sheet-of
   sheet-alike room = rw (read-alike s a (strokes-of rule t) rule)
 
-  -- And it leaves the same list.
+  -- A sheet whose accesses are each done as two byte accesses leaves the same list.
   pub list-alike : (l : List Float) → list-after by-bytes s a rule t l ≡ list-after whole s a rule t l
   unfolding list-after
   list-alike l = rw (read-list-alike s a (strokes-of rule t) l)

@@ -28,12 +28,12 @@ module _ (s : Machine) (a : BitAddress) where
   abbrev pub counted : Answer
   counted = answer-of (loaded s a) (Read 2 3)
 
-  -- That answer is judged.
+  -- What is said of the count word goes by the answer of the first read alone: by its mark and its word.
   pub count-is : (n : ℕ) → count-number whole s a n ≡ count-refusal n (counted .hollow) (counted .word)
   unfolding table-read answers reading any-hollow
   count-is n = ap (λ (b : Bool). count-refusal n b (counted .word)) (or-false (counted .hollow))
 
-  -- A count that is right for m strokes is wrong for any other number of them, whatever the ticks are.
+  -- A count that is right for m strokes is wrong for any other number of them, which is 43, whatever the ticks are.
   pub wrong-count : (m n : ℕ) → count-number whole s a m ≡ 0 → m ≢ n → read-number whole s a n ≡ 43
   unfolding read-number
   wrong-count m n z d = rw (count-is n ∙ one-count (counted .hollow) (counted .word) m n (sym (count-is m) ∙ z) d)

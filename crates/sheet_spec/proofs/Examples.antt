@@ -38,6 +38,7 @@ four-places = double 1 ∷ double 1 ∷ double 1 ∷ double 1 ∷ []
 abbrev beyond : ℕ → Registers
 beyond n = record { pointer = address n; latch = 0xffff; control = 0x1000; hollow = true }
 
+-- eight sheets: what each answers and leaves, or its list
 pub record Sheets : Type 0 where
   -- 3:00, a table that ends with the memory's last word: its three strokes are at 10, 15 and 20, and the list's fourth place stays
   pub to-the-end : list-after whole (on (3 ∷ 10 ∷ 14 ∷ 20 ∷ [])) (address 0) 1 three-o-clock four-places ≡
@@ -59,7 +60,7 @@ pub record Sheets : Type 0 where
   pub quarter-once : sheet-of whole (on (3 ∷ 10 ∷ 14 ∷ 20 ∷ [])) (address 0) 1 quarter-past-one 4 ≡
       refused-sheet 43 (record { pointer = address 0x10; latch = 10; control = 0x1000; hollow = false })
 
--- These eight come out so.
+-- The eight sheets come out so, by computation: one table among them passes by rule 2 and not by rule 1.
 pub eight-sheets : Sheets
 unfolding
     bit takes-low takes-high are-lanes lay fetch-at bare closes fetches register-word half-written written stepped cycle-of after-fetch

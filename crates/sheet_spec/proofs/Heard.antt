@@ -40,7 +40,7 @@ module _ (m : List ℕ) (k : length m ≤ 32768) where
   unfolding hand fetch-at
   word-first b h = rw (lt-ltb (word-at b .0) (length m) h)
 
-  -- None of them is hollow if all their words lie in memory.
+  -- None of the answers that hand memory out from b on is hollow, if all their words lie in memory.
   pub all-held : (n : ℕ) (b : BitAddress) → Lies m b n → any-hollow (handed m b n) ≡ false
   unfolding any-hollow handed
   all-held zero b h = refl
@@ -48,7 +48,7 @@ module _ (m : List ℕ) (k : length m ≤ 32768) where
       let next = next-word b (omega arith) in
       rw (held-first b (omega arith)) (all-held n (step b) (rw next (omega arith)))
 
-  -- Some is, if one of their words does not.
+  -- Some of these answers is hollow, if one of their words does not lie in memory, and the first lies there or just past its end.
   pub some-hollow : (n : ℕ) (b : BitAddress) → word-at b .0 ≤ length m → length m < word-at b .0 + n → any-hollow (handed m b n) ≡ true
   unfolding any-hollow handed
   some-hollow zero b l h = absurd (omega arith)
@@ -59,7 +59,7 @@ module _ (m : List ℕ) (k : length m ≤ 32768) where
       (λ x. rw (hollow-first b x))
       (less-or-not (word-at b .0) (length m))
 
-  -- Their words are those of the table.
+  -- If all their words lie in memory, these answers hand out the words of the table.
   pub words-handed : (n : ℕ) (b : BitAddress) → Lies m b n → words-in (handed m b n) ≡ table m b n
   unfolding handed
   words-handed zero b h = refl
@@ -75,18 +75,18 @@ module _ (s : Machine) (k : Memory (s .memory)) (i : incr (s .registers .control
   unfolding table-read
   heard-is = reads-hand s k i a h (suc n)
 
-  -- A count word that is not in memory is refused.
+  -- A count word that is not in memory is refused with 42.
   pub count-missed-says : length (s .memory) ≤ word-at a .0 → count-number whole s a n ≡ 42
   unfolding count-refusal any-hollow handed
   count-missed-says q = rw heard-is (rw (hollow-first (s .memory) (k .size) a q))
 
-  -- So is a count word that says another number.
+  -- A count word that lies in memory and says another number is refused with 43.
   pub count-wrong-says : word-at a .0 < length (s .memory) → count-word (s .memory) a ≢ n → count-number whole s a n ≡ 43
   unfolding count-refusal any-hollow handed
   count-wrong-says q d =
       rw heard-is (rw (held-first (s .memory) (k .size) a q, word-first (s .memory) (k .size) a q, ne-eqb _ _ d))
 
-  -- The right count is not.
+  -- A count word that lies in memory and says the right number is not refused.
   pub count-right-says : word-at a .0 < length (s .memory) → count-word (s .memory) a ≡ n → count-number whole s a n ≡ 0
   unfolding count-refusal any-hollow handed
   count-right-says q e =
@@ -103,20 +103,20 @@ module _ (s : Machine) (k : Memory (s .memory)) (i : incr (s .registers .control
       let next = next-word (s .memory) (k .size) a (omega arith) in
       rw ticks-are (some-hollow (s .memory) (k .size) n (step a) (rw next (omega arith)) (rw next (omega arith)))
 
-  -- Of a table that lies in memory none is hollow,
+  -- Of a table that lies in memory no tick is told as hollow.
   pub ticks-held : Lies (s .memory) a (suc n) → any-hollow (drop 1 (heard whole s a n)) ≡ false
   ticks-held l =
       let next = next-word (s .memory) (k .size) a (omega arith) in
       rw ticks-are (all-held (s .memory) (k .size) n (step a) (rw next (omega arith)))
 
-  -- and the ticks that the reader is told are the table's.
+  -- The ticks that the reader is told of a table that lies in memory are the table's.
   pub ticks-told : Lies (s .memory) a (suc n) → ticks-heard whole s a n ≡ table (s .memory) (step a) n
   unfolding handed
   ticks-told l =
       let next = next-word (s .memory) (k .size) a (omega arith) in
       rw heard-is (words-handed (s .memory) (k .size) n (step a) (rw next (omega arith)))
 
-  -- Stroke j's tick among them is word a div 16 + 1 + j of memory.
+  -- Where the table lies in memory, the tick that the reader is told for stroke j is word a div 16 + 1 + j.
   pub tick-told : Lies (s .memory) a (suc n) → (j : ℕ) → j < n → getD (ticks-heard whole s a n) j 0 ≡ tick (s .memory) a j
   tick-told l j q =
       let next = next-word (s .memory) (k .size) a (omega arith) in
@@ -125,7 +125,7 @@ module _ (s : Machine) (k : Memory (s .memory)) (i : incr (s .registers .control
       getD-drop (word-at (step a) .0) (s .memory) j 0 ∙
       ap (λ (x : ℕ). getD (s .memory) x 0) (rw next (omega arith))
 
-  -- There are n of them.
+  -- Of a table of n strokes that lies in memory the reader is told n ticks.
   pub ticks-count : Lies (s .memory) a (suc n) → length (ticks-heard whole s a n) ≡ n
   ticks-count l =
       let next = next-word (s .memory) (k .size) a (omega arith) in

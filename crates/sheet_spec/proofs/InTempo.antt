@@ -29,7 +29,7 @@ module _ (s : Machine) (a : BitAddress) (rule : ℕ) (t : TimeStruck) (l : List 
   abbrev last : ℕ
   last = tick (s .memory) a (strokes-of rule t - 1)
 
-  -- l′ is the list after the sheet; place k of it, with d where it has no such place
+  -- what is said of the list l′ after a sheet that passes; d stands for a place that it does not have
   pub record InTempo (l′ : List Float) (d : Float) : Type 0 where
     -- place k has the time of stroke k, by the formula
     pub formula : (k : ℕ) → k < strokes-of rule t → getD l′ k d ≡ even-time first last (strokes-of rule t) k
@@ -56,7 +56,8 @@ module _ (s : Machine) (a : BitAddress) (rule : ℕ) (t : TimeStruck) (l : List 
         (none-before-first (tick (s .memory) a) (strokes-of rule t) r (strokes-of rule t - 1) (omega (arith, some)))
         (p .words _) (omega (arith, few)) own
 
-    -- The times of every sheet that passes are in tempo.
+    -- In the list of every sheet that passes, place k has the time of stroke k by the formula, so that the places go from the first tick to
+    -- the last, exactly, never outside them and never back; the later places, and how many there are, stay.
     pub in-tempo : (d : Float) → InTempo (list-after whole s a rule t l) d
     in-tempo d =
         let place : ℕ → Float = λ k. getD (list-after whole s a rule t l) k d in

@@ -95,7 +95,8 @@ module _ (s : Machine) (a : BitAddress) (p : Passed-in s a) (rule : ℕ) (t : Ti
   abbrev n : ℕ
   n = strokes-of rule t
 
-  -- All accesses of a sheet leave the port standing as many words on as were read: memory and control as they were.
+  -- The accesses of a sheet that is begun, all of them done, leave the port standing as many words on as were read, and memory and HSTCTL
+  -- as they were.
   pub accesses-leave : ends s (made whole s a n) ≡ stands s (on-by (words-read whole s a n) a)
   unfolding made
   accesses-leave =
@@ -115,12 +116,13 @@ module _ (s : Machine) (a : BitAddress) (p : Passed-in s a) (rule : ℕ) (t : Ti
   refused-count (inr h) z =
       let e = count-wrong-says s (good-memory s a p rule t room b) (b .steps) a (p .address) n (h .0) (h .1) in omega (arith, sym e ∙ z)
 
-  -- Where the count word lies beyond memory, or says another number, that word alone has been read: the pointer stands one word on.
+  -- Where the count word lies beyond memory, or says another number, that word alone has been read: a sheet that is begun leaves the port
+  -- one word on.
   pub count-read : (length (s .memory) ≤ word-at a .0) ⊎ ((word-at a .0 < length (s .memory)) × (count-word (s .memory) a ≢ n)) →
       (left ≡ standing (s .memory) (s .registers .control) (on-by 1 a)) × (on-by 1 a .0 ≡ (a .0 + 16) % 2 ^ 32)
   count-read h = (begun-left ∙ rw (ne-eqb _ _ (refused-count h)), on-by-gains 1 a (p .address))
 
-  -- With the right count all ticks have been read, whatever they are: the pointer stands just past the table.
+  -- With the right count all ticks have been read, whatever they are: a sheet that is begun leaves the port just past the table.
   pub ticks-read : word-at a .0 < length (s .memory) → count-word (s .memory) a ≡ n →
       (left ≡ standing (s .memory) (s .registers .control) (on-by (suc n) a)) × (on-by (suc n) a .0 ≡ a .0 + 16 * suc n)
   ticks-read h e =

@@ -51,11 +51,11 @@ module _ (s : Machine) (k : Memory (s .memory)) (i : incr (s .registers .control
   not-both : Rises (s .memory) a n → Falls (s .memory) a n → ⊥
   not-both r f = let x = r (f .0) (f .1) in omega (arith, f .2)
 
-  -- Ticks are found to rise if they do,
+  -- The ticks of a table that lies in memory are found to rise if each lies after the one before it.
   pub found-rising : Rises (s .memory) a n → rising ticks ≡ true
   found-rising r = ⊎-elim (λ e. e) (λ e. absurd (not-both r (they-fall e))) (either-way (rising ticks))
 
-  -- and found not to if one does not.
+  -- They are found not to rise if one does not lie after the one before it.
   pub found-falling : Falls (s .memory) a n → rising ticks ≡ false
   found-falling f = ⊎-elim (λ e. absurd (not-both (they-rise e) f)) (λ e. e) (either-way (rising ticks))
 
@@ -74,7 +74,7 @@ module _ (s : Machine) (a : BitAddress) (p : Passed-in s a) (rule : ℕ) (t : Ti
   unfolding read-sheet
   begun-number b = ap (λ (o : Sheet). o .number) (sheet-begun whole s a rule t room (begun s rule t room b))
 
-  -- Its memory is one that is not refused.
+  -- A sheet that is begun has a memory of words, at most 32,768 of them.
   pub good-memory : Begins s rule t room → Memory (s .memory)
   good-memory b = record { size = b .size; words = p .words }
 
@@ -169,6 +169,7 @@ module _ (s : Machine) (a : BitAddress) (p : Passed-in s a) (rule : ℕ) (t : Ti
       (either-way (unknown-rule rule)))
       (less-or-not 32768 (length (s .memory)))
 
-  -- The number of a sheet is v exactly if v's row of the table of refusals holds, or for 0 none of them.
+  -- The number of a sheet is v exactly if v's row of the table of refusals holds, or for 0 none of them: the rows go by the memory, the
+  -- rule, the time, the list, INCR and the table as it lies in memory (`Verdict`).
   pub numbered : (v : ℕ) → number ≡ v ↔ Verdict s a rule t room v
   numbered v = (λ e. subst (Verdict s a rule t room) (sym (says (some .0) (some .1)) ∙ e) (some .1), says v)

@@ -28,18 +28,18 @@ use Rattle.sheet_spec.proofs.TheBet.{passing}
 
 module _ {r : Registers} {m : List ℕ} {a : BitAddress} {rule : ℕ} {t : TimeStruck} {l : List Float}
     {o : Sheet} {m′ : List ℕ} {l′ : List Float} (k : Struck r m a rule t l o m′ l′) where
-  -- The call returns v exactly if v's row of the table of refusals holds, or for 0 none of them.
+  -- The call returns v exactly if v's row of the table of refusals holds, or for 0 none of them (`Verdict`).
   pub returns-number : Passed-in (machine r m) a → (v : ℕ) → o .number ≡ v ↔ Verdict (machine r m) a rule t (length l) v
   returns-number p v =
       let e = ap (λ (x : Sheet). x .number) (k .outcome) in
       let n = numbered (machine r m) a p rule t (length l) v in
       (λ x. n .0 (sym e ∙ x), λ x. e ∙ n .1 x)
 
-  -- The memory that it was lent stays, whatever it returns.
+  -- The memory that the call was lent stays, whatever it returns.
   pub memory-stays : m′ ≡ m
   memory-stays = k .memory
 
-  -- Refused, it has 0 for the rule and for the strokes, and leaves every place of the list.
+  -- A refused call has 0 for the rule and for the strokes, and leaves every place of the list.
   pub refused-call : o .number ≢ 0 → (o .rule ≡ 0) × (o .strokes ≡ 0) × (l′ ≡ l)
   refused-call d =
       let n = refused-leaves whole (machine r m) a rule t l (λ x. d (ap (λ (y : Sheet). y .number) (k .outcome) ∙ x)) in
@@ -55,14 +55,14 @@ module _ {r : Registers} {m : List ℕ} {a : BitAddress} {rule : ℕ} {t : TimeS
         ap (λ (x : Sheet). x .strokes) (k .outcome) ∙ f .strokes,
       )
 
-  -- Refused with a number other than 42 to 44, it leaves the registers.
+  -- A call that is refused with a number other than 42 to 44 leaves the registers.
   pub early-call : o .number ≢ 0 → (o .number < 42) ⊎ (44 < o .number) → o .registers ≡ r
   early-call d out =
       let e = ap (λ (x : Sheet). x .number) (k .outcome) in
       ap (λ (x : Sheet). x .registers) (k .outcome) ∙
       untouched whole (machine r m) a rule t (length l) (λ x. d (e ∙ x)) (subst (λ (v : ℕ). (v < 42) ⊎ (44 < v)) e out)
 
-  -- It is the sheet that the same accesses make when each is done as two byte accesses.
+  -- The call's sheet and list are those that the same accesses make when each is done as two byte accesses.
   pub call-by-bytes : (o ≡ sheet-of by-bytes (machine r m) a rule t (length l)) × (l′ ≡ list-after by-bytes (machine r m) a rule t l)
   call-by-bytes =
       (k .outcome ∙ sym (sheet-alike (machine r m) a rule t (length l)), k .list ∙ sym (list-alike (machine r m) a rule t l))
@@ -77,20 +77,21 @@ module _ {r : Registers} {m : List ℕ} {a : BitAddress} {rule : ℕ} {t : TimeS
 
   -- such a call on what can be passed in
   module _ (p : Passed-in (machine r m) a) (b : Begins (machine r m) rule t (length l)) where
-    -- With a count word that lies beyond memory or says another number, it leaves the port one word on.
+    -- With a count word that lies beyond memory or says another number, such a call leaves the port one word on.
     pub stops-at-the-count :
         (length m ≤ word-at a .0) ⊎ ((word-at a .0 < length m) × (count-word m a ≢ strokes-of rule t)) →
         o .registers ≡ standing m (r .control) (on-by 1 a)
     stops-at-the-count h =
         ap (λ (x : Sheet). x .registers) (k .outcome) ∙ count-read (machine r m) a p rule t (length l) b h .0
 
-    -- With the right count it leaves the port just past the table, whatever the ticks are.
+    -- With the right count, such a call leaves the port just past the table, whatever the ticks are.
     pub stops-past-the-table : word-at a .0 < length m → count-word m a ≡ strokes-of rule t →
         o .registers ≡ standing m (r .control) (on-by (suc (strokes-of rule t)) a)
     stops-past-the-table h e =
         ap (λ (x : Sheet). x .registers) (k .outcome) ∙ ticks-read (machine r m) a p rule t (length l) b h e .0
 
-    -- Of a whole table whose ticks rise it passes, and leaves the list in tempo.
+    -- Of a table that lies in memory with the right count and whose ticks rise, such a call passes, and leaves the list in tempo
+    -- (`InTempo`).
     pub passing-call : Complete m a (strokes-of rule t) → Rises m a (strokes-of rule t) →
         (o .number ≡ 0) × ((d : Float) → InTempo (machine r m) a rule t l l′ d)
     passing-call c x = (
@@ -102,7 +103,8 @@ module _ {r : Registers} {m : List ℕ} {a : BitAddress} {rule : ℕ} {t : TimeS
 module _ {r : Registers} {m : List ℕ} {a : BitAddress} {t : TimeStruck} {l : List Float}
     {o p : Sheet} {m′ m″ : List ℕ} {l′ l″ : List Float} (one : Struck r m a 1 t l o m′ l′) (two : Struck r m a 2 t l p m″ l″)
     (e : t .quarters ≡ 0) where
-  -- Their sheets differ in the rule shown alone; memory and list are left the same.
+  -- Of two calls alike but for the rule, of a time with quarters 0, the sheets have the same number, strokes and registers, and show 1 and
+  -- 2 if they pass, and 0 both if they are refused; memory and list are left the same.
   pub calls-by-both-rules : RuleAlone o p × (m′ ≡ m″) × (l′ ≡ l″)
   calls-by-both-rules = (
     rw (one .outcome, two .outcome) (rule-alone whole (machine r m) a t e (length l)),

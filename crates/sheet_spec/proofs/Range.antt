@@ -16,7 +16,7 @@ one-true true c e = inl refl
 one-true false c e = inr e
 
 module _ (t : TimeStruck) where
-  -- A time that is not refused is in range.
+  -- A time that is not refused is in range: 1 to 12 hours, at most 3 quarters and at most 14 minutes.
   pub accepted-time : out-of-range t ≡ false → InRange t
   unfolding out-of-range
   accepted-time e =
@@ -31,7 +31,7 @@ module _ (t : TimeStruck) where
         minutes = ltb-false 14 (t .minutes) (q .1);
       }
 
-  -- One in range is not refused.
+  -- A time in range is not refused.
   pub time-accepted : InRange t → out-of-range t ≡ false
   unfolding out-of-range
   time-accepted r =
@@ -42,7 +42,7 @@ module _ (t : TimeStruck) where
         le-ltb 14 (t .minutes) (r .minutes),
       )
 
-  -- A time that is refused is out of range.
+  -- A time that is refused has hours 0 or over 12, quarters over 3 or minutes over 14.
   pub refused-time : out-of-range t ≡ true → OffRange t
   unfolding out-of-range
   refused-time e =
@@ -61,11 +61,13 @@ module _ (t : TimeStruck) where
       (λ q. ⊎-elim (λ x. omega (arith, r .quarters)) (λ x. omega (arith, r .minutes)) q)
       o
 
-  -- One out of range is refused.
+  -- A time with hours 0 or over 12, quarters over 3 or minutes over 14 is refused.
   pub time-refused : OffRange t → out-of-range t ≡ true
   time-refused o = ⊎-elim (λ e. e) (λ e. absurd (never-both (accepted-time e) o)) (either-way (out-of-range t))
 
 -- ---- the same in the paper's numbers
+
+-- which hours h, quarters q and minutes m are struck and which are not
 pub record Edges (h q m : ℕ) : Type 0 where
   -- 1 to 12 hours, 0 to 3 quarters and 0 to 14 minutes are struck
   pub struck : 1 ≤ h → h ≤ 12 → q ≤ 3 → m ≤ 14 → out-of-range (time h q m) ≡ false
@@ -75,7 +77,8 @@ pub record Edges (h q m : ℕ) : Type 0 where
   pub quarters : 3 < q → out-of-range (time h q m) ≡ true
   pub minutes : 14 < m → out-of-range (time h q m) ≡ true
 
--- Every time comes out so.
+-- In numbers: 1 to 12 hours, 0 to 3 quarters and 0 to 14 minutes are struck; 0 hours, 13 and more, four quarters and more, or 15 minutes
+-- and more are not.
 pub edges : (h q m : ℕ) → Edges h q m
 edges h q m =
     record {

@@ -23,7 +23,7 @@ module _ (w : Way) (s : Machine) (a : BitAddress) (rule : ℕ) (t : TimeStruck) 
   abbrev ticks : List ℕ
   ticks = ticks-heard w s a (strokes-of rule t)
 
-  -- A refusal has 0 for the rule and for the strokes, and writes nothing to the list.
+  -- what a refused sheet shows, and the list that it leaves
   pub record Leaves : Type 0 where
     pub shown : sheet .rule ≡ 0
     pub strokes : sheet .strokes ≡ 0
@@ -40,7 +40,7 @@ module _ (w : Way) (s : Machine) (a : BitAddress) (rule : ℕ) (t : TimeStruck) 
         list = list-begun w s a rule t l e ∙ rw (ne-eqb _ _ n);
       }
 
-  -- Every refused sheet does so.
+  -- A refused sheet has 0 for the rule and for the strokes, and leaves the list, every place of it.
   pub refused-leaves : sheet .number ≢ 0 → Leaves
   refused-leaves d =
       ⊎-elim
@@ -54,8 +54,7 @@ module _ (w : Way) (s : Machine) (a : BitAddress) (rule : ℕ) (t : TimeStruck) 
       })
       (same-or-not (number-before s rule t (length l)) 0)
 
-  -- A sheet that passes shows its rule and counts its strokes; the list takes their even-tempo times, from the first tick that was read
-  -- to the last, and keeps its later places.
+  -- what a sheet that passes shows, and the list that it leaves
   pub record Fills : Type 0 where
     pub shown : sheet .rule ≡ rule
     pub strokes : sheet .strokes ≡ strokes-of rule t
@@ -72,6 +71,7 @@ module _ (w : Way) (s : Machine) (a : BitAddress) (rule : ℕ) (t : TimeStruck) 
         list = list-begun w s a rule t l e ∙ rw (eq-eqb _ _ n);
       }
 
-  -- Every sheet that passes does so.
+  -- A sheet that passes shows the rule that it was given and counts its strokes; the list takes their even-tempo times, from the first tick
+  -- that was read to the last, and keeps its later places.
   pub passed-fills : sheet .number ≡ 0 → Fills
   passed-fills z = begun-passed (passed-begun w s a rule t (length l) z) z

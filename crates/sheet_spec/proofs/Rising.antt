@@ -11,7 +11,7 @@ use borrow.Author.Tests.{ltb-true, ltb-false}
 use Rattle.words.proofs.Choices.{either-way, both-true}
 use Rattle.sheet_spec.specs.Reading.{rising}
 
--- Of ticks that rise, each lies after the one before it.
+-- Of ticks that are found to rise, each lies after the one before it.
 pub rises : (ts : List ℕ) → rising ts ≡ true → (k : ℕ) → suc k < length ts → getD ts k 0 < getD ts (suc k) 0
 unfolding rising
 rises [] e k h = absurd (omega arith)
@@ -19,7 +19,7 @@ rises (t ∷ []) e k h = absurd (omega arith)
 rises (t ∷ u ∷ rest) e zero h = ltb-true t u (both-true (ltb t u) (rising (u ∷ rest)) e .0)
 rises (t ∷ u ∷ rest) e (suc k) h = rises (u ∷ rest) (both-true (ltb t u) (rising (u ∷ rest)) e .1) k (omega arith)
 
--- Of ticks that do not, some tick does not lie after the one before it.
+-- Of ticks that are found not to rise, some tick does not lie after the one before it.
 pub falls : (ts : List ℕ) → rising ts ≡ false → (k : ℕ) × (suc k < length ts) × (getD ts (suc k) 0 ≤ getD ts k 0)
 unfolding rising
 falls [] e = absurd (true≢false e)

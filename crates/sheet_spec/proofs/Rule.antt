@@ -14,29 +14,31 @@ one-holds false true e = inr refl
 one-holds false false e = absurd (true≢false e)
 
 module _ (rule : ℕ) where
-  -- A rule that is not refused is known.
+  -- A rule that is not refused is 1 or 2.
   pub accepted-rule : unknown-rule rule ≡ false → KnownRule rule
   unfolding unknown-rule
   accepted-rule e = ⊎-elim (λ x. inl (eqb-true _ _ x)) (λ x. inr (eqb-true _ _ x)) (one-holds _ _ e)
 
-  -- One that is known is not refused.
+  -- A rule that is 1 or 2 is not refused.
   pub rule-accepted : KnownRule rule → unknown-rule rule ≡ false
   unfolding unknown-rule
   rule-accepted k = ⊎-elim (λ e. rw e) (λ e. rw e) k
 
-  -- A rule that is refused is not known.
+  -- A rule that is refused is neither 1 nor 2.
   pub refused-rule : unknown-rule rule ≡ true → UnknownRule rule
   refused-rule e = (
     λ known. false≢true (rw (rule-accepted (inl known)) at e),
     λ known. false≢true (rw (rule-accepted (inr known)) at e),
   )
 
-  -- One that is not known is refused.
+  -- A rule that is neither 1 nor 2 is refused.
   pub rule-refused : UnknownRule rule → unknown-rule rule ≡ true
   unfolding unknown-rule
   rule-refused u = rw (ne-eqb _ _ (u .0), ne-eqb _ _ (u .1))
 
 -- ---- the edges
+
+-- which rules are refused, in numbers
 pub record RuleEdges : Type 0 where
   -- rules 1 and 2 are known, 0 and all above 2 are not
   pub none : unknown-rule 0 ≡ true
@@ -44,7 +46,7 @@ pub record RuleEdges : Type 0 where
   pub new : unknown-rule 2 ≡ false
   pub above : (rule : ℕ) → 2 < rule → unknown-rule rule ≡ true
 
--- They come out so.
+-- Rules 1 and 2 are known, 0 and all above 2 are not.
 pub rule-edges : RuleEdges
 unfolding unknown-rule
 rule-edges =

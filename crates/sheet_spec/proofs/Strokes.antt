@@ -10,12 +10,12 @@ use Rattle.sheet_spec.specs.InPlainWords.{time, InRange}
 use Rattle.sheet_spec.specs.Sheet.{strokes-of}
 use Rattle.sheet_spec.specs.declared.TimeStruck.{TimeStruck}
 
--- By rule 1 the strokes of a time are its hours, quarters and minutes.
+-- By rule 1 the strokes of a time are its hours, quarters and minutes, added up.
 pub by-rule-one : (t : TimeStruck) → strokes-of 1 t ≡ t .hours + t .quarters + t .minutes
 unfolding strokes-of
 by-rule-one t = refl
 
--- By rule 2 each quarter counts twice.
+-- By rule 2 they are its hours, twice its quarters and its minutes, added up.
 pub by-rule-two : (t : TimeStruck) → strokes-of 2 t ≡ t .hours + 2 * t .quarters + t .minutes
 unfolding strokes-of
 by-rule-two t = refl
@@ -26,7 +26,9 @@ pub of-both : (P : ℕ → Type 0) (rule : ℕ) (t : TimeStruck) →
 unfolding strokes-of
 of-both P rule t one two = ⊎-elim (λ e. rw e two) (λ e. rw e one) (either-way (eqb rule 2))
 
--- ---- An hour or a minute more is a stroke more; a quarter more is one by rule 1 and two by rule 2; and nothing else is a stroke.
+-- ---- what each hour, quarter and minute adds
+
+-- what each hour, each quarter and each minute adds to the strokes of a time
 pub record OneEach (rule h q m : ℕ) : Type 0 where
   pub hour : strokes-of rule (time (suc h) q m) ≡ suc (strokes-of rule (time h q m))
   pub minute : strokes-of rule (time h q (suc m)) ≡ suc (strokes-of rule (time h q m))
@@ -34,7 +36,7 @@ pub record OneEach (rule h q m : ℕ) : Type 0 where
   pub quarter-by-one : strokes-of 1 (time h (suc q) m) ≡ suc (strokes-of 1 (time h q m))
   pub quarter-by-two : strokes-of 2 (time h (suc q) m) ≡ suc (suc (strokes-of 2 (time h q m)))
 
--- Every time is counted so.
+-- An hour or a minute more is a stroke more by any rule; a quarter more is one by rule 1 and two by rule 2; and nothing else is a stroke.
 pub one-each : (rule h q m : ℕ) → OneEach rule h q m
 unfolding strokes-of
 one-each rule h q m =
@@ -48,18 +50,18 @@ one-each rule h q m =
 
 -- ---- how many there can be
 module _ (t : TimeStruck) (r : InRange t) where
-  -- A time in range has from one to 32 strokes,
+  -- A time in range has from one to 32 strokes by any rule.
   pub few-strokes : (rule : ℕ) → (1 ≤ strokes-of rule t) × (strokes-of rule t ≤ 32)
   few-strokes rule =
       of-both (λ n. (1 ≤ n) × (n ≤ 32)) rule t
       (omega (arith, r .an-hour), omega (arith, r .hours, r .quarters, r .minutes))
       (omega (arith, r .an-hour), omega (arith, r .hours, r .quarters, r .minutes))
 
-  -- and by rule 1 no more than 29.
+  -- By rule 1 a time in range has no more than 29 strokes.
   pub few-by-rule-one : strokes-of 1 t ≤ 29
   few-by-rule-one = rw (by-rule-one t) (omega (arith, r .hours, r .quarters, r .minutes))
 
--- Both ends are reached: 1:00 is in range and has one stroke by either rule, and so is 12:59, which has 29 by rule 1 and 32 by rule 2.
+-- the fewest strokes and the most that a time in range has, by each rule
 pub record FewestAndMost : Type 0 where
   pub fewest-in-range : InRange (time 1 0 0)
   pub fewest : (rule : ℕ) → strokes-of rule (time 1 0 0) ≡ 1
@@ -67,7 +69,7 @@ pub record FewestAndMost : Type 0 where
   pub most-by-one : strokes-of 1 (time 12 3 14) ≡ 29
   pub most-by-two : strokes-of 2 (time 12 3 14) ≡ 32
 
--- They are.
+-- Both ends are reached: 1:00 is in range and has one stroke by any rule, and so is 12:59, which has 29 by rule 1 and 32 by rule 2.
 pub fewest-and-most : FewestAndMost
 unfolding strokes-of
 fewest-and-most =
@@ -81,10 +83,10 @@ fewest-and-most =
 
 -- ---- the two rules beside each other
 module _ (t : TimeStruck) where
-  -- Without quarters both count the same.
+  -- Without quarters both rules count the same strokes.
   pub no-quarters : t .quarters ≡ 0 → strokes-of 1 t ≡ strokes-of 2 t
   no-quarters e = rw (by-rule-one t, by-rule-two t) (omega (arith, e))
 
-  -- With some, rule 2 counts more.
+  -- With quarters rule 2 counts more strokes than rule 1.
   pub quarters-tell : 1 ≤ t .quarters → strokes-of 1 t < strokes-of 2 t
   quarters-tell h = rw (by-rule-one t, by-rule-two t) (omega (arith, h))

@@ -23,26 +23,26 @@ module _ (w : Way) (s : Machine) (a : BitAddress) (rule : ℕ) (t : TimeStruck) 
   unfolding sheet-of
   sheet-begun room e = rw (eq-eqb _ _ e)
 
-  -- So is the list after it.
+  -- The list after a sheet that is begun is what its reads make of it.
   pub list-begun : (l : List Float) → number-before s rule t (length l) ≡ 0 →
       list-after w s a rule t l ≡ read-list w s a (strokes-of rule t) l
   unfolding list-after
   list-begun l e = rw (eq-eqb _ _ e)
 
   -- ---- refused before
-  -- A sheet that is refused before answers its number and zeros, and leaves the registers.
+  -- A sheet that is refused before the port is touched answers its number and zeros, and leaves the registers.
   pub sheet-barred : (room : ℕ) → number-before s rule t room ≢ 0 →
       sheet-of w s a rule t room ≡ refused-sheet (number-before s rule t room) (s .registers)
   unfolding sheet-of
   sheet-barred room d = rw (ne-eqb _ _ d)
 
-  -- It leaves every place of the list.
+  -- A sheet that is refused before the port is touched leaves every place of the list.
   pub list-barred : (l : List Float) → number-before s rule t (length l) ≢ 0 → list-after w s a rule t l ≡ l
   unfolding list-after
   list-barred l d = rw (ne-eqb _ _ d)
 
   -- ---- passed
-  -- A sheet that passes was begun,
+  -- A sheet that passes was begun.
   pub passed-begun : (room : ℕ) → sheet-of w s a rule t room .number ≡ 0 → number-before s rule t room ≡ 0
   passed-begun room z =
       ⊎-elim
@@ -50,6 +50,7 @@ module _ (w : Way) (s : Machine) (a : BitAddress) (rule : ℕ) (t : TimeStruck) 
       (λ d. absurd (d (sym (ap (λ (o : Sheet). o .number) (sheet-barred room d)) ∙ z)))
       (same-or-not (number-before s rule t room) 0)
 
-  -- so that none of the early refusals applies to it: its rule is known, and its time in range.
+  -- To a sheet that passes none of the early refusals applies: its memory is not too long, its rule is 1 or 2, its time in range, its list
+  -- long enough for its strokes, and INCR set.
   pub passed-begins : (room : ℕ) → sheet-of w s a rule t room .number ≡ 0 → Begins s rule t room
   passed-begins room z = begins s rule t room (passed-begun room z)

@@ -39,8 +39,8 @@ pub record Passes (s : Machine) (a : BitAddress) (rule : ℕ) (t : TimeStruck) (
   pub strokes : sheet-of whole s a rule t (length l) .strokes ≡ strokes-of rule t
   pub list : list-after whole s a rule t l ≡ struck (s .memory) a (strokes-of rule t) l
 
--- A sheet passes exactly if no refusal applies: nothing is refused before the port is touched, the count word and all ticks lie in
--- memory with the right count, and the ticks rise.
+-- A sheet passes exactly if memory, rule, time, list and INCR are not refused, the count word and all ticks lie in memory with the right
+-- count, which is that of the time by the rule, and the ticks rise.
 pub passes-exactly : (s : Machine) (a : BitAddress) → Passed-in s a → (rule : ℕ) (t : TimeStruck) (room : ℕ) →
     sheet-of whole s a rule t room .number ≡ 0 ↔
     Begins s rule t room × Complete (s .memory) a (strokes-of rule t) × Rises (s .memory) a (strokes-of rule t)
@@ -59,6 +59,7 @@ module _ (s : Machine) (a : BitAddress) (rule : ℕ) (t : TimeStruck) (l : List 
   abbrev n : ℕ
   n = strokes-of rule t
 
+  -- the tuner's bet and the keeper's worry
   pub record Bet : Type 0 where
     -- the tuner's: if the table lies in memory with the right count and its ticks rise, the sheet passes, the last tick included
     pub tuner : Complete (s .memory) a n → Rises (s .memory) a n → Passes s a rule t l
@@ -70,7 +71,8 @@ module _ (s : Machine) (a : BitAddress) (rule : ℕ) (t : TimeStruck) (l : List 
     pub nothing-else : number ≡ 0 → Complete (s .memory) a n × Rises (s .memory) a n
 
   module _ (p : Passed-in s a) (b : Begins s rule t (length l)) where
-    -- A sheet whose table is whole and whose ticks rise passes.
+    -- A sheet that is begun passes if its table lies in memory with the right count and its ticks rise: it shows its rule and its strokes,
+    -- and the list takes their times.
     pub passing : Complete (s .memory) a n → Rises (s .memory) a n → Passes s a rule t l
     passing c r =
         let z = numbered s a p rule t (length l) 0 .1 (passes b c r) in
@@ -87,7 +89,10 @@ module _ (s : Machine) (a : BitAddress) (rule : ℕ) (t : TimeStruck) (l : List 
               ap (λ (x : ℕ). with-times (tick (s .memory) a 0) x n l) (told (n - 1) (omega arith));
         }
 
-    -- The bet holds.
+    -- Of a sheet that is not refused for its memory, rule, time, list or INCR. The tuner's: if the count word and every tick lie in memory,
+    -- with the right count, and the ticks rise, the sheet passes; the list takes the times from the first tick to the last, that last word
+    -- of the table included. The keeper's: if the count word lies beyond memory, or the count is right and a tick lies beyond memory, it is
+    -- refused with 42. Both: nothing else passes.
     pub bet : Bet
     bet =
         record {
@@ -132,8 +137,9 @@ module _ (s : Machine) (a : BitAddress) (rule : ℕ) (t : TimeStruck) (l : List 
   abbrev left : Machine → Registers
   left x = sheet-of whole x a rule t (length l) .registers
 
-  -- It passes there too, with the same strokes and the same list, and leaves the same pointer and HSTCTL: only HSTDATA and its mark
-  -- tell what follows.
+  -- Where a sheet passes, another memory of at most 32,768 words that has the same ones up to the table's last, and whatever after that,
+  -- nothing at all included, passes too, with the same strokes and the same list, and leaves the same pointer and HSTCTL: only HSTDATA and
+  -- its mark tell what follows.
   pub whatever-follows : Complete (s .memory) a (strokes-of rule t) → Rises (s .memory) a (strokes-of rule t) →
       Passes other a rule t l × (list-after whole other a rule t l ≡ list-after whole s a rule t l) ×
       (left other .pointer ≡ left s .pointer) × (left other .control ≡ left s .control)

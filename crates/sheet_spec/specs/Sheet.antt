@@ -44,7 +44,8 @@ unknown-rule rule = not (eqb rule 1 || eqb rule 2)
 unfoldable pub out-of-range : TimeStruck → Bool
 out-of-range t = (eqb (t .hours) 0 || ltb 12 (t .hours)) || (ltb 3 (t .quarters) || ltb 14 (t .minutes))
 
--- by rule 1 "the count must be hours + quarters + minutes"; by rule 2 it must be "hours + 2 × quarters + minutes"
+-- by rule 1 "the count must be hours + quarters + minutes"; by rule 2 it must be "hours + 2 × quarters + minutes"; a rule that is unknown,
+-- and refused, counts as rule 1 (ours)
 unfoldable pub strokes-of : ℕ → TimeStruck → ℕ
 strokes-of rule t =
     cond (eqb rule 2) (t .hours + 2 * t .quarters + t .minutes) (t .hours + t .quarters + t .minutes)

@@ -26,6 +26,7 @@ hollow-one = counting 1 108
 abbrev from-one : List ℕ
 from-one = replicate 34 0 ++ (1 ∷ 0 ∷ counting 36 72)
 
+-- what records say whose bytes tell their places, and words that are laid
 pub record Says : Type 0 where
   pub registers :
       registers-in own-places ≡ record { pointer = address 0x03020100; latch = 0x0504; control = 0x0706; hollow = false }
@@ -39,7 +40,8 @@ pub record Says : Type 0 where
   -- all that a room of four words has place for
   pub words-laid : laid from-one (replicate 4 9) 36 ≡ 9 ∷ 0x2524 ∷ 0x2726 ∷ 0x2928 ∷ []
 
--- They say so.
+-- Registers, table, rule, time and how much is lent are read from the record's bytes at their places, low byte first; and its words are
+-- laid into the room as far as this goes.
 pub they-say : Says
 unfolding store-at laid
 they-say =

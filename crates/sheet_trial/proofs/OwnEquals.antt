@@ -17,14 +17,14 @@ others nan t = absurd t
 others (inf s) t = come-out-alike s s .1 refl
 others (fin s m e) t = rw (eq-eqb _ _ refl, come-out-alike s s .1 refl)
 
--- One that does is a number or an infinity.
+-- A float that equals itself is a number or an infinity.
 pub equal-is-no-nan : (x : Float) → eq x x ≡ true → T (not (isNan x))
 unfolding eq isNan
 equal-is-no-nan nan e = contra e refl
 equal-is-no-nan (inf s) e = tt
 equal-is-no-nan (fin s m k) e = tt
 
--- One that does not has the pattern of the NaN.
+-- A float that does not equal itself has the pattern of the NaN.
 pub unequal-is-nan : (x : Float) → eq x x ≡ false → 0x7ff8000000000000 ≡ toBits binary64 x
 unfolding isNan toBits
 unequal-is-nan nan e = refl

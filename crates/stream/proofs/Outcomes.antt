@@ -30,7 +30,7 @@ module _ (st : Stream) (s : List ℕ) where
   heard-found : heard st s ≡ elsewhere [] (st .from) (st .taken) (read-on (st .part) s)
   heard-found = reads-elsewhere [] (st .from) (st .taken) (st .part) s
 
-  -- What was found lies within the stream.
+  -- Where the delivery stays within 4,294,967,295 bytes of the stream, so does what was found in it.
   pub found-within : {f : ScannedOn} → f ≡ scanned-on (st .part) s → st .taken + length s ≤ 4294967295 → Within st f
   found-within e h =
       let far = goes-further (at [] 0 0 (st .part) 0) s in
@@ -39,9 +39,12 @@ module _ (st : Stream) (s : List ℕ) where
 
   module _ (l : Lists) where
     -- ---- not looked through
+
+    -- A delivery to a stream that has ended is refused with 25, and leaves stream and lists.
     pub refused-ended : {o : Streamed} → st .ended ≡ true → o ≡ streamed 25 0 0 st → TookDelivery st s l o l
     refused-ended z e = alike (comes-exactly .1 (ended-before z)) e refl
 
+    -- A delivery that would take a stream that goes on past 4,294,967,295 bytes is refused with 26, and leaves stream and lists.
     pub refused-long : {o : Streamed} → st .ended ≡ false → 4294967295 < st .taken + length s → o ≡ streamed 26 0 0 st →
         TookDelivery st s l o l
     refused-long z h e = alike (comes-exactly .1 (too-long z h)) e refl
@@ -53,11 +56,13 @@ module _ (st : Stream) (s : List ℕ) where
         entries-found =
             ap (λ (x : ScannedOn). x .entries) found ∙ sym (ap (λ (r : Reading). length (r .got)) heard-found)
 
+        -- A delivery whose good records are more than the lists have places for is refused with 24, and leaves stream and lists.
         pub refused-small : {o : Streamed} → size l < f .entries → o ≡ streamed 24 0 0 st → TookDelivery st s l o l
         refused-small h e = alike (comes-exactly .1 (too-small still short (omega (arith, entries-found)))) e refl
 
-        pub taken-in : {o : Streamed} {l′ : Lists} → f .entries ≤ size l → l′ ≡ with-each l 0 (read-on (st .part) s .got) → o ≡ told-of st f →
-            TookDelivery st s l o l′
+        -- A delivery whose good records fit the lists is answered by what was found in it, and these are put into the lists.
+        pub taken-in : {o : Streamed} {l′ : Lists} → f .entries ≤ size l → l′ ≡ with-each l 0 (read-on (st .part) s .got) →
+            o ≡ told-of st f → TookDelivery st s l o l′
         taken-in h p e =
             let fits : length (heard st s .got) ≤ size l = omega (arith, entries-found) in
             alike (takes-in st s l still short fits)
@@ -66,10 +71,10 @@ module _ (st : Stream) (s : List ℕ) where
 
 -- ---- the end
 module _ (st : Stream) {o : Streamed} where
-  -- An ended stream stays as it was.
+  -- The end of a stream that has ended is refused with 25, and the stream stays as it was.
   pub end-refused : st .ended ≡ true → o ≡ streamed 25 0 0 st → o ≡ end-answer st
   end-refused z e = e ∙ sym (ends-by st z)
 
-  -- Any other ends, with the refusal of its part.
+  -- The end of any other stream ends it, with the refusal of its part, or 0.
   pub end-taken : st .ended ≡ false → o ≡ end-answered st → o ≡ end-answer st
   end-taken z e = e ∙ sym (ends-by st z)

@@ -10,13 +10,13 @@ use Rattle.stream.proofs.calls.take_delivery.Reads as take-delivery
 use Rattle.stream.proofs.calls.end_stream.Kinds as end-stream-kinds
 use Rattle.stream.proofs.calls.end_stream.Reads as end-stream
 
--- `start_stream`: nothing.
+-- `start_stream` takes nothing, and all that its contract allows is `fresh-stream`.
 pub start-stream-contract : Contract start-stream-kinds.ps start-stream-kinds.r start-stream.Pre start-stream.Post
     (λ κs args r left.
     r ≡ fresh-stream)
 start-stream-contract = record { takes-any = λ κs args. tt; says = λ κs args r left p. p }
 
--- `take_delivery`: st, bytes, kinds, registers, lanes, words.
+-- `take_delivery` takes any st, bytes, kinds, registers, lanes and words, and all that its contract allows is `TookDelivery` of them.
 pub take-delivery-contract : Contract take-delivery-kinds.ps take-delivery-kinds.r take-delivery.Pre take-delivery.Post
     (λ κs args o left.
     let st = args .0 in
@@ -33,7 +33,7 @@ pub take-delivery-contract : Contract take-delivery-kinds.ps take-delivery-kinds
     (lists (kinds′ .now) (registers′ .now) (lanes′ .now) (words′ .now)))
 take-delivery-contract = record { takes-any = λ κs args. tt; says = λ κs args o left p. p }
 
--- `end_stream`: st.
+-- `end_stream` takes any st, and all that its contract allows is `end-answer` of it.
 pub end-stream-contract : Contract end-stream-kinds.ps end-stream-kinds.r end-stream.Pre end-stream.Post
     (λ κs args o left.
     let st = args .0 in

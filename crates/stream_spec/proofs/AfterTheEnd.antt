@@ -30,7 +30,7 @@ module _ {st : Stream} {s : List ℕ} {l l′ : Lists} {o : Streamed} (p : TookD
       by-row (taken-in z k m e) h = absurd (omega arith)
       by-row (then-bad z k m e i j) h = absurd (omega arith)
 
-  -- It ends a stream that goes on exactly if it is refused with 21, 22 or 23.
+  -- A delivery ends a stream that goes on exactly if it is refused with 21, 22 or 23.
   pub ends-the-stream : st .ended ≡ false → o .stream .ended ≡ true ↔ ((21 ≤ o .number) × (o .number ≤ 23))
   ends-the-stream = by-row (comes-exactly .0 p)
     where
@@ -43,7 +43,7 @@ module _ {st : Stream} {s : List ℕ} {l l′ : Lists} {o : Streamed} (p : TookD
       by-row (then-bad t k m e i j) z = (λ _. (i, j), λ _. refl)
 
 module _ (st : Stream) {o : Streamed} (p : o ≡ end-answer st) where
-  -- The end always ends it.
+  -- The stream has always ended after its end.
   pub end-ends : o .stream .ended ≡ true
   end-ends = by-row (ends-exactly st .0 p)
     where
@@ -52,7 +52,7 @@ module _ (st : Stream) {o : Streamed} (p : o ≡ end-answer st) where
       by-row (nothing-missing z e) = refl
       by-row (number-missing z e) = refl
 
-  -- It is refused with 25 exactly if the stream had ended.
+  -- The end is refused with 25 exactly if the stream had ended.
   pub end-refused-25 : o .number ≡ 25 ↔ (st .ended ≡ true)
   end-refused-25 = (
     by-row (ends-exactly st .0 p),
@@ -64,11 +64,12 @@ module _ (st : Stream) {o : Streamed} (p : o ≡ end-answer st) where
       by-row (nothing-missing z e) h = absurd (omega arith)
       by-row (number-missing z e) h = absurd (omega arith)
 
--- After the end every call is refused with 25, and changes nothing.
+-- After the end every delivery is refused with 25, and changes neither stream nor lists.
 pub delivery-after : {st : Stream} {s : List ℕ} {l l′ : Lists} {o : Streamed} → st .ended ≡ true → TookDelivery st s l o l′ →
     (o ≡ answer 25 0 0 st) × (l′ ≡ l)
 delivery-after z p = one-delivery p (comes-exactly .1 (ended-before z))
 
+-- After the end every further end is refused with 25, and does not change the stream.
 pub end-after : (st : Stream) {o : Streamed} → st .ended ≡ true → o ≡ end-answer st → o ≡ answer 25 0 0 st
 end-after st z p = p ∙ sym (ends-exactly st .1 (already-ended z))
 

@@ -134,7 +134,9 @@ module _ {t u : List ℕ} {st : Stream} (a : OpenAt t u st) (s : List ℕ) where
             let d : Divides u s v w es = record { all = e; good = q } in
             ⊎-elim (λ z. whole h d (within (subst (BadRecord w) z b))) (λ c. broken h d b c) (same-or-not n 20)
 
-    -- The answer says this exactly if the begun record and the delivery together do.
+    -- A delivery to an open stream answers this number, hands out these entries and names this place exactly if the record u that is begun
+    -- and the delivery together, as records, say so (`AnsweredAs`): 26, 24, 0, or the refusal of the first bad record and where it begins
+    -- in the stream.
     pub answers-exactly : (n : ℕ) (es : List Entry) (place : ℕ) → AnswerSays o l′ n es place ↔ AnsweredAs t u s (size l) n es place
     answers-exactly n es place = (
       λ z.
@@ -160,7 +162,7 @@ module _ {t u : List ℕ} {st : Stream} (a : OpenAt t u st) (s : List ℕ) where
         subst (OpenAt (t ++ v) w) (sym (stands-for-more z ∙ ap stands-for same))
         (opened (t ++ v) w (a .entries ++ es) (sound-joined (a .good) (d .good)) b)
 
-    -- If nothing is refused, the stream is open behind the records that were handed out.
+    -- If nothing is refused, the stream is open behind the records that were handed out, and has what there is of the next one.
     pub goes-on-open : o .number ≡ 0 → (v : List ℕ) × (w : List ℕ) × Divides u s v w (handed o l′) × OpenAt (t ++ v) w (o .stream)
     goes-on-open z =
         by-row (answers-exactly (o .number) (handed o l′) (o .place) .0 (record { number = refl; entries = refl; place-told = refl })) z
@@ -188,7 +190,7 @@ some-end : {t u : List ℕ} → Begun u → (n : ℕ) × (place : ℕ) × EndedA
 some-end between = (_, _, plain.EndedAs.nothing-missing)
 some-end (within b) = (_, _, plain.EndedAs.number-missing b)
 
--- The end of an open stream answers this exactly if a number is missing, or no record is begun.
+-- The end of an open stream is 20, at the place of the record, exactly if one is begun, and else 0 (`EndedAs`).
 pub end-answers-exactly : {t u : List ℕ} {st : Stream} → OpenAt t u st → (n place : ℕ) →
     end-answer st ≡ answer n 0 place (shut st) ↔ EndedAs t u n place
 end-answers-exactly {t} {u} a n place = (

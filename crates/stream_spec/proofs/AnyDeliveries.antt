@@ -9,7 +9,7 @@ use Rattle.stream_spec.specs.InPlainWords.{Turn, Took, none, and-then, D
 use Rattle.stream_spec.specs.Stream.{delivery-answer, lists-after}
 use Rattle.stream_spec.specs.declared.Stream.{Stream}
 
--- Whatever is delivered, with whatever lists, comes to something.
+-- Any deliveries to any stream, with any lists, come to something, so that the laws on deliveries speak of all of them.
 pub takes-any : (st : Stream) (ds : List Delivery) → (ts : List Turn) × (st′ : Stream) × Took st ts st′ × (map made ts ≡ ds)
 takes-any st [] = ([], st, none, refl)
 takes-any st (d ∷ ds) =
@@ -22,10 +22,11 @@ takes-any st (d ∷ ds) =
 abbrev pub spare : ℕ → Lists
 spare n = lists (replicate n 0) (replicate n 0) (replicate n 0) (replicate n 0)
 
+-- The lists `spare n` have places for n entries.
 pub spare-size : (n : ℕ) → n ≤ size (spare n)
 spare-size n = let e : length {A = ℕ} (replicate n 0) ≡ n = length-replicate n 0 in omega arith
 
--- Any parts can be delivered so that each list has a place for each byte, and all bytes that are delivered are those of the parts.
+-- Bytes in any parts can be delivered so that each list has a place for each byte, and all bytes that are delivered are those of the parts.
 pub any-cut : (st : Stream) (parts : List (List ℕ)) →
     (ts : List Turn) × (st′ : Stream) × Took st ts st′ × Roomy ts × (map (λ (t : Turn). t .bytes) ts ≡ parts) ×
     (delivered ts ≡ flatten parts)

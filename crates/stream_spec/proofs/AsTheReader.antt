@@ -46,7 +46,8 @@ some-held : (s : List ℕ) → Divided s → (es : List Entry) × (v : Verdict) 
 some-held s (all-good es q) = (_, _, plain.Holds.all-good q)
 some-held s (then-bad es t u n e q b) = (_, _, plain.Holds.a-bad-one e q b)
 
--- A string holds these good records, and then nothing or this bad one, exactly if the reader of request (ii) finds these.
+-- A string holds these good records, and then nothing or a bad one with this refusal at this place (`Holds`), exactly if the reader of
+-- request (ii) finds this.
 pub holds-exactly : (s : List ℕ) (es : List Entry) (v : Verdict) → Holds s es v ↔ (entries-read s ≡ es) × (read-verdict s ≡ v)
 holds-exactly s es v = (
   held s,
@@ -78,14 +79,16 @@ module _ {ts : List Turn} {st : Stream} {e : Streamed} (p : Took fresh-stream ts
   abbrev final : Verdict
   final = verdict-of (answers-of ts ++ (e ∷ []))
 
-  -- What comes off the line is what the joined bytes hold.
+  -- From a fresh start to an end, the joined bytes are good records, those that were handed out, and then nothing, or a bad one with the
+  -- final refusal at its place.
   pub off-the-line : Holds (joined ts) (handed-out ts) final
   off-the-line = holds-exactly (joined ts) (handed-out ts) final .1 (sym (hands-out p), sym (final-refusal p q))
 
   -- ---- and of the contract of the reader, lent lists for all of them unless the bytes are refused anyway
   module _ {l l′ : Lists} {o : Transcribed} (r : ReadTranscript (joined ts) l o l′)
       (room : final .number ≡ 0 → length (handed-out ts) ≤ size l) where
-    -- The reader's refusal and its place are the final ones; if there is none, it reads the accesses that were handed out.
+    -- Whatever `read_transcript` answers of the joined bytes, lent lists for all of them unless they are refused anyway, its number and its
+    -- place are the final ones, and without a refusal its lists hold what was handed out.
     pub as-the-reader : (o .number ≡ final .number) × (o .place ≡ final .place) ×
         (o .number ≡ 0 → first-places (o .count) l′ ≡ columns (handed-out ts))
     as-the-reader =

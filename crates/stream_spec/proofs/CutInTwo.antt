@@ -183,7 +183,8 @@ module _ {st : Stream} {v w : List ℕ} {l l′ k₁ k₁′ k₂ k₂′ : List
             let m = length-append (heard st v .got) (heard (standing (heard st v)) w .got) in
             read-kept (open-if-good (heard st v) g) (record { short = omega (arith, x .short); fits = omega arith }) then-second
 
-  -- Cutting a delivery in two changes nothing, if neither it nor a part of it is sent back.
+  -- Of any stream, a delivery and the same bytes in two, none of them sent back, hand out the same entries, tell the same refusal with its
+  -- place and leave the same stream.
   pub cut-in-two : sent-back (o .number) ≡ false → sent-back (o₁ .number) ≡ false → sent-back (o₂ .number) ≡ false →
       CutAlike o l′ o₁ k₁′ o₂ k₂′
   cut-in-two b b₁ b₂ = ⊎-elim ended-alike going (either-way (st .ended))
@@ -194,7 +195,7 @@ module _ {st : Stream} {v w : List ℕ} {l l′ k₁ k₁′ k₂ k₂′ : List
           let y = is-read z b₁ (comes-exactly .0 p₁) in
           ⊎-elim (good-first z x y b₂) (bad-first z x y) (same-or-not (heard st v .refusal) 0)
 
-  -- And no part is, if the whole is not and each part's lists have room for all that it handed out.
+  -- No part of a delivery is sent back, if the whole is not and each part's lists have room for all that the whole handed out.
   pub parts-join : sent-back (o .number) ≡ false → o .count ≤ size k₁ → o .count ≤ size k₂ →
       (sent-back (o₁ .number) ≡ false) × (sent-back (o₂ .number) ≡ false)
   parts-join b r₁ r₂ = ⊎-elim over going (either-way (st .ended))

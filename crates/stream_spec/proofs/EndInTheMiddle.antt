@@ -23,7 +23,8 @@ abbrev pub Refused25 : Stream → List Streamed → Type 0
 Refused25 st [] = Unit
 Refused25 st (o ∷ os) = (o ≡ answer 25 0 0 st) × Refused25 st os
 
--- Once a stream has ended, every call is refused with 25, hands out nothing, and leaves the stream.
+-- Once a stream has ended, whatever calls follow, deliveries and ends in any order, however many, are refused with 25, hand out nothing and
+-- leave the stream.
 pub ended-for-good : (ds : List Deed) {st st′ : Stream} → st .ended ≡ true → Did st ds st′ →
     (st′ ≡ st) × (handed-by ds ≡ []) × Refused25 st (answers-by ds)
 unfolding handed-by answers-by
@@ -116,11 +117,13 @@ ended-there (end o ∷ ds) {st} (then-end p q) h =
 
 -- ---- from a fresh start, with ends anywhere
 module _ (ds : List Deed) {st : Stream} (p : Did fresh-stream ds st) where
-  -- What is handed out is the good records before the first bad one in the bytes that came before the first end.
+  -- From a fresh start, with ends anywhere, what is handed out is the good records before the first bad one in the bytes that were joined
+  -- before the first end, or in all where there is none.
   pub calls-hand-out : handed-by ds ≡ entries-read (joined (before-the-end ds))
   calls-hand-out = let x = parted ds p in x .handed ∙ hands-out (x .took)
 
-  -- If an end is among the calls, the final refusal is the reader's on those bytes, whatever calls follow that end.
+  -- If an end is among the calls, the final refusal with its place is the reader's on the bytes that were joined before the first end,
+  -- whatever calls follow that.
   pub calls-final-refusal : HasEnd ds → verdict-of (answers-by ds) ≡ read-verdict (joined (before-the-end ds))
   calls-final-refusal h =
       let x = ended-there ds p h in

@@ -20,7 +20,7 @@ use Rattle.stream_spec.proofs.OneTurn.{read, stands-for, one-turn}
 use Rattle.stream_spec.proofs.Outcomes.{no-more-than-bytes, comes-exactly}
 use Rattle.stream_spec.proofs.Told.{early-kept}
 
--- With a place for each byte, and within the limit, a delivery is not sent back.
+-- With a place for each byte, and within 4,294,967,295 bytes, a delivery is not sent back.
 pub not-sent-back : {st : Stream} {s : List ℕ} {l l′ : Lists} {o : Streamed} → TookDelivery st s l o l′ → length s ≤ size l →
     st .taken + length s ≤ 4294967295 → sent-back (o .number) ≡ false
 not-sent-back {st} {s} {l} p room short = by-row (comes-exactly .0 p)
@@ -50,12 +50,14 @@ all-kept w (t ∷ ts) {st} e (and-then p q) r h =
     (all-kept (w ++ t .bytes) ts (turn .stream ∙ ap (λ (x : List ℕ). stands-for (w ++ x)) same) q (r .1) (omega arith))
 
 module _ {ts : List Turn} {st : Stream} (p : Took fresh-stream ts st) (roomy : Roomy ts) (short : length (delivered ts) ≤ 4294967295) where
-  -- All that was delivered is joined.
+  -- Where each list has a place for each byte that came with it, and all bytes are at most 4,294,967,295, nothing is sent back, so that the
+  -- joined bytes are all that were delivered.
   pub all-joined : joined ts ≡ delivered ts
   unfolding feeds
   all-joined = all-kept [] ts refl p roomy (omega arith)
 
-  -- However the bytes are cut, what comes off the line is what they hold.
+  -- With a place for each byte, and at most 4,294,967,295 bytes, all that was delivered, however it is cut, is good records, those that
+  -- were handed out, and then nothing, or a bad one with the final refusal at its place.
   pub however-cut : {e : Streamed} → e ≡ end-answer st → Holds (delivered ts) (handed-out ts) (verdict-of (answers-of ts ++ (e ∷ [])))
   however-cut {e} q =
       subst (λ (s : List ℕ). Holds s (handed-out ts) (verdict-of (answers-of ts ++ (e ∷ [])))) all-joined (off-the-line p q)

@@ -21,6 +21,8 @@ use Rattle.stream_spec.proofs.TheEnd.{end-tells}
 use Rattle.stream_spec.proofs.Told.{verdict, or-else}
 
 -- ---- deliveries one after another, behind the bytes w
+
+-- what deliveries one after another, behind the bytes w, come to
 pub record Follows (w : List ℕ) (ts : List Turn) (st′ : Stream) : Type 0 where
   pub stream : st′ ≡ stands-for (w ++ joined ts)
   pub entries : entries-read (w ++ joined ts) ≡ entries-read w ++ handed-out ts
@@ -75,16 +77,18 @@ module _ {ts : List Turn} {st : Stream} (p : Took fresh-stream ts st) where
   unfolding feeds
   off = follows [] ts refl p
 
-  -- The stream stands for the joined bytes.
+  -- From a fresh start, the stream is the one that stands for the joined bytes.
   pub stands : st ≡ stands-for (joined ts)
   stands = off .stream
 
-  -- The accesses handed out are the good records before the first bad one.
+  -- From a fresh start, what was handed out is the entries that the reader of request (ii) finds in the joined bytes: the good records
+  -- before the first bad one.
   pub hands-out : handed-out ts ≡ entries-read (joined ts)
   unfolding feeds
   hands-out = sym (off .entries)
 
-  -- The final refusal is the reader's, with its place in the whole stream.
+  -- From a fresh start to an end, the final refusal with its place in the whole stream is that of the reader of request (ii) on the joined
+  -- bytes.
   pub final-refusal : {e : Streamed} → e ≡ end-answer st → verdict-of (answers-of ts ++ (e ∷ [])) ≡ read-verdict (joined ts)
   unfolding feeds
   final-refusal q =
@@ -100,7 +104,8 @@ module _ {ts : List Turn} {st : Stream} (p : Took fresh-stream ts st) where
       off .refusal [] ∙
       nothing-later (read (joined ts) .refusal) (read (joined ts) .from)
 
--- Deliveries that join to the same bytes come to the same, however they are cut.
+-- Two ways to deliver the same bytes from a fresh start hand out the same, leave the same stream and end with the same refusal at the same
+-- place.
 pub cuts-agree : {ts ts′ : List Turn} {st st′ : Stream} → Took fresh-stream ts st → Took fresh-stream ts′ st′ → joined ts ≡ joined ts′ →
     (handed-out ts ≡ handed-out ts′) × (st ≡ st′)
     × (verdict-of (answers-of ts ++ (end-answer st ∷ [])) ≡ verdict-of (answers-of ts′ ++ (end-answer st′ ∷ [])))

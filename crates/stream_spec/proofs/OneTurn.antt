@@ -31,7 +31,7 @@ stands-for w = standing (read w)
 abbrev pub so-far : List ℕ → Verdict
 so-far w = verdict (read w .refusal) (read w .from)
 
--- the bytes w, and then those of a delivery that answered o and left the lists l′
+-- the bytes w, and then those of a delivery that answered o and left the lists l′: the stream, the entries, the refusal
 pub record OneTurn (w s : List ℕ) (o : Streamed) (l′ : Lists) : Type 0 where
   pub stream : o .stream ≡ stands-for (w ++ kept o s)
   pub entries : entries-read (w ++ kept o s) ≡ entries-read w ++ handed o l′
@@ -83,7 +83,9 @@ module _ (w s : List ℕ) where
             ap (λ (r : Reading). or-else (verdict (r .refusal) (r .from)) (verdict-of later)) (sym more);
       }
 
-  -- Whatever the delivery came to.
+  -- Whatever a delivery to the stream that stands for the bytes w comes to, the stream then stands for w with the delivery's bytes, unless
+  -- they are sent back; what is handed out is what the reader finds more in them; and the first refusal of a record is that of the first
+  -- bad one in them.
   pub one-turn : {l l′ : Lists} {o : Streamed} → Came (stands-for w) s l o l′ → OneTurn w s o l′
   one-turn (ended-before z) = unread (bad-if-ended (read w) z)
   one-turn (too-long z h) = back refl refl

@@ -35,13 +35,13 @@ not-refused r (inr h) e =
     let n = sym (ends-bad r (λ z. omega (arith, h .0, z))) ∙ e in
     absurd (omega (arith, h .0, n))
 
--- One that is not refused before its end is refused with 20 there, if at all.
+-- A string that is not refused before its end is refused with 20 there, if at all.
 pub cut-at-end : (r : Reading) (n : ℕ) → r .refusal ≡ 0 → ended r ≡ n → n ≢ 0 → n ≡ 20
 cut-at-end r n z e d =
     let c = sym (ends-good r z) ∙ e in
     ⊎-elim (λ q. absurd (d (sym c ∙ q))) (λ q. sym c ∙ q) (zero-or-20 (r .part))
 
--- good records, and what there is of the next one
+-- good records t, those of the entries es, and u, what there is of the next one, are read
 pub record ReadTo (t u : List ℕ) (es : List Entry) (r : Reading) : Type 0 where
   pub got : r .got ≡ es
   pub from : r .from ≡ length t
@@ -51,7 +51,7 @@ pub record ReadTo (t u : List ℕ) (es : List Entry) (r : Reading) : Type 0 wher
 all-read : (s : List ℕ) → read s .refusal ≡ 0 → read s .next ≡ length s
 all-read s z = goes-further start s .all z ∙ zero-add (length s)
 
--- All of them are read, and none is refused.
+-- Good records, and what there is of the next one, are read to their end, and nothing is refused.
 pub reads-to : (t u : List ℕ) (es : List Entry) → Sound t es → Begun u → ReadTo t u es (read (t ++ u))
 reads-to t _ es q plain.Begun.between =
     let e : read (t ++ []) ≡ between es (length t) = ap read (append-nil t) ∙ reads-sound t es q in
@@ -98,7 +98,7 @@ opened t u es q b =
       goes-on = open-if-good (read (t ++ u)) (x .refusal);
     }
 
--- Every stream that stands for some bytes and goes on is such a one.
+-- Every stream that stands for some bytes and goes on has read good records, and what there is of the next one.
 pub opens : (s : List ℕ) → read s .refusal ≡ 0 → (t : List ℕ) × (u : List ℕ) × (s ≡ t ++ u) × OpenAt t u (stands-for s)
 opens s z = by-parts (divided s)
   where

@@ -24,9 +24,12 @@ not-none n h = ne-eqb n 0 (λ z. omega arith)
 module _ (st : Stream) (s : List ℕ) where
   -- ---- what is told of a delivery that is looked through
 
+  -- A delivery that is looked through and has no bad record is answered with 0 and the count of its good ones, and the stream goes on.
   pub told-good : heard st s .refusal ≡ 0 → answered (heard st s) ≡ answer 0 (length (heard st s .got)) 0 (stream-after st s false)
   told-good z = ap (λ (k : ℕ). answered-as k (heard st s)) z
 
+  -- A delivery that has a bad record is answered with its refusal, the count of the good ones before it and the place where it begins, and
+  -- the stream has ended.
   pub told-bad : {n : ℕ} → heard st s .refusal ≡ n → 21 ≤ n →
       answered (heard st s) ≡ answer n (length (heard st s .got)) (heard st s .from) (stream-after st s true)
   told-bad {n} e h = rw (e, not-none n h)
@@ -84,7 +87,8 @@ module _ (st : Stream) (s : List ℕ) where
         (less-or-not 4294967295 (st .taken + length s)))
         (either-way (st .ended))
 
--- A delivery comes to what its row says, and to nothing else.
+-- Of any stream, also one that no calls come to, the outcome of a delivery is this answer, with this stream, and these lists exactly if
+-- their row of `Came` holds.
 pub comes-exactly : {st : Stream} {s : List ℕ} {l l′ : Lists} {o : Streamed} → TookDelivery st s l o l′ ↔ Came st s l o l′
 comes-exactly {st} {s} {l} {l′} {o} = (
   λ p.
@@ -94,6 +98,6 @@ comes-exactly {st} {s} {l} {l′} {o} = (
   row-holds st s l,
 )
 
--- It finishes no more records than it has bytes.
+-- A delivery finishes no more records than it has bytes.
 pub no-more-than-bytes : (st : Stream) (s : List ℕ) → length (heard st s .got) ≤ length s
 no-more-than-bytes st s = omega (arith, goes-further (resumed st) s .few)

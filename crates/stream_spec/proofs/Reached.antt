@@ -101,17 +101,18 @@ reached-if-stands : {st : Stream} → StandsForBytes st → Reached st
 reached-if-stands (as-read s b h) = reaches s b h
 reached-if-stands (and-ended s b h) = subst Reached (ends-closed (stands-for s)) (by-end (stands-for s) (reaches s b h))
 
--- Calls come from a fresh start exactly to the streams that stand for some bytes.
+-- Calls come from a fresh start exactly to the streams that stand for some bytes, at most 4,294,967,295, as they are read or ended there.
 pub reached-exactly : (st : Stream) → Reached st ↔ StandsForBytes st
 reached-exactly st = (stands-if-reached, reached-if-stands)
 
--- So the end of whatever some bytes come to is reached.
+-- Calls come to the stream that has read some bytes, at most 4,294,967,295, and was then ended.
 pub reached-ended : (s : List ℕ) → AreBytes s → length s ≤ 4294967295 → Reached (closed (stands-for s))
 reached-ended s b h = reached-exactly (closed (stands-for s)) .1 (and-ended s b h)
 
 -- ---- the open ones
 
--- Calls come from a fresh start to an open stream exactly if it has read good records, and what there is of the next one.
+-- Calls come from a fresh start to an open stream exactly if it has read good records t, and u, what there is of the next one, together at
+-- most 4,294,967,295 bytes (`OpenAt`): `from` is the length of t, `taken` that of both.
 pub reached-open : (st : Stream) → Reached st × (st .ended ≡ false) ↔
     ((t : List ℕ) × (u : List ℕ) × AreBytes (t ++ u) × (length (t ++ u) ≤ 4294967295) × OpenAt t u st)
 reached-open st = (λ r. by-stand (reached-exactly st .0 (r .0)) (r .1), λ x. back (x .0) (x .1) (x .2) (x .3) (x .4))

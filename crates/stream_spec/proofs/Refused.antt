@@ -20,7 +20,7 @@ use Rattle.stream_spec.proofs.One.{one-delivery}
 use Rattle.stream_spec.proofs.Outcomes.{no-more-than-bytes, comes-exactly}
 
 module _ {st : Stream} {s : List ℕ} {l l′ : Lists} {o : Streamed} (p : TookDelivery st s l o l′) where
-  -- Under 24, 25 and 26 stream and lists stay as they stood, and the answer has zeros.
+  -- Under 24, 25 and 26 the stream and every place of the lists stay, and count and place are 0.
   pub refused-leaves : 24 ≤ o .number → (o ≡ answer (o .number) 0 0 st) × (l′ ≡ l)
   refused-leaves = by-row (comes-exactly .0 p)
     where
@@ -31,13 +31,13 @@ module _ {st : Stream} {s : List ℕ} {l l′ : Lists} {o : Streamed} (p : TookD
       by-row (taken-in z k m e) h = absurd (omega arith)
       by-row (then-bad z k m e i j) h = absurd (omega arith)
 
-  -- So whatever is delivered next comes to what it would have come to at first.
+  -- After 24, 25 or 26 whatever is delivered next comes to what it would have come to at first.
   pub sent-again : 24 ≤ o .number → {t : List ℕ} {k k′ : Lists} {a : Streamed} → TookDelivery (o .stream) t k a k′ →
       TookDelivery st t k a k′
   sent-again h {t} {k} {k′} {a} q = subst (λ (x : Stream). TookDelivery x t k a k′) (ap (λ (x : Streamed). x .stream) (refused-leaves h .0))
       q
 
-  -- The number is 0, 21, 22, 23, 24, 25 or 26: never 20.
+  -- A delivery answers 0 or 21 to 26, and never 20.
   pub delivery-numbers : (o .number ≡ 0) ⊎ ((21 ≤ o .number) × (o .number ≤ 26))
   delivery-numbers = by-row (comes-exactly .0 p)
     where
@@ -48,7 +48,7 @@ module _ {st : Stream} {s : List ℕ} {l l′ : Lists} {o : Streamed} (p : TookD
       by-row (taken-in z k m e) = inl refl
       by-row (then-bad z k m e i j) = inr (i, omega arith)
 
-  -- Whatever it comes to, the places behind the entries that were handed out stay.
+  -- Whatever a delivery comes to, the places behind the entries that were handed out stay.
   pub places-stay : later-places (o .count) l′ ≡ later-places (o .count) l
   places-stay = by-row (comes-exactly .0 p)
     where
@@ -59,7 +59,7 @@ module _ {st : Stream} {s : List ℕ} {l l′ : Lists} {o : Streamed} (p : TookD
       by-row (taken-in z k m e) = later-stay (heard st s .got) l
       by-row (then-bad z k m e i j) = later-stay (heard st s .got) l
 
-  -- What is handed out fits the lists, and they are as long as they were.
+  -- What is handed out fits the lists, and these are as long as they were.
   pub count-fits : (o .count ≤ size l) × SameLengths l l′
   count-fits = by-row (comes-exactly .0 p)
     where
@@ -73,7 +73,7 @@ module _ {st : Stream} {s : List ℕ} {l l′ : Lists} {o : Streamed} (p : TookD
       by-row (taken-in z k m e) = (m, lengths-stay (heard st s .got) l m)
       by-row (then-bad z k m e i j) = (m, lengths-stay (heard st s .got) l m)
 
-  -- A delivery is refused with 26 exactly if the stream goes on and would pass its limit,
+  -- A delivery is refused with 26 exactly if the stream goes on and would pass 4,294,967,295 bytes.
   pub refused-26 : o .number ≡ 26 ↔ (st .ended ≡ false) × (4294967295 < st .taken + length s)
   refused-26 = (
     by-row (comes-exactly .0 p),
@@ -87,7 +87,8 @@ module _ {st : Stream} {s : List ℕ} {l l′ : Lists} {o : Streamed} (p : TookD
       by-row (taken-in z k m e) h = absurd (omega arith)
       by-row (then-bad z k m e i j) h = absurd (omega arith)
 
-  -- and with 24 exactly if it goes on within it, and the good records that are finished do not fit.
+  -- A delivery is refused with 24 exactly if the stream goes on, within 4,294,967,295 bytes, and the good records that are finished do not
+  -- fit the lists.
   pub refused-24 : o .number ≡ 24 ↔
       (st .ended ≡ false) × (st .taken + length s ≤ 4294967295) × (size l < length (heard st s .got))
   refused-24 = (
@@ -103,7 +104,7 @@ module _ {st : Stream} {s : List ℕ} {l l′ : Lists} {o : Streamed} (p : TookD
       by-row (taken-in z k m e) h = absurd (omega arith)
       by-row (then-bad z k m e i j) h = absurd (omega arith)
 
--- An empty delivery to a stream that goes on changes nothing.
+-- An empty delivery to a stream that goes on, within its limit, is answered with 0, and changes nothing.
 pub empty-delivery : {st : Stream} {l l′ : Lists} {o : Streamed} → st .ended ≡ false → st .taken ≤ 4294967295 → TookDelivery st [] l o l′ →
     (o ≡ answer 0 0 0 st) × (l′ ≡ l)
 unfolding feeds
@@ -121,7 +122,7 @@ now-taken {st} {s} z short room (too-small t h m) = absurd (omega (arith, no-mor
 now-taken z short room (taken-in t h m e) = omega arith
 now-taken z short room (then-bad t h m e i j) = j
 
--- Lists with a place for each byte are always large enough.
+-- After 24 the same bytes, with lists that have a place for each byte, are taken: not refused with 24, 25 or 26.
 pub larger-lists : {st : Stream} {s : List ℕ} {l l′ k k′ : Lists} {o a : Streamed} → TookDelivery st s l o l′ → o .number ≡ 24 →
     TookDelivery (o .stream) s k a k′ → length s ≤ size k → a .number ≤ 23
 larger-lists p h q room =

@@ -28,7 +28,7 @@ zero-or-20 (Head n) = begun-or-not (n .begun)
 zero-or-20 (Word h n) = inr refl
 
 module _ (st : Stream) where
-  -- By whether the stream has ended already.
+  -- The end answers 25 if the stream has ended already, and else what the part says at which it stands.
   pub ends-by : {b : Bool} → st .ended ≡ b → end-answer st ≡ cond b (streamed 25 0 0 st) (end-answered st)
   unfolding end-answer
   ends-by z = ap (λ (t : Bool). cond t (streamed 25 0 0 st) (end-answered st)) z
@@ -48,13 +48,13 @@ module _ (st : Stream) where
       (λ z. ⊎-elim (λ e. (_, nothing-missing z e)) (λ e. (_, number-missing z e)) (zero-or-20 (st .part)))
       (either-way (st .ended))
 
-  -- The end comes to what its row says, and to nothing else.
+  -- Of any stream, also one that no calls come to, the end answers this, with this stream, exactly if its row of `EndCame` holds.
   pub ends-exactly : {o : Streamed} → o ≡ end-answer st ↔ EndCame st o
   ends-exactly {o} =
       let x = some-row in
       (λ e. subst (EndCame st) (sym (row-holds (x .1)) ∙ sym e) (x .1), λ c. sym (row-holds c))
 
-  -- Its number is 0, 20 or 25.
+  -- The end answers 0, 20 or 25.
   pub end-numbers : {o : Streamed} → o ≡ end-answer st → (o .number ≡ 0) ⊎ ((o .number ≡ 20) ⊎ (o .number ≡ 25))
   end-numbers e = by-row (ends-exactly .0 e)
     where

@@ -16,18 +16,18 @@ use Rattle.stream_spec.specs.Stream.{place-of, answered}
 use Rattle.stream_spec.specs.declared.Stream.{Stream}
 use Rattle.stream_spec.specs.declared.Streamed.{Streamed}
 
--- Nothing is handed out where nothing is counted,
+-- Nothing is handed out where nothing is counted.
 pub handed-none : (n place : ℕ) (st : Stream) (l : Lists) → handed (answer n 0 place st) l ≡ []
 unfolding entries-from
 handed-none n place st l = refl
 
--- and all entries that are counted stand in the lists.
+-- All entries that are counted stand in the lists, and are handed out.
 pub handed-all : (r : Reading) (l : Lists) → handed (answered r) (with-entries (r .got) l) ≡ r .got
 handed-all r l = ap entries-in (first-are-columns (r .got) l) ∙ entries-columns (r .got)
 
 -- ---- a reading's refusal, which is none, or 21, 22 or 23
 
--- it is not sent back
+-- A delivery that is refused with 21, 22 or 23, or not at all, is not sent back.
 pub early-kept : (n : ℕ) → EarlyRefusal n → sent-back n ≡ false
 early-kept n (inl z) = ap sent-back z
 early-kept n (inr h) = rw (ne-eqb n 24 (λ q. omega (arith, h .1)), ne-eqb n 26 (λ q. omega (arith, h .1)))
@@ -39,7 +39,7 @@ verdict n from = record { number = n; place = place-of n from }
 abbrev pub or-else : Verdict → Verdict → Verdict
 or-else v later = cond (eqb (v .number) 0) later v
 
--- it is the verdict, unless it is none
+-- The refusal of a bad record, with its place, is the verdict; where there is none, that of the later answers is.
 pub early-verdict : (r : Reading) → EarlyRefusal (r .refusal) → (later : List Streamed) →
     verdict-of (answered r ∷ later) ≡ or-else (verdict (r .refusal) (r .from)) (verdict-of later)
 unfolding verdict-of

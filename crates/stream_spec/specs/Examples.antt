@@ -1,8 +1,8 @@
 -- Worked examples of streams, worked out by hand from document 02, requests (ii) and (vii): the calls, what each answers, and what it
 -- leaves.
 --   entry k r l w       an entry; spare, what lies in the lists before a call
---   Told                what is told of a call: number, count, place, and of the stream afterwards where its record begins, how many bytes are
---                       read, and whether it has ended; told n c p f t b is that by its parts, said o that of an answer
+--   Told                what is told of a call: number, count, place, and of the stream afterwards where its record begins, how many bytes
+--                       are read, and whether it has ended; told n c p f t b is that by its parts, said o that of an answer
 --   Call                delivers s es o es′: the bytes s come with lists that hold es; o is told, and the lists hold es′
 --                       ends o: the sender says that nothing follows, and o is told
 --   Row                 calls one after another, from a stream on; row st cs is that by its parts

@@ -55,7 +55,7 @@ streamed n count place st = record { number = n; count = count; place = place; s
 abbrev pub place-of : ℕ → ℕ → ℕ
 place-of n from = cond (eqb n 0) 0 from
 
--- "after it .., more bytes are refused": a bad record ends the stream
+-- "after it .., more bytes are refused": a bad record ends the stream, and the bytes behind the one that shows it are not counted (ours)
 abbrev pub standing-as : ℕ → Reading → Stream
 standing-as n r = record { part = r .part; from = r .from; taken = r .next; ended = not (eqb n 0) }
 

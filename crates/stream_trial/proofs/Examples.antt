@@ -24,6 +24,7 @@ own-places = counting 0 36
 abbrev apart : Lists
 apart = lists (counting 10 6) (counting 20 6) (counting 30 6) (counting 40 6)
 
+-- what records say, and what they deliver and lend
 pub record Says : Type 0 where
   -- "what is done, modulo 3: 0 a fresh start, 1 a delivery, 2 the end"
   pub started : (is-start own-places ≡ true) × (is-start (255 ∷ []) ≡ true) × (delivers (255 ∷ []) ≡ false)
@@ -47,7 +48,8 @@ pub record Says : Type 0 where
       lists (1 ∷ 1 ∷ 12 ∷ 13 ∷ 14 ∷ 15 ∷ []) (2 ∷ 2 ∷ 2 ∷ 23 ∷ 24 ∷ 25 ∷ []) (3 ∷ 3 ∷ 3 ∷ 3 ∷ 34 ∷ 35 ∷ [])
       (4 ∷ 4 ∷ 4 ∷ 4 ∷ 4 ∷ 45 ∷ [])
 
--- They say so.
+-- Byte 0 says, modulo 3, which call is made; the number is read from byte 8 on, low byte first; as many bytes are delivered and places lent
+-- as the record says, or all where there are fewer; and what is lent comes back at its places.
 pub they-say : Says
 they-say =
     record {
@@ -80,6 +82,7 @@ behind = 0xEEEEEEEE ∷ 0xEEEEEEEE ∷ 0xEEEEEEEE ∷ 0xEEEEEEEE ∷ 0xEEEEEEEE 
 abbrev with-first : ℕ → ℕ → ℕ → ℕ → Lists
 with-first k r l w = lists (k ∷ behind) (r ∷ behind) (l ∷ behind) (w ∷ behind)
 
+-- what the records of a short script leave, carried out one after the other
 pub record Leaves : Type 0 where
   -- a fresh start, as if five bytes had come, of a fresh stream and of one that has ended
   pub begins : CarriedOut fresh-stream (asking 0 0 0 0 0 0 []) blank (streamed 0 0 0 (started-at 5)) blank
@@ -95,7 +98,8 @@ pub record Leaves : Type 0 where
   pub ends : CarriedOut (started-at 9) (asking 2 1 6 6 6 6 (0x1E ∷ [])) blank (streamed 0 0 0 (closed (started-at 9))) blank
   pub ends-half-way : CarriedOut half-way (asking 5 1 6 6 6 6 (0x34 ∷ [])) blank (streamed 20 0 6 (closed half-way)) blank
 
--- They leave so.
+-- By computation: fresh starts, a record in two deliveries, of which the second is first refused with 24, and the end, between two records
+-- and within one.
 pub they-leave : Leaves
 unfolding
     answer-from lists-from delivered-answer delivered-lists barred delivery-answer lists-after end-answer with-group head-read word-read

@@ -16,11 +16,11 @@ use Rattle.stream_trial.specs.CarriedOut.{delivered-answer, delivered-li
 
 -- ---- a delivery
 
--- What code delivers of the string: from byte 12 on, m bytes.
+-- What code delivers of the string, m bytes from byte 12 on, is what the record says.
 pub delivers-string : (b : List ℕ) {m : ℕ} → m ≡ min (byte b 1) 24 → take (12 + m - 12) (drop 12 b) ≡ string-lent b
 delivers-string b {m} e = let f : 12 + m - 12 ≡ min (byte b 1) 24 = omega arith in ap (λ (n : ℕ). take n (drop 12 b)) f
 
--- There are so many places in a lent part.
+-- A lent part has as many places as are lent.
 pub places-counted : (b : ℕ) {k : ℕ} (l : List ℕ) → k ≡ min b (length l) → k ≡ length (take k l)
 places-counted b {k} l e = simp length-take (omega arith)
 

@@ -9,8 +9,8 @@
 //   byte 1            of a delivery: how many of the string's bytes are delivered; above 24 it counts as 24
 //   bytes 2 to 5      of a delivery: how many places of the lists of kinds, registers, lanes and words are lent; above 6 each counts as 6
 //   bytes 6, 7        play no part
-//   bytes 8 to 11     of a fresh start: how many bytes the stream had already, of whole good records (32 bits, low byte first; 0 is the true
-//                     fresh start): `from` and `taken` begin with that number
+//   bytes 8 to 11     of a fresh start: how many bytes the stream had already, of whole good records (32 bits, low byte first; 0 is the
+//                     true fresh start): `from` and `taken` begin with that number
 //   bytes 12 to 35    the string, 24 bytes
 //
 // Before the first record the stream is freshly started. Before each record every place of the four lists, six places each, holds

@@ -102,8 +102,9 @@ module _ (first last strokes : ℕ) (order : first ≤ last) (tick : last < 6553
     not-after k inside =
         subst (λ (x : Float). T (le (even-time first last strokes k) x)) ends (never-falls k (strokes - 1) (omega arith) (omega arith))
 
-    -- The even-tempo times keep all of the sheet's promise, for any number of strokes that a word counts and any two ticks in order,
-    -- which for a single stroke are one.
+    -- For any number of strokes that a word counts and any two ticks in order, which for a single stroke are one: the time equals the first
+    -- tick at the first stroke and the last tick at the last, exactly, never lies before the first or after the last, and never before that
+    -- of an earlier stroke.
     pub even-tempo : EvenTempo first last strokes (even-time first last strokes)
     even-tempo =
         record { starts = starts; ends = ends; not-before = not-before; not-after = not-after; never-falls = never-falls }

@@ -10,12 +10,12 @@ pub half-way : even-time 7 8 3 1 ≡ fin false 15 (negsuc 0)
 unfolding even-time add mul div ofInt
 half-way = refl
 
--- Stroke 5 of seven from tick 1 to tick 2 comes at 1 + 5 / 6, the quotient and the sum each rounded,
+-- Stroke 5 of seven from tick 1 to tick 2 comes at 1 + 5 / 6, the quotient and the sum each rounded.
 pub each-rounded : even-time 1 2 7 5 ≡ fin false 4128299658422955 (negsuc 50)
 unfolding even-time add mul div ofInt
 each-rounded = refl
 
--- which is not 11 / 6 rounded at the end alone: that is the double before it.
+-- 11 / 6 rounded once, at the end, is another double, the one before it.
 pub rounded-at-the-end : round binary64 false 11 6 ≡ fin false 8256599316845909 (negsuc 51)
 unfolding round
 rounded-at-the-end = refl

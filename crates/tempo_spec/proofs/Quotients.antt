@@ -26,21 +26,21 @@ module _ (span gaps : ℕ) (tick : span < 65536) (count : gaps < 65536) (above :
     within-span : span * k ≤ span * gaps
     within-span = mul-le-mul-left span inside
 
-    -- The quotient is the fraction itself, rounded once.
+    -- Span times k over gaps, which are the strokes less one, is that fraction, rounded once.
     pub quotient-rounded : quotient span k gaps ≡ rounded span k gaps
     quotient-rounded =
         div-rounded binary64 (mul binary64 (double span) (double k)) (double gaps) (span * k) 1 gaps 1 (zero-lt-suc 0) (zero-lt-suc 0)
         (product-whole span k tick (lt-of-le-of-lt inside count)) (tick-whole gaps count) above
         ∙ rw (mul-one (span * k), mul-one gaps)
 
-    -- Where it comes out even, it is the double of that whole number.
+    -- Where it comes out even, the quotient is the double of that whole number.
     pub quotient-even : (q : ℕ) → span * k ≡ q * gaps → quotient span k gaps ≡ double q
     quotient-even q e =
         quotient-rounded
         ∙ round-same binary64 false (span * k) gaps q 1 above (zero-lt-suc 0) (mul-one (span * k) ∙ e)
         ∙ sym (double-rounded q)
 
-    -- And that number is at most the span.
+    -- A quotient that comes out even is at most the span.
     pub even-within : (q : ℕ) → span * k ≡ q * gaps → q ≤ span
     even-within q e = le-of-mul-le-mul-right (rw e at within-span) above
 

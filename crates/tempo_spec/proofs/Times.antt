@@ -47,7 +47,7 @@ module _ (first last strokes : ℕ) where
       → getD (even-times first last strokes n ++ drop n l) k d ≡ even-time first last strokes k
   filled-place n k l d h = in-front n k (drop n l) d h ∙ time-at n k d h
 
-  -- Later places stay.
+  -- The later places of such a list stay.
   pub later-stays : (n k : ℕ) (l : List Float) (d : Float) → n ≤ k → getD (even-times first last strokes n ++ drop n l) k d ≡ getD l k d
   later-stays n k l d h =
       let times = even-times first last strokes n in
@@ -71,16 +71,16 @@ module _ (first last strokes : ℕ) where
 
   -- ---- the list that takes the times of all strokes
 
-  -- Place k of it has the time of stroke k.
+  -- Place k of the list that takes the times of all strokes has the time of stroke k.
   pub struck-place : (k : ℕ) (l : List Float) (d : Float) → k < strokes
       → getD (with-times first last strokes l) k d ≡ even-time first last strokes k
   struck-place k l d h = filled-place strokes k l d h
 
-  -- Its later places are those of the list.
+  -- The later places of that list stay.
   pub rest-stays : (k : ℕ) (l : List Float) (d : Float) → strokes ≤ k → getD (with-times first last strokes l) k d ≡ getD l k d
   rest-stays k l d h = later-stays strokes k l d h
 
-  -- It has as many places as the list, if that has one for each stroke.
+  -- That list has as many places as before, if there was one for each stroke.
   pub struck-length : (l : List Float) → strokes ≤ length l → length (with-times first last strokes l) ≡ length l
   struck-length l h =
       length-append (even-times first last strokes strokes) (drop strokes l)

@@ -37,17 +37,17 @@ pub tick-whole : (n : ℕ) → n < 65536 → Exactly (double n) n
 tick-whole n h = double-whole n (le-trans (le-of-lt h) (lit≤ tt))
 
 module _ (a b : ℕ) (h : a < 65536) (k : b < 65536) where
-  -- The product of two such doubles is the double of the numbers' product.
+  -- The product of the doubles of two numbers of sixteen bits is the double of the numbers' product.
   pub product-exact : mul binary64 (double a) (double b) ≡ double (a * b)
   product-exact =
       mul-rounded binary64 (double a) (double b) a 1 b 1 (zero-lt-suc 0) (zero-lt-suc 0) (tick-whole a h) (tick-whole b k)
       ∙ sym (double-rounded (a * b))
 
-  -- And it is that product exactly: nothing is rounded away.
+  -- That product is exactly the numbers' product: nothing is rounded away.
   pub product-whole : Exactly (mul binary64 (double a) (double b)) (a * b)
   product-whole = rw product-exact (double-whole (a * b) (le-trans (mul-le-mul (le-of-lt h) (le-of-lt k)) (lit≤ tt)))
 
-  -- The sum of two such doubles is the double of the numbers' sum.
+  -- The sum of the doubles of two numbers of sixteen bits is the double of the numbers' sum.
   pub sum-exact : add binary64 (double a) (double b) ≡ double (a + b)
   sum-exact =
       add-rounded binary64 (double a) (double b) a 1 b 1 (zero-lt-suc 0) (zero-lt-suc 0) (tick-whole a h) (tick-whole b k)

@@ -27,47 +27,49 @@ abbrev pub said : ℕ → ℕ → JudgedEntry
 said number size = record { number = number; size = size }
 
 module _ (e : Entry) {number : ℕ} (is : number ≡ entry-refusal e) where
-  -- It is refused: its record has no bytes.
+  -- Of an entry that is refused, its number and no bytes are what is said.
   pub said-refused : number ≢ 0 → said number 0 ≡ judged-entry e
   unfolding judged-entry
   said-refused d = rw (ne-eqb (entry-refusal e) 0 (λ z. d (is ∙ z))) (ap (λ (n : ℕ). said n 0) is)
 
-  -- It is not: they are counted.
+  -- Of an entry that is not refused, 0 and the bytes of its record are what is said.
   pub said-good : number ≡ 0 → {size : ℕ} → size ≡ length (record-of e) → said number size ≡ judged-entry e
   unfolding judged-entry
   said-good z {size} long =
       rw (eq-eqb (entry-refusal e) 0 (sym is ∙ z)) (ap (λ (n : ℕ). said n size) is ∙ ap (said (entry-refusal e)) long)
 
 module _ (e : Entry) {o : JudgedEntry} (is : o ≡ judged-entry e) where
-  -- Its number is the entry's refusal.
+  -- The number that is said of an entry is its refusal, or 0.
   pub number-said : o .number ≡ entry-refusal e
   unfolding judged-entry
   number-said = ap (λ (x : JudgedEntry). x .number) is
 
-  -- With number 0 its size is that of the record.
+  -- The size that is said with number 0 is that of the entry's record.
   pub size-said : o .number ≡ 0 → o .size ≡ length (record-of e)
   unfolding judged-entry
   size-said z = ap (λ (x : JudgedEntry). x .size) is ∙ rw (eq-eqb (entry-refusal e) 0 (sym number-said ∙ z)) refl
 
 -- ---- one entry of a list
 module _ (k wanted : ℕ) (e : Entry) (rest : List Entry) where
-  -- It is good: the others are judged.
+  -- A good entry has the others judged, with the bytes of its record counted.
   pub good-one : entry-refusal e ≡ 0 → judged k wanted (e ∷ rest) ≡ judged (suc k) (wanted + length (record-of e)) rest
   unfolding judged
   good-one z = rw (eq-eqb (entry-refusal e) 0 z)
 
-  -- It is bad: that is found.
+  -- A bad entry is what is found, with its number and its index.
   pub bad-one : entry-refusal e ≢ 0 → judged k wanted (e ∷ rest) ≡ found (entry-refusal e) k wanted
   unfolding judged
   bad-one d = rw (ne-eqb (entry-refusal e) 0 d)
 
 -- ---- a whole list
--- None is bad: their records are counted to the last, and the writer answers what it does where none is bad.
+-- what is so of entries none of which is bad, the first of them with index k and behind so many bytes wanted
 pub record Passed (k wanted : ℕ) (es : List Entry) : Type 0 where
   pub good : AllGood es
   pub wants : judged k wanted es .wanted ≡ wanted + length (transcript-of es)
   pub answer : (a : Transcribed) → first-bad k es a ≡ a
 
+-- Where none is found to be bad, all entries are good, the bytes of their records are counted to the last, and the writer answers what it
+-- does where none is bad.
 pub passed : (k wanted : ℕ) (es : List Entry) → judged k wanted es .number ≡ 0 → Passed k wanted es
 unfolding judged transcript-of first-bad
 passed k wanted [] z = record { good = tt; wants = sym (add-zero wanted); answer = λ a. refl }
@@ -88,7 +90,7 @@ passed k wanted (e ∷ rest) z =
     (λ d. absurd (d (rw (bad-one k wanted e rest d) at z)))
     (same-or-not (entry-refusal e) 0)
 
--- One is bad: the answer names it.
+-- Where one is found to be bad, the writer's answer is its number and its index.
 pub barred : (k wanted : ℕ) (es : List Entry) → let o = judged k wanted es in o .number ≢ 0 →
     (a : Transcribed) → first-bad k es a ≡ refused (o .number) (o .place)
 unfolding judged first-bad

@@ -30,7 +30,8 @@ module _ {e : Entry} {o : JudgedEntry} (p : o ≡ judged-entry e) where
   some-entry : (a : JudgedEntry) × EntryAs e a
   some-entry = ⊎-elim (λ g. (_, plain.EntryAs.good g)) (λ b. (_, plain.EntryAs.bad (b .1))) (good-or-bad e)
 
-  -- It is said exactly if: the entry is good, and its record has so many bytes; or it is bad, with this number.
+  -- What is said of one entry is a exactly if a's row of `EntryAs` holds: the entry is good, and its record has so many bytes; or it is
+  -- bad, with this number.
   pub judge-exactly : (a : JudgedEntry) → o ≡ a ↔ EntryAs e a
   judge-exactly a = (
     λ q. subst (EntryAs e) (sym (entry-said (some-entry .0) (some-entry .1)) ∙ sym p ∙ q) (some-entry .1),
@@ -38,7 +39,7 @@ module _ {e : Entry} {o : JudgedEntry} (p : o ≡ judged-entry e) where
   )
 
 -- ---- the contracts themselves: each is a statement on the call's own arguments
--- `judge_bytes`: bytes, room.
+-- `judge_bytes` takes any bytes and room, and all that its contract allows is `read-answer` of them.
 pub judge-bytes-contract : Contract judge-bytes-kinds.ps judge-bytes-kinds.r judge-bytes.Pre judge-bytes.Post
     (λ κs args o left.
     let bytes = args .0 in
@@ -46,7 +47,7 @@ pub judge-bytes-contract : Contract judge-bytes-kinds.ps judge-bytes-kinds.r jud
     o ≡ read-answer (bytes .now) room)
 judge-bytes-contract = record { takes-any = λ κs args. tt; says = λ κs args o left p. p }
 
--- `read_transcript`: bytes, kinds, registers, lanes, words.
+-- `read_transcript` takes any bytes, kinds, registers, lanes and words, and all that its contract allows is `ReadTranscript` of them.
 pub read-transcript-contract : Contract read-transcript-kinds.ps read-transcript-kinds.r read-transcript.Pre read-transcript.Post
     (λ κs args o left.
     let bytes = args .0 in
@@ -62,14 +63,14 @@ pub read-transcript-contract : Contract read-transcript-kinds.ps read-transcript
     (lists (kinds′ .now) (registers′ .now) (lanes′ .now) (words′ .now)))
 read-transcript-contract = record { takes-any = λ κs args. tt; says = λ κs args o left p. p }
 
--- `judge_entry`: e.
+-- `judge_entry` takes any e, and all that its contract allows is `judged-entry` of it.
 pub judge-entry-contract : Contract judge-entry-kinds.ps judge-entry-kinds.r judge-entry.Pre judge-entry.Post
     (λ κs args r left.
     let e = args .0 in
     r ≡ judged-entry e)
 judge-entry-contract = record { takes-any = λ κs args. tt; says = λ κs args r left p. p }
 
--- `write_transcript`: kinds, registers, lanes, words, bytes.
+-- `write_transcript` takes any kinds, registers, lanes, words and bytes, and all that its contract allows is `WroteTranscript` of them.
 pub write-transcript-contract : Contract write-transcript-kinds.ps write-transcript-kinds.r write-transcript.Pre write-transcript.Post
     (λ κs args o left.
     let kinds = args .0 in

@@ -33,11 +33,11 @@ put-behind {o = o} {at = at} {e = e} {t = t} {u = u} x y =
           sets-behind o at t u;
     }
 
--- There are as many bytes as there were.
+-- Where a text is put, there are as many bytes as there were.
 pub put-length : {o o′ t : List ℕ} {at e : ℕ} → Put o at t e o′ → length o′ ≡ length o
 put-length {o = o} {t = t} {at = at} x = ap length (x .bytes) ∙ length-sets o at t
 
--- Any two outcomes of it are one.
+-- Any two outcomes of putting a text are one.
 pub one-put : {o o′ o″ t : List ℕ} {at e f : ℕ} → Put o at t e o′ → Put o at t f o″ → (e ≡ f) × (o′ ≡ o″)
 one-put x y = (one-value (x .end) (y .end), one-value (x .bytes) (y .bytes))
 

@@ -41,12 +41,12 @@ module _ (s : List ℕ) (l : Lists) {o : Transcribed} (right : o ≡ read-answer
   number-is : o .number ≡ read-answer s (size l) .number
   number-is = ap (λ (x : Transcribed). x .number) right
 
-  -- A refusal leaves the lists as they were.
+  -- With a refusal, the reader leaves the lists as they were.
   pub nothing-put : o .number ≢ 0 → ReadTranscript s l o l
   unfolding lists-after
   nothing-put h = record { answer = right; lists = rw (ne-eqb (read-answer s (size l) .number) 0 (λ z. h (number-is ∙ z))) }
 
-  -- Otherwise the entries are put into them, and all of them fit.
+  -- Without a refusal, the reader puts the entries into the lists' first places, and all of them fit.
   pub all-put : {l′ : Lists} → o .number ≡ 0 → l′ ≡ with-each l 0 (entries-read s) → ReadTranscript s l o l′
   unfolding lists-after
   all-put good e =

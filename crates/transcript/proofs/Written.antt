@@ -30,7 +30,7 @@ module _ (l : Lists) (out : List ℕ) {o : Judged} (e : o ≡ judged 0 0 (entrie
   number-is : o .number ≡ judged 0 0 (entries-in l) .number
   number-is = ap (λ (x : Judged). x .number) e
 
-  -- One entry is bad.
+  -- Where an entry is bad, the writer is refused with its number and index, and the bytes stay.
   pub bad-entry : o .number ≢ 0 → WroteTranscript l out (refused (o .number) (o .place)) out
   unfolding write-answer
   bad-entry d =
@@ -49,17 +49,18 @@ module _ (l : Lists) (out : List ℕ) {o : Judged} (e : o ≡ judged 0 0 (entrie
     unfolding write-answer
     answer-is = all .answer (accepted-if-fits (length text) (length out))
 
-    -- The records want more bytes than there are.
+    -- Where none is bad and the records want more bytes than there are, the writer is refused with 24, and the bytes stay.
     pub too-small : length out < o .wanted → WroteTranscript l out (refused 24 0) out
     too-small h =
         left-as-it-was l out 24 0 (λ z. omega (arith, z)) (sym (answer-is ∙ rw (lt-ltb (length out) (length text) (rw wanted-is at h))))
 
-    -- They fit: they can be written,
+    -- They fit.
     module _ (h : o .wanted ≤ length out) where
+      -- Where none is bad and the records fit, they can be written: all entries are good, and their transcript fits.
       pub can-write : Writable l (size l) out
       can-write = record { good = all .good; fits = omega (arith, wanted-is) }
 
-      -- and are.
+      -- Where none is bad, the records fit and their transcript is put into the first bytes, the writer is done.
       pub written : {out′ : List ℕ} → out′ ≡ over text out → WroteTranscript l out (accepted (o .wanted)) out′
       unfolding bytes-after
       written {out′} w =

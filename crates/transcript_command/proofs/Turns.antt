@@ -12,12 +12,15 @@ use Rattle.transcript_exchange.proofs.Promised.{bytes-fit, lines-fit}
 use Rattle.transcript_command.specs.Ways.{TurnedTo, lines-turned, bytes-turned}
 
 module _ {t : List ℕ} {l : Lists} {out : List ℕ} {o : Turned} {l′ : Lists} {out′ : List ℕ} where
+  -- Turning lines into bytes leaves what the way that is named so does.
   pub to-bytes : {b : Bool} → b ≡ true → ToBytes t l out o l′ out′ → TurnedTo b t l out o l′ out′
   to-bytes e x = rw e (lines-turned x)
 
+  -- Turning bytes into lines leaves what the other way does.
   pub to-lines : {b : Bool} → b ≡ false → ToLines t l out o l′ out′ → TurnedTo b t l out o l′ out′
   to-lines e x = rw e (bytes-turned x)
 
+  -- What is turned, either way, fits the output.
   pub turned-fits : {b : Bool} → TurnedTo b t l out o l′ out′ → {k : ℕ} → o ≡ Done k → k ≤ length out
   turned-fits (lines-turned x) e = bytes-fit x e
   turned-fits (bytes-turned x) e = lines-fit x e

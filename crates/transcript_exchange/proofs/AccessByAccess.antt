@@ -25,13 +25,14 @@ use Rattle.transcript_exchange.specs.Turning.{entries-written, done-if-f
 use Rattle.transcript_exchange.specs.declared.Turned.the-variants.{Refused}
 use Rattle.transcript_exchange.proofs.Entries.{all-good-more, transcript-more, all-written, bad-written}
 
--- So many lines are taken, of so many bytes; their accesses have records, of so many bytes together.
+-- so many lines are taken, of so many bytes; their accesses have records, of so many bytes together
 pub record Judged (t : List ℕ) (used count wanted : ℕ) : Type 0 where
   pub come : Come t used count
   pub good : AllGood (come .got)
   pub wants : wanted ≡ length (transcript-of (come .got))
   pub less : wanted ≤ used
 
+-- At first no line is taken, and no byte is wanted.
 pub judged-start : (t : List ℕ) → Judged t 0 0 0
 unfolding at-start transcript-of
 judged-start t = record { come = at-start t; good = tt; wants = refl; less = omega arith }
@@ -59,7 +60,7 @@ module _ {t : List ℕ} {used count wanted : ℕ} (k : Judged t used count wante
           ∙ append-snoc (k .come .got) (entry-of a) later
           ∙ ap (λ (y : Entry). k .come .got ++ (y ∷ later)) (sym is)
 
-      -- An access that has a record is counted.
+      -- The access of the next line, if it has a record, is counted, and so are its record's bytes.
       pub judged-next : entry-refusal e ≡ 0 → {size : ℕ} → size ≡ length (record-of e) → Judged t (used + n) (count + 1) (wanted + size)
       unfolding one-more
       judged-next z {size} s =
@@ -73,7 +74,7 @@ module _ {t : List ℕ} {used count wanted : ℕ} (k : Judged t used count wante
             less = omega (arith, k .less, s, short e g, long);
           }
 
-      -- One that has none is refused.
+      -- Where the access of the next line has no record, it is refused with its number and its index.
       pub judged-refused : {number : ℕ} → number ≡ entry-refusal e → number ≢ 0 → (room : ℕ) →
           Refused number count ≡ entries-written (taking t .entries) room
       judged-refused {number} h d room =
@@ -85,7 +86,7 @@ module _ {t : List ℕ} {used count wanted : ℕ} (k : Judged t used count wante
           ∙ sym (ap (λ (es : List Entry). entries-written es room) all-are ∙ bad-written (k .come .got) later e number room (k .good) bad))
           (good-or-bad e)
 
-    -- Where no good line follows, the records fit the output or do not.
+    -- Where no good line follows, the entries are turned if their records, of so many bytes, fit the output, and else are too many.
     pub judged-all : NotGood x → (room : ℕ) → done-if-fits wanted room ≡ entries-written (taking t .entries) room
     judged-all tag room =
         ap (λ (n : ℕ). done-if-fits n room) (k .wants)

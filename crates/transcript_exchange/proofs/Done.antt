@@ -33,6 +33,8 @@ use Rattle.transcript_exchange.specs.declared.Turned.{Turned}
 use Rattle.transcript_exchange.specs.declared.Turned.the-variants.{Done, Refused, TooMany}
 
 -- ---- what an answer means
+
+-- An answer with number 0 means what is done where nothing is refused.
 pub answer-done : (o : Transcribed) (x : Turned) → o .number ≡ 0 → by-answer o x ≡ x
 unfolding by-answer
 answer-done o x z = rw (eq-eqb (o .number) 0 z)
@@ -58,6 +60,8 @@ none-refused o x k e =
     (same-or-not (o .number) 0)
 
 -- ---- lines to bytes
+
+-- what is known of a text that is turned into k bytes: its lines are taken, its entries good, and their transcript fits
 pub record BytesDone (t : List ℕ) (room out k : ℕ) : Type 0 where
   pub lines : ℕ
   pub taken : take-answer t room ≡ taken.Taken lines
@@ -76,6 +80,7 @@ of-taken (taken.Taken n) w k e = ((n, refl), e)
 of-taken (taken.BadLine j) w k e = let no : _≡_ {A = ℕ} 0 1 = cc in absurd (omega arith)
 of-taken taken.NoPlaces w k e = let no : _≡_ {A = ℕ} 0 1 = cc in absurd (omega arith)
 
+-- Of a text that is turned, the lines are taken, the entries are good, and their transcript has so many bytes and fits.
 pub bytes-are-done : {t : List ℕ} {room out k : ℕ} → bytes-turned t room out ≡ Done k → BytesDone t room out k
 unfolding bytes-turned
 bytes-are-done {t} {room} {out} {k} e =
@@ -88,6 +93,8 @@ bytes-are-done {t} {room} {out} {k} e =
     record { lines = x .0 .0; taken = x .0 .1; good = z .0; count = sym c ∙ z .1; fits = omega arith }
 
 -- ---- bytes to lines
+
+-- what is known of a string that is turned into k bytes of lines: it is good records with places, and their lines fit
 pub record LinesDone (s : List ℕ) (room out k : ℕ) : Type 0 where
   pub read : read-answer s room .number ≡ 0
   pub sound : Sound s (entries-read s)
@@ -116,6 +123,7 @@ fitted n room k e =
     same : Done n ≡ Done k → n ≡ k
     same q = cc
 
+-- A string that is turned is good records with places for their entries, whose lines have so many bytes and fit, and are written.
 pub lines-are-done : {s : List ℕ} {room out k : ℕ} → lines-turned s room out ≡ Done k → LinesDone s room out k
 unfolding lines-turned
 lines-are-done {s} {room} {out} {k} e =

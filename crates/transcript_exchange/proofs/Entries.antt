@@ -25,10 +25,13 @@ use Rattle.transcript_exchange.specs.Turning.{by-answer, entries-written
 use Rattle.transcript_exchange.specs.declared.Turned.the-variants.{Done, Refused, TooMany}
 
 -- ---- one entry behind others
+
+-- A good entry behind good ones makes good ones.
 pub all-good-more : (es : List Entry) (e : Entry) → AllGood es → Good e → AllGood (es ++ (e ∷ []))
 all-good-more [] e g h = (h, tt)
 all-good-more (x ∷ es) e g h = (g .0, all-good-more es e (g .1) h)
 
+-- One entry more adds the bytes of its record to the transcript.
 pub transcript-more : (es : List Entry) (e : Entry) →
     length (transcript-of (es ++ (e ∷ []))) ≡ length (transcript-of es) + length (record-of e)
 unfolding transcript-of
@@ -40,7 +43,7 @@ transcript-more (x ∷ es) e =
 
 -- ---- what becomes of them
 module _ (es : List Entry) (room : ℕ) where
-  -- All are good.
+  -- Entries that are all good are turned if their transcript fits the output, and else are too many.
   pub all-written : AllGood es → entries-written es room ≡ done-if-fits (length (transcript-of es)) room
   unfolding by-answer write-answer
   all-written g =
@@ -63,7 +66,7 @@ entry-range b = go (entry-number b)
     go (inr (inl e)) = (omega (arith, e), omega (arith, e))
     go (inr (inr e)) = (omega (arith, e), omega (arith, e))
 
--- One is bad.
+-- The first bad entry is refused with its number and its index.
 pub bad-written : (xs ys : List Entry) (e : Entry) (n room : ℕ) → AllGood xs → BadEntry e n →
     entries-written (xs ++ (e ∷ ys)) room ≡ Refused n (length xs)
 unfolding by-answer write-answer
@@ -84,6 +87,6 @@ of-says s (plain.BadEntry.long-word r a l h) = absurd (omega (arith, h, s .word)
 of-says s (plain.BadEntry.no-kind r a l h) = absurd (omega (arith, h, s .kind))
 of-says s (plain.BadEntry.read-with-word r a l z d) = absurd (d (s .of-read z))
 
--- A bad one among them is refused with 2 or 3: a line has a kind, and no word that is too long.
+-- A bad entry among those that lines say is refused with 2 or 3: a line has a kind, and no word that is too long.
 pub line-refusal : (xs ys : List Entry) {e : Entry} {n : ℕ} → AllHaveLines (xs ++ (e ∷ ys)) → BadEntry e n → (n ≡ 2) ⊎ (n ≡ 3)
 line-refusal xs ys {e} h b = of-says (sayable-when e .0 (one-of-them xs ys e h)) b

@@ -117,14 +117,14 @@ module _ (t : List ℕ) (room out : ℕ) where
   some-bytes : (a : Transcribed) × BytesAs t room out a
   some-bytes = bytes-as (take-answer t room) (take-answers t room (take-answer t room) .0 refl)
 
-  -- What becomes of a text is this exactly if its row holds,
+  -- What becomes of a text is a, in numbers, exactly if a's row of `BytesAs` holds.
   pub bytes-exactly : (a : Transcribed) → turned-numbers (bytes-turned t room out) ≡ a ↔ BytesAs t room out a
   bytes-exactly a = (
     λ e. subst (BytesAs t room out) (sym (bytes-told (some-bytes .0) (some-bytes .1) .numbers) ∙ e) (some-bytes .1),
     λ w. bytes-told a w .numbers,
   )
 
-  -- and the numbers tell its case.
+  -- The numbers of what becomes of a text tell its case.
   pub bytes-case : bytes-turned t room out ≡ case-of (turned-numbers (bytes-turned t room out))
   bytes-case = let k = bytes-told (some-bytes .0) (some-bytes .1) in k .case ∙ ap case-of (sym (k .numbers))
 
@@ -171,13 +171,13 @@ module _ (s : List ℕ) (room out : ℕ) where
   some-lines : (a : Transcribed) × LinesAs s room out a
   some-lines = lines-as (reads-exactly s room (read-answer s room) .0 refl)
 
-  -- What becomes of a string is this exactly if its row holds,
+  -- What becomes of a string is a, in numbers, exactly if a's row of `LinesAs` holds.
   pub lines-exactly : (a : Transcribed) → turned-numbers (lines-turned s room out) ≡ a ↔ LinesAs s room out a
   lines-exactly a = (
     λ e. subst (LinesAs s room out) (sym (lines-told (some-lines .0) (some-lines .1) .numbers) ∙ e) (some-lines .1),
     λ w. lines-told a w .numbers,
   )
 
-  -- and the numbers tell its case.
+  -- The numbers of what becomes of a string tell its case.
   pub lines-case : lines-turned s room out ≡ case-of (turned-numbers (lines-turned s room out))
   lines-case = let k = lines-told (some-lines .0) (some-lines .1) in k .case ∙ ap case-of (sym (k .numbers))

@@ -28,6 +28,7 @@ no-register = read-line 52 51
 abbrev no-lanes : List ℕ
 no-lanes = read-line 50 48
 
+-- what becomes of some texts of lines
 pub record Texts : Type 0 where
   -- two reads: two bytes, with two places and two bytes of room, and not with one of either
   pub two : bytes-turned (good ++ good) 2 2 ≡ Done 2
@@ -40,13 +41,15 @@ pub record Texts : Type 0 where
   pub cut : bytes-turned (good ++ (82 ∷ [])) 2 2 ≡ BadLine 1
   pub cut-first : bytes-turned (no-register ++ (82 ∷ [])) 0 0 ≡ BadLine 1
 
--- These come out so.
+-- By computation: two reads are two bytes, with two places and two bytes of room, and not with one of either; the first access without a
+-- record is named; and a line that is cut short is bad, also with no room and behind an access without a record.
 pub seven-texts : Texts
 unfolding
     bytes-turned by-answer take-answer takes front-line has-feed before-feed line-of headed tailed is-decimal value-of write-answer
     first-bad entry-refusal no-record are-lanes transcript-of record-of groups
 seven-texts = record { two = refl; no-place = refl; no-byte = refl; register = refl; lanes = refl; cut = refl; cut-first = refl }
 
+-- what becomes of some strings of bytes
 pub record Strings : Type 0 where
   -- two reads: twelve bytes of lines
   pub two : lines-turned (0x1C ∷ 0x1C ∷ []) 2 12 ≡ Done 12
@@ -55,7 +58,8 @@ pub record Strings : Type 0 where
   -- the first bad record, its refusal and its first byte
   pub bad : lines-turned (0x1C ∷ 0x1D ∷ 0x80 ∷ 0x34 ∷ []) 0 0 ≡ Refused 21 1
 
--- These come out so.
+-- By computation: two reads are twelve bytes of lines, with two places and twelve bytes of room, and not with one less of either; and the
+-- first bad record is named by its refusal and its first byte.
 pub four-strings : Strings
 unfolding
     lines-turned by-answer read-answer feeds feed byte-taken head-read word-read with-group lines-of access-of

@@ -18,7 +18,7 @@ use Rattle.transcript_exchange.specs.Turning.{lists-left, output-left}
 use Rattle.transcript_exchange.specs.declared.Turned.{Turned}
 use Rattle.transcript_exchange.specs.declared.Turned.the-variants.{Done}
 
--- Turned: the entries es and the bytes `text` are filled in.
+-- an input is turned: the entries es and the bytes `text` are filled in
 pub record TurnedOut (es : List Entry) (text : List ℕ) (l : Lists) (out : List ℕ) (a : Transcribed) (l′ : Lists) (out′ : List ℕ) :
     Type 0 where
   pub answer : a ≡ accepted (length text)
@@ -28,6 +28,7 @@ pub record TurnedOut (es : List Entry) (text : List ℕ) (l : Lists) (out : List
   pub output : out′ ≡ over text out
 
 module _ {es : List Entry} {text : List ℕ} {l l′ : Lists} {out out′ : List ℕ} where
+  -- Where the answer is that of an input that is turned, and its entries and bytes fit, these are filled in.
   pub turned-out : {o : Turned} (es₀ : List Entry) (text₀ : List ℕ) → o ≡ case-of (turned-numbers o) →
       l′ ≡ lists-left o es₀ l → out′ ≡ output-left o text₀ out → turned-numbers o ≡ accepted (length text) → es₀ ≡ es → text₀ ≡ text →
       length es ≤ size l → length text ≤ length out → TurnedOut es text l out (turned-numbers o) l′ out′
@@ -45,6 +46,7 @@ module _ {es : List Entry} {text : List ℕ} {l l′ : Lists} {out out′ : List
     count-is : a .count ≡ length text
     count-is = ap (λ (x : Transcribed). x .count) (k .answer)
 
+    -- Where an input is turned, the lists' first places hold its entries, the output's first bytes are the text, and all else stays.
     pub filled : Filled es text l out a l′ out′
     filled =
         record {
@@ -60,6 +62,7 @@ module _ {es : List Entry} {text : List ℕ} {l l′ : Lists} {out out′ : List
               ∙ ap (λ (n : ℕ). drop n out) (sym count-is);
         }
 
+    -- Where an input is turned, each list and the output are as long as they were.
     pub still-long : SameLengths l l′ × (length out′ ≡ length out)
     still-long =
         (subst (SameLengths l) (sym (k .lists)) (lengths-stay es l (k .places)), ap length (k .output) ∙ over-length text out (k .fits))

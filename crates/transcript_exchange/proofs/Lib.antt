@@ -1,10 +1,10 @@
--- what the functions' proofs rest on
+-- ---- what the functions' proofs rest on
 pub mod Entries
 pub mod AccessByAccess
 pub mod RecordByRecord
 pub mod Done
 pub mod Results
--- what is promised
+-- ---- what is promised
 pub mod Exactly
 pub mod Left
 pub mod Promised

@@ -41,17 +41,19 @@ long-as-before {l} x y =
 
 -- ---- lines to bytes
 module _ {t : List ℕ} {l l′ : Lists} {out out′ : List ℕ} {o : Turned} (p : ToBytes t l out o l′ out′) where
-  -- It answers so exactly if: a line is bad, there are more lines than places, an access has no record, the records do not fit, or they do.
+  -- The answer of `lines_to_bytes` is a, in numbers, exactly if a's row of `BytesAs` holds: a line is bad (27), there are more lines than
+  -- places (24), an access has no record (its number and index), the records do not fit (24), or the text is good lines of good entries
+  -- that have places, and their transcript fits.
   pub to-bytes-exactly : (a : Transcribed) → turned-numbers o ≡ a ↔ BytesAs t (size l) (length out) a
   to-bytes-exactly a =
       let k = bytes-exactly t (size l) (length out) a in
       (λ e. k .0 (ap turned-numbers (sym (p .answer)) ∙ e), λ w. ap turned-numbers (p .answer) ∙ k .1 w)
 
-  -- The numbers tell its case: no two cases have the same.
+  -- The numbers of what `lines_to_bytes` answers tell its case: no two cases have the same.
   pub to-bytes-case : o ≡ case-of (turned-numbers o)
   to-bytes-case = subst (λ (x : Turned). x ≡ case-of (turned-numbers x)) (sym (p .answer)) (bytes-case t (size l) (length out))
 
-  -- Its number is 0, 2, 3, 24 or 27.
+  -- The number of `lines_to_bytes` is 0, 2, 3, 24 or 27, and never 22.
   pub to-bytes-number : let n = turned-numbers o .number in (n ≡ 0) ⊎ ((n ≡ 2) ⊎ ((n ≡ 3) ⊎ ((n ≡ 24) ⊎ (n ≡ 27))))
   to-bytes-number = go (to-bytes-exactly (turned-numbers o) .0 refl)
     where
@@ -67,7 +69,7 @@ module _ {t : List ℕ} {l l′ : Lists} {out out′ : List ℕ} {o : Turned} (p
       go (plain.BytesAs.no-room x h g k) = inr (inr (inr (inl refl)))
       go (plain.BytesAs.done x h g k) = inl refl
 
-  -- With another number than 0 it counts nothing, and leaves every place of the four lists and every byte of the output.
+  -- With another number than 0 `lines_to_bytes` counts nothing, and leaves every place of the four lists and every byte of the output.
   pub to-bytes-refused : turned-numbers o .number ≢ 0 → (turned-numbers o .count ≡ 0) × (l′ ≡ l) × (out′ ≡ out)
   to-bytes-refused = go o p
     where
@@ -88,20 +90,21 @@ module _ {t : List ℕ} {l l′ : Lists} {out out′ : List ℕ} {o : Turned} (p
   turned-bytes e (plain.BytesAs.no-record xs ys x h is g b) z = absurd (omega (arith, z, entry-range b .0))
   turned-bytes e (plain.BytesAs.no-room x h g k) z = absurd (omega (arith, z))
 
-  -- With 0 the text is good lines of good entries; these stand in the lists' first places, their transcript in the output's first bytes.
+  -- With 0 the text is good lines of good entries; these stand in the lists' first places, their transcript in the output's first bytes,
+  -- and all else stays.
   pub to-bytes-done : turned-numbers o .number ≡ 0 →
       (es : List Entry) × LinesOf t es × AllGood es × Filled es (transcript-of es) l out (turned-numbers o) l′ out′
   to-bytes-done z =
       let k = turned-bytes refl (to-bytes-exactly (turned-numbers o) .0 refl) z in
       (k .0, k .1, k .2, filled (k .3))
 
-  -- What is turned fits the output.
+  -- What `lines_to_bytes` turns out fits the output.
   pub bytes-fit : {k : ℕ} → o ≡ Done k → k ≤ length out
   bytes-fit e =
       let d = to-bytes-done (ap (λ (x : Turned). turned-numbers x .number) e) in
       omega (arith, d .3 .fits, ap (λ (x : Turned). turned-numbers x .count) e)
 
-  -- Whatever it answers, each list and the output are as long as they were.
+  -- Whatever `lines_to_bytes` answers, each list and the output are as long as they were.
   pub to-bytes-lengths : SameLengths l l′ × (length out′ ≡ length out)
   to-bytes-lengths =
       ⊎-elim
@@ -111,17 +114,18 @@ module _ {t : List ℕ} {l l′ : Lists} {out out′ : List ℕ} {o : Turned} (p
 
 -- ---- bytes to lines
 module _ {s : List ℕ} {l l′ : Lists} {out out′ : List ℕ} {o : Turned} (p : ToLines s l out o l′ out′) where
-  -- It answers so exactly if: a record is bad, there are more records than places, the lines do not fit, or they do.
+  -- The answer of `bytes_to_lines` is a, in numbers, exactly if a's row of `LinesAs` holds: a record is bad (20 to 23, and its first byte),
+  -- there are more records than places (24), the lines do not fit (24), or they do: every record has a line.
   pub to-lines-exactly : (a : Transcribed) → turned-numbers o ≡ a ↔ LinesAs s (size l) (length out) a
   to-lines-exactly a =
       let k = lines-exactly s (size l) (length out) a in
       (λ e. k .0 (ap turned-numbers (sym (p .answer)) ∙ e), λ w. ap turned-numbers (p .answer) ∙ k .1 w)
 
-  -- The numbers tell its case: no two cases have the same.
+  -- The numbers of what `bytes_to_lines` answers tell its case: no two cases have the same.
   pub to-lines-case : o ≡ case-of (turned-numbers o)
   to-lines-case = subst (λ (x : Turned). x ≡ case-of (turned-numbers x)) (sym (p .answer)) (lines-case s (size l) (length out))
 
-  -- Its number is 0, one of 20 to 23, or 24.
+  -- The number of `bytes_to_lines` is 0 or one of 20 to 24.
   pub to-lines-number : let n = turned-numbers o .number in (n ≡ 0) ⊎ ((20 ≤ n) × (n ≤ 24))
   to-lines-number = go (to-lines-exactly (turned-numbers o) .0 refl)
     where
@@ -131,7 +135,7 @@ module _ {s : List ℕ} {l l′ : Lists} {out out′ : List ℕ} {o : Turned} (p
       go (plain.LinesAs.no-room q h k) = inr (omega arith, omega arith)
       go (plain.LinesAs.done q h k) = inl refl
 
-  -- With another number than 0 it counts nothing, and leaves every place of the four lists and every byte of the output.
+  -- With another number than 0 `bytes_to_lines` counts nothing, and leaves every place of the four lists and every byte of the output.
   pub to-lines-refused : turned-numbers o .number ≢ 0 → (turned-numbers o .count ≡ 0) × (l′ ≡ l) × (out′ ≡ out)
   to-lines-refused = go o p
     where
@@ -151,20 +155,21 @@ module _ {s : List ℕ} {l l′ : Lists} {out out′ : List ℕ} {o : Turned} (p
   turned-lines e (plain.LinesAs.no-places q h) z = absurd (omega (arith, z))
   turned-lines e (plain.LinesAs.no-room q h k) z = absurd (omega (arith, z))
 
-  -- With 0 the string is good records; their entries stand in the lists' first places, and the lines of these in the output's first bytes.
+  -- With 0 the string is good records; their entries stand in the lists' first places, the lines of these in the output's first bytes, and
+  -- all else stays.
   pub to-lines-done : turned-numbers o .number ≡ 0 →
       (es : List Entry) × Sound s es × Filled es (text-of es) l out (turned-numbers o) l′ out′
   to-lines-done z =
       let k = turned-lines refl (to-lines-exactly (turned-numbers o) .0 refl) z in
       (k .0, k .1, filled (k .2))
 
-  -- What is turned fits the output.
+  -- What `bytes_to_lines` turns out fits the output.
   pub lines-fit : {k : ℕ} → o ≡ Done k → k ≤ length out
   lines-fit e =
       let d = to-lines-done (ap (λ (x : Turned). turned-numbers x .number) e) in
       omega (arith, d .2 .fits, ap (λ (x : Turned). turned-numbers x .count) e)
 
-  -- Whatever it answers, each list and the output are as long as they were.
+  -- Whatever `bytes_to_lines` answers, each list and the output are as long as they were.
   pub to-lines-lengths : SameLengths l l′ × (length out′ ≡ length out)
   to-lines-lengths =
       ⊎-elim
@@ -173,7 +178,7 @@ module _ {s : List ℕ} {l l′ : Lists} {out out′ : List ℕ} {o : Turned} (p
       (same-or-not (turned-numbers o .number) 0)
 
 -- ---- the contracts themselves: each is a statement on the call's own arguments
--- `lines_to_bytes`: text, kinds, registers, lanes, words, bytes.
+-- `lines_to_bytes` takes any text, kinds, registers, lanes, words and bytes, and all that its contract allows is `ToBytes` of them.
 pub lines-to-bytes-contract : Contract lines-to-bytes-kinds.ps lines-to-bytes-kinds.r lines-to-bytes.Pre lines-to-bytes.Post
     (λ κs args o left.
     let text = args .0 in
@@ -191,7 +196,7 @@ pub lines-to-bytes-contract : Contract lines-to-bytes-kinds.ps lines-to-bytes-ki
     (lists (kinds′ .now) (registers′ .now) (lanes′ .now) (words′ .now)) (bytes′ .now))
 lines-to-bytes-contract = record { takes-any = λ κs args. tt; says = λ κs args o left p. p }
 
--- `bytes_to_lines`: bytes, kinds, registers, lanes, words, text.
+-- `bytes_to_lines` takes any bytes, kinds, registers, lanes, words and text, and all that its contract allows is `ToLines` of them.
 pub bytes-to-lines-contract : Contract bytes-to-lines-kinds.ps bytes-to-lines-kinds.r bytes-to-lines.Pre bytes-to-lines.Post
     (λ κs args o left.
     let bytes = args .0 in

@@ -34,18 +34,20 @@ one-line : (e : Entry) → bytes (e ∷ []) ≡ length (line e)
 unfolding lines-of
 one-line e = omega (arith, length-append (line e) [])
 
--- So many bytes are read; the lines of the entries so far leave so many bytes of the room.
+-- so many bytes are read; the lines of the entries so far leave so many bytes of the room
 pub record Measured (s : List ℕ) (room : ℕ) (p : Part) (left i : ℕ) : Type 0 where
   pub entries : ℕ
   pub place : ℕ
   pub reads : Counting fresh s p entries place i
   pub come : left + bytes (reads .got) ≡ room
 
+-- At first nothing is read, and all of the room is left.
 pub measured-start : (s : List ℕ) (room : ℕ) → Measured s room fresh room 0
 unfolding lines-of
 measured-start s room = record { entries = 0; place = 0; reads = begun fresh s; come = omega arith }
 
 module _ {s : List ℕ} {room : ℕ} {p : Part} {left i : ℕ} (k : Measured s room p left i) where
+  -- No more is left than there was room.
   pub measured-less : left ≤ room
   measured-less = omega (arith, k .come)
 
@@ -55,25 +57,25 @@ module _ {s : List ℕ} {room : ℕ} {p : Part} {left i : ℕ} (k : Measured s r
       let all : room - left ≡ bytes (entries-read s) = omega (arith, k .come, ap bytes e) in
       rw (le-ltb room (bytes (entries-read s)) (omega (arith, all))) (ap Done all)
 
-  -- The end of the string.
+  -- At the end of the string the lines fit, and have as many bytes as the room has lost.
   pub measured-all : length s ≤ i → Done (room - left) ≡ done-if-fits (bytes (entries-read s)) room
   measured-all h = fits-all (ap (λ (r : Reading). r .got) (at-end (k .reads .here) h))
 
   module _ (more : i < length s) where
-    -- The record goes on.
+    -- Where the record goes on, nothing more is measured.
     pub measured-on : {q : Part} → byte-taken p (getD s i 0) ≡ Goes q → Measured s room q left (i + 1)
     measured-on e = record { entries = k .entries; place = k .place; reads = goes-on (k .reads) more e; come = k .come }
 
-    -- It is bad, and ends it.
+    -- A bad record ends the measuring: the lines of the records before it fit, and have as many bytes as the room has lost.
     pub measured-bad : {n : ℕ} → byte-taken p (getD s i 0) ≡ Bad n → Done (room - left) ≡ done-if-fits (bytes (entries-read s)) room
     measured-bad b = fits-all (ap (λ (r : Reading). r .got) (stopped (k .reads) more b))
 
-    -- It is whole and good,
+    -- It is whole and good.
     module _ {e : Entry} (w : byte-taken p (getD s i 0) ≡ Whole e) {size : ℕ} (long : size ≡ length (line e)) where
       got-more : bytes (k .reads .got ++ (e ∷ [])) ≡ bytes (k .reads .got) + size
       got-more = omega (arith, text-behind (k .reads .got) (e ∷ []), one-line e, long)
 
-      -- and its line fits,
+      -- The line of a record that is whole and good takes its bytes of what is left, if it fits.
       pub measured-next : size ≤ left → Measured s room fresh (left - size) (i + 1)
       measured-next fits =
           record {
@@ -83,7 +85,7 @@ module _ {s : List ℕ} {room : ℕ} {p : Part} {left i : ℕ} (k : Measured s r
             come = omega (arith, k .come, got-more, fits);
           }
 
-      -- or does not.
+      -- Where the line of such a record does not fit what is left, the lines do not fit.
       pub measured-out : left < size → TooMany ≡ done-if-fits (bytes (entries-read s)) room
       measured-out short =
           let next = counted (k .reads) more w in

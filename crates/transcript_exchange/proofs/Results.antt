@@ -56,12 +56,12 @@ module _ (t : List ℕ) (l : Lists) (out : List ℕ) where
     unfolding bytes-turned
     turned-is = ap (λ (y : LinesTaken). by-taken y (entries-written (taking t .entries) (length out))) (sym (a ∙ ap (take-answer t) r))
 
-    -- A bad line changes nothing,
+    -- A bad line changes nothing that was lent.
     pub bad-line : {k : ℕ} → x ≡ taken.BadLine k → ToBytes t l out (BadLine k) l out
     bad-line e = left-alone (sym (turned-is ∙ ap (λ (y : LinesTaken). by-taken y (entries-written (taking t .entries) (length out))) e))
         refl
 
-    -- nor do more lines than have places,
+    -- More lines than have places change nothing that was lent.
     pub no-places : x ≡ taken.NoPlaces → ToBytes t l out TooMany l out
     no-places e = left-alone (sym (turned-is ∙ ap (λ (y : LinesTaken). by-taken y (entries-written (taking t .entries) (length out))) e))
         refl
@@ -70,20 +70,21 @@ module _ (t : List ℕ) (l : Lists) (out : List ℕ) where
       answer-is : o ≡ bytes-turned t (size l) (length out)
       answer-is = w ∙ sym (turned-is ∙ ap (λ (y : LinesTaken). by-taken y (entries-written (taking t .entries) (length out))) e)
 
-      -- nor does an access without a record, or a transcript that does not fit.
+      -- An access without a record, or a transcript that does not fit, changes nothing that was lent.
       pub accesses-refused : NotDone o → ToBytes t l out o l out
       accesses-refused k = left-alone answer-is (not-done o k)
 
-      -- The lines are taken where nothing is refused:
+      -- The lines are taken where nothing is refused.
       module _ {y : LinesTaken} {l′ : Lists} (p : TookLines t l y l′) where
         took : TookLines t l (taken.Taken n) l′
         took = subst (λ (z : LinesTaken). TookLines t l z l′) (p .answer ∙ sym (a ∙ ap (take-answer t) r) ∙ e) p
 
-        -- their entries are there,
+        -- Of lines that are taken, the entries have places.
         pub has-entries : n ≤ size l
         has-entries = took-entries took .0
 
-        -- and the transcript of these is what is to be turned out.
+        -- Where nothing is refused, the lines are taken and the transcript of their entries is written, what is left is as the contract
+        -- says.
         pub bytes-done : {m : ℕ} {out′ : List ℕ} {b : Transcribed} → o ≡ Done m → WroteTranscript (first-places n l′) out b out′ →
             ToBytes t l out o l′ out′
         unfolding bytes-after lines.lists-after
@@ -112,7 +113,7 @@ module _ (s : List ℕ) (l : Lists) (out : List ℕ) {room : ℕ} {a : Transcrib
   pub lines-refused : NotDone o → ToLines s l out o l out
   lines-refused k = record { answer = lines-answer; lists = rw (not-done o k) refl; output = rw (not-done o k) refl }
 
-  -- The transcript is read where nothing is refused:
+  -- The transcript is read where nothing is refused.
   module _ {m : ℕ} (d : o ≡ Done m) {c : Transcribed} {l′ : Lists} (p : ReadTranscript s l c l′) where
     all : LinesDone s (size l) (length out) m
     all = lines-are-done (sym lines-answer ∙ d)
@@ -123,11 +124,11 @@ module _ (s : List ℕ) (l : Lists) (out : List ℕ) {room : ℕ} {a : Transcrib
     accepted : c .number ≡ 0
     accepted = ap (λ (y : Transcribed). y .number) (p .answer) ∙ all .read
 
-    -- its entries are there,
+    -- Of a transcript that is read, the entries have places.
     pub has-read : a .count ≤ size l
     has-read = rw (sym same-answer) (reader-done p accepted .fits)
 
-    -- and their lines are what is to be turned out.
+    -- Where nothing is refused, the transcript is read and the lines of its entries are put, what is left is as the contract says.
     pub lines-done : {out′ : List ℕ} {q : LinesPut} → PutLines (first-places (a .count) l′) out q out′ → ToLines s l out o l′ out′
     unfolding read.lists-after text-after
     lines-done {out′} {q} v =

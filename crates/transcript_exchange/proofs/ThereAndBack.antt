@@ -38,7 +38,7 @@ first-bytes n o text out e d c =
 
 -- ---- lines, a transcript, lines
 module _ {t out out′ : List ℕ} {l l′ : Lists} {n : ℕ} (p : ToBytes t l out (Done n) l′ out′) where
-  -- The lines of a text that was turned come back from its transcript, exactly.
+  -- Lines that were turned into a transcript come back from it, exactly, with as many places and room for them.
   pub lines-come-back : {k k′ : Lists} {text text′ : List ℕ} {o : Turned} → ToLines (take n out′) k text o k′ text′ →
       size l ≤ size k → length t ≤ length text → (o ≡ Done (length t)) × (take (length t) text′ ≡ t)
   unfolding lines-turned by-answer
@@ -63,7 +63,7 @@ module _ {t out out′ : List ℕ} {l l′ : Lists} {n : ℕ} (p : ToBytes t l o
 
 -- ---- a transcript, lines, a transcript
 module _ {s out out′ : List ℕ} {l l′ : Lists} {n : ℕ} (b : AreBytes s) (p : ToLines s l out (Done n) l′ out′) where
-  -- A transcript that was turned comes back from its lines, exactly.
+  -- A transcript that was turned into lines comes back from them, exactly, with as many places and room for it.
   pub bytes-come-back : {k k′ : Lists} {bytes bytes′ : List ℕ} {o : Turned} → ToBytes (take n out′) k bytes o k′ bytes′ →
       size l ≤ size k → length s ≤ length bytes → (o ≡ Done (length s)) × (take (length s) bytes′ ≡ s)
   unfolding bytes-turned by-answer

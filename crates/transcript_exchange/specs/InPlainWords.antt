@@ -21,7 +21,7 @@ pub record LinesOf (t : List ℕ) (es : List Entry) : Type 0 where
   pub is : t ≡ text-of es
   pub says : AllHaveLines es
 
--- a bad line comes first, then too many lines for the lists, then the first access without a record, then too many bytes
+-- (ours) a bad line comes first, then too many lines for the lists, then the first access without a record, then too many bytes
 pub data BytesAs (t : List ℕ) (room out : ℕ) : Transcribed → Type 0 where
   bad-line : {k : ℕ} → BadLineAt t k → BytesAs t room out (answer 27 0 k)
   no-places : {es : List Entry} → LinesOf t es → room < length es → BytesAs t room out (answer 24 0 0)
@@ -32,7 +32,7 @@ pub data BytesAs (t : List ℕ) (room out : ℕ) : Transcribed → Type 0 where
   done : {es : List Entry} → LinesOf t es → length es ≤ room → AllGood es →
       length (transcript-of es) ≤ out → BytesAs t room out (answer 0 (length (transcript-of es)) 0)
 
--- a bad record comes first, then too many for the lists, then too many bytes; every record has a line
+-- (ours) a bad record comes first, then too many for the lists, then too many bytes; every record has a line
 pub data LinesAs (s : List ℕ) (room out : ℕ) : Transcribed → Type 0 where
   bad-record : {es : List Entry} {t u : List ℕ} {n : ℕ} → s ≡ t ++ u → Sound t es → BadRecord u n →
       LinesAs s room out (answer n 0 (length t))

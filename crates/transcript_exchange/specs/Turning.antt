@@ -1,4 +1,4 @@
--- What becomes of an input: document 02, request (ii), and the lines of `portlist`.
+-- What becomes of an input: document 02, request (ii), and the lines of `portlist` (ours).
 --   by-answer o done           what a writer's or a reader's answer means; `done` where it refuses nothing
 --   by-taken x entries-written  what the answer of taking lines means; `entries-written` where all are taken
 --   entries-written es room    what becomes of a list of entries, with so many bytes of output

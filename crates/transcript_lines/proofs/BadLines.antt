@@ -27,14 +27,14 @@ module _ (es : List Entry) (h : AllHaveLines es) (room : ℕ) where
       take-answers (text-of es ++ left) room (BadLine (length es)) .1
       (record { left = left; good = record { entries = es; is = refl; says = h; count = refl }; some = some; bad = none })
 
-  -- A line of another shape, whatever follows it.
+  -- A line of another shape behind good ones is a bad line, whatever follows it.
   pub other-shape : (u v : List ℕ) → No-feed u → line-of u ≡ bad → take-answer (text-of es ++ (u ++ 10 ∷ v)) room ≡ BadLine (length es)
   other-shape u v plain shape =
       let front : front-line (u ++ 10 ∷ v) ≡ Bad = whole-line u v plain ∙ ap (with-length (length u + 1)) shape in
       let some : u ++ 10 ∷ v ≢ [] = λ e. absurd (omega (arith, ap length e, length-append u (10 ∷ v))) in
       bad-behind (u ++ 10 ∷ v) some (front-none (u ++ 10 ∷ v) (ap is-good front))
 
-  -- A last line without its line feed, of any shape.
+  -- A last line without its line feed, of any shape, behind good ones, is a bad line.
   pub last-line : (u : List ℕ) → No-feed u → u ≢ [] → take-answer (text-of es ++ u) room ≡ BadLine (length es)
   last-line u plain some =
       let feeds : (e : Entry) (v : List ℕ) → u ≡ line-text (access-of e) ++ (10 ∷ []) ++ v → has-feed u ≡ true =

@@ -36,11 +36,12 @@ module _ (l : Lists) where
 
 -- ---- each is judged
 
--- A line can say each entry so far.
+-- a line can say each entry before place i
 pub record Judged (l : Lists) (done : LinesPut) (i : ℕ) : Type 0 where
   pub most : i ≤ size l
   pub come : first-unsayable 0 (entries-in l) done ≡ first-unsayable i (following l i) done
 
+-- At first no entry is judged.
 pub judged-start : (l : Lists) (done : LinesPut) → Judged l done 0
 judged-start l done = record { most = omega arith; come = ap (λ (es : List Entry). first-unsayable 0 es done) (sym (all-follow l)) }
 
@@ -49,6 +50,7 @@ module _ {l : Lists} {done : LinesPut} {i : ℕ} (k : Judged l done i) where
     here : first-unsayable 0 (entries-in l) done ≡ first-unsayable i (e ∷ following l (i + 1)) done
     here = k .come ∙ ap (λ (es : List Entry). first-unsayable i es done) (one-follows l s h is)
 
+    -- Where a line can say the next entry, it can say each one up to it.
     pub judged-next : unsayable e ≡ false → Judged l done (i + 1)
     unfolding first-unsayable
     judged-next f =
@@ -57,10 +59,12 @@ module _ {l : Lists} {done : LinesPut} {i : ℕ} (k : Judged l done i) where
           come = here ∙ rw f (ap (λ (j : ℕ). first-unsayable j (following l (i + 1)) done) (sym (add-one i)));
         }
 
+    -- Where no line can say the next entry, the answer is its index.
     pub judged-unsayable : unsayable e ≡ true → Unsayable i ≡ first-unsayable 0 (entries-in l) done
     unfolding first-unsayable
     judged-unsayable f = sym (here ∙ rw f refl)
 
+  -- Where a line can say each entry, the answer is the one for this, `done`.
   pub judged-all : {n : ℕ} → n ≡ size l → n ≤ i → done ≡ first-unsayable 0 (entries-in l) done
   unfolding first-unsayable
   judged-all s h = sym (k .come ∙ ap (λ (es : List Entry). first-unsayable i es done) (none-follows l s h))
@@ -70,12 +74,13 @@ module _ {l : Lists} {done : LinesPut} {i : ℕ} (k : Judged l done i) where
 abbrev bytes : List Entry → ℕ
 bytes es = length (text-of es)
 
--- The lines so far fit, and leave so many bytes.
+-- the lines of the entries before place i fit the room, and leave so many bytes of it
 pub record Measured (l : Lists) (room left i : ℕ) : Type 0 where
   pub most : i ≤ size l
   pub less : left ≤ room
   pub come : left + bytes (entries-in l) ≡ room + bytes (following l i)
 
+-- At first all of the room is left.
 pub measured-start : (l : Lists) (room : ℕ) → Measured l room room 0
 measured-start l room =
     record { most = omega arith; less = omega arith; come = ap (λ (es : List Entry). room + bytes es) (sym (all-follow l)) }
@@ -87,6 +92,7 @@ one-line l {i} {e = e} s h is = ap bytes (one-follows l s h is) ∙ length-appen
 
 module _ {l : Lists} {room left i : ℕ} (k : Measured l room left i) where
   module _ {n bytes-here : ℕ} {e : Entry} (s : n ≡ size l) (h : i < n) (is : e ≡ entry-at l i) (long : bytes-here ≡ length (line e)) where
+    -- The next line, if it fits what is left, takes its bytes of it.
     pub measured-next : bytes-here ≤ left → Measured l room (left - bytes-here) (i + 1)
     measured-next fits =
         record {
@@ -95,9 +101,11 @@ module _ {l : Lists} {room left i : ℕ} (k : Measured l room left i) where
           come = omega (arith, k .come, one-line l s h is, long, fits);
         }
 
+    -- Where the next line does not fit what is left, the lines do not fit.
     pub measured-out : left < bytes-here → NoBytes ≡ written-if-fits (bytes (entries-in l)) room
     measured-out more = rw (lt-ltb room (bytes (entries-in l)) (omega (arith, k .come, k .less, one-line l s h is, long, more))) refl
 
+  -- Where all lines are measured, they fit, and have as many bytes as the room has lost.
   pub measured-all : {n : ℕ} → n ≡ size l → n ≤ i → Written (room - left) ≡ written-if-fits (bytes (entries-in l)) room
   unfolding lines-of
   measured-all s h =
@@ -107,7 +115,7 @@ module _ {l : Lists} {room left i : ℕ} (k : Measured l room left i) where
 
 -- ---- their lines are laid
 
--- The lines so far stand at the text's beginning.
+-- the lines of the entries before place i stand at the text's beginning
 pub record Laid (l : Lists) (out₀ out : List ℕ) (at i : ℕ) : Type 0 where
   pub most : i ≤ size l
   pub text : List ℕ
@@ -116,6 +124,7 @@ pub record Laid (l : Lists) (out₀ out : List ℕ) (at i : ℕ) : Type 0 where
   pub end : at ≡ length text
   pub says : AllHaveLines (following l i)
 
+-- At first no line stands in the text.
 pub laid-start : (l : Lists) (out : List ℕ) → AllHaveLines (entries-in l) → Laid l out out 0 0
 laid-start l out says =
     record {
@@ -131,19 +140,20 @@ module _ {l : Lists} {out₀ out : List ℕ} {at i : ℕ} (k : Laid l out₀ out
   whole : bytes (entries-in l) ≡ length (k .text) + bytes (following l i)
   whole = ap length (k .come) ∙ length-append (k .text) (text-of (following l i))
 
-  -- The text is as long as it was.
+  -- The text is as long as it was, whatever lines stand in it.
   pub laid-length : length out ≡ length out₀
   laid-length = ap length (k .there) ∙ over-length (k .text) out₀ (omega (arith, whole, room))
 
   module _ {n : ℕ} {e : Entry} (s : n ≡ size l) (h : i < n) (is : e ≡ entry-at l i) where
-    -- The next line has its place,
+    -- the next line has its place
     room-there : length (k .text) + length (line e) ≤ length out₀
     room-there = omega (arith, whole, room, one-line l s h is)
 
+    -- The next line has its place in the text, and a line can say its entry.
     pub laid-room : (at + length (line e) ≤ length out) × (unsayable e ≡ false)
     laid-room = (omega (arith, room-there, k .end, laid-length), subst AllHaveLines (one-follows l s h is) (k .says) .0)
 
-    -- and stands there.
+    -- The next line, put behind those before it, stands there with them.
     pub laid-next : {end : ℕ} {out′ : List ℕ} → Put out at (line e) end out′ → Laid l out₀ out′ end (i + 1)
     unfolding lines-of
     laid-next x =
@@ -163,6 +173,7 @@ module _ {l : Lists} {out₀ out : List ℕ} {at i : ℕ} (k : Laid l out₀ out
           says = subst AllHaveLines (one-follows l s h is) (k .says) .1;
         }
 
+  -- After the last entry the lines of all stand at the text's beginning, and the later bytes are as they were.
   pub laid-all : {n : ℕ} → n ≡ size l → n ≤ i → out ≡ over (text-of (entries-in l)) out₀
   unfolding lines-of
   laid-all s h =

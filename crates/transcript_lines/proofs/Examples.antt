@@ -29,10 +29,12 @@ lines = 87 ∷ 32 ∷ 50 ∷ 32 ∷ 51 ∷ 32 ∷ 49 ∷ 50 ∷ 51 ∷ 52 ∷ 10
 abbrev cut : List ℕ
 cut = 87 ∷ 32 ∷ 50 ∷ 32 ∷ 51 ∷ 32 ∷ 49 ∷ 50 ∷ 51 ∷ 52 ∷ 10 ∷ 82 ∷ 32 ∷ 50 ∷ 32 ∷ 51 ∷ []
 
+-- The two entries are put as these two lines.
 pub two-put : text-of two ≡ lines
 unfolding lines-of access-of digit-for
 two-put = refl
 
+-- The two lines are taken as these two entries, and nothing is left.
 pub two-taken : taking lines ≡ record { entries = two; left = [] }
 unfolding takes front-line has-feed before-feed line-of headed tailed is-decimal value-of
 two-taken = refl
@@ -52,6 +54,8 @@ put-answered = (refl, refl)
 abbrev second : Entry → LinesPut
 second e = put-answer (entry 1 9 9 65535 ∷ e ∷ []) 100
 
+-- No line can say an entry with a kind over 1, a register over 9, lanes over 9, a word over 65,535, or a read's word that is not 0: it is
+-- named by its index, behind one that a line can say.
 pub not-put :
     (second (entry 2 0 1 0) ≡ Unsayable 1) × (second (entry 0 10 1 0) ≡ Unsayable 1) × (second (entry 0 0 10 0) ≡ Unsayable 1) ×
     (second (entry 1 0 1 65536) ≡ Unsayable 1) × (second (entry 0 0 1 1) ≡ Unsayable 1)

@@ -15,11 +15,12 @@ use Rattle.transcript_lines.specs.Lines.{entry-of}
 use Rattle.transcript_lines.specs.Taking.{Taking, taking}
 use Rattle.transcript_lines.proofs.Turns.{NotGood, Come, at-start, among, one-more, no-more}
 
--- So many lines are taken, and their entries stand in the lists.
+-- so many lines are taken, and their entries stand in the lists
 pub record Filled (t : List ℕ) (l₀ l : Lists) (used i : ℕ) : Type 0 where
   pub come : Come t used i
   pub lists : l ≡ with-entries (come .got) l₀
 
+-- At first nothing is taken, and the lists are as they were.
 pub filled-start : (t : List ℕ) (l : Lists) → Filled t l l 0 0
 unfolding at-start
 filled-start t l = record { come = at-start t; lists = refl }

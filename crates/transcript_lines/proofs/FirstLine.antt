@@ -18,7 +18,7 @@ use Rattle.listing.proofs.LineByLine.{Fronts, fronts}
 abbrev pub whole : Access → List ℕ
 whole a = line-text a ++ (10 ∷ [])
 
--- The line of such an access, and anything behind it.
+-- A text that begins with the line of an access that a line can ask for has that line at its front, as long as it is.
 pub good-front : (a : Access) (v : List ℕ) → Sayable a → front-line (whole a ++ v) ≡ Good a (length (whole a))
 good-front a v h =
     ap front-line (append-assoc (line-text a) (10 ∷ []) v) ∙
@@ -26,7 +26,7 @@ good-front a v h =
     ap (with-length (length (line-text a) + 1)) (says-it a h) ∙
     ap (Good a) (sym (length-append (line-text a) (10 ∷ [])))
 
--- A text that begins with a line that asks for a, n bytes long.
+-- a text that begins with a line that asks for a, n bytes long
 pub record Begins (t : List ℕ) (a : Access) (n : ℕ) : Type 0 where
   pub is : t ≡ whole a ++ drop n t
   pub says : Sayable a
@@ -34,6 +34,8 @@ pub record Begins (t : List ℕ) (a : Access) (n : ℕ) : Type 0 where
   pub some : 1 ≤ n
   pub all : n ≤ length t
 
+-- A text with a good line at its front begins with the line of that access, which a line can ask for; it has one byte or more, and lies in
+-- the text.
 pub begins : (t : List ℕ) {a : Access} {n : ℕ} → front-line t ≡ Good a n → Begins t a n
 begins t {a} {n} e =
     let g = subst (Fronts t) e (fronts t) in

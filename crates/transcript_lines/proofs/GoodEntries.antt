@@ -8,7 +8,7 @@ use Rattle.transcript_spec.specs.declared.Entry.{Entry}
 use Rattle.transcript_lines.specs.Lines.{unsayable, AllHaveLines}
 use Rattle.transcript_lines.proofs.Sayable.{sayable-when}
 
--- A line can say a good entry.
+-- Every entry that a transcript holds has a line: a line can say a good entry.
 pub good-sayable : (e : Entry) → Good e → unsayable e ≡ false
 good-sayable e g =
     sayable-when e .1
@@ -20,7 +20,7 @@ good-sayable e g =
       of-read = g .read;
     })
 
--- So with all of a list.
+-- A line can say each of a list of good entries.
 pub all-sayable : (es : List Entry) → AllGood es → AllHaveLines es
 all-sayable [] g = tt
 all-sayable (e ∷ es) g = (good-sayable e (g .0), all-sayable es (g .1))

@@ -1,4 +1,4 @@
--- what the definitions mean
+-- ---- what the definitions mean
 pub mod Sayable
 pub mod GoodEntries
 pub mod TakenLines
@@ -9,7 +9,7 @@ pub mod Promised
 pub mod ThereAndBack
 pub mod Examples
 pub mod One
--- what the functions' proofs rest on
+-- ---- what the functions' proofs rest on
 pub mod FirstLine
 pub mod LineAfterLine
 pub mod Turns

@@ -37,7 +37,7 @@ enough (suc n) zero (b ∷ t) h k = absurd (omega (arith, k))
 enough (suc n) (suc m) t h k =
     same-front (takes n) (takes m) t (λ u l. enough n m u (omega (arith, l, h)) (omega (arith, l, k)))
 
--- The first line, and then the others.
+-- What is taken of a text is its first line, if it is good, and then what is taken of the others.
 pub first-taken : (t : List ℕ) → taking t ≡ by-front taking t (front-line t)
 unfolding takes front-line has-feed
 first-taken [] = refl
@@ -54,7 +54,7 @@ is-good (Good a n) = true
 is-good Bad = false
 is-good Open = false
 
--- Where it is not, nothing is taken.
+-- Where the front is no good line, nothing is taken.
 pub nothing-taken : (t : List ℕ) → is-good (front-line t) ≡ false → taking t ≡ nothing t
 nothing-taken t h = first-taken t ∙ go (front-line t) h
   where

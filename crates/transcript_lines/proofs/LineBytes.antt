@@ -12,12 +12,12 @@ use Rattle.transcript_spec.specs.declared.Entry.{Entry}
 use Rattle.transcript_lines.specs.Lines.{access-of, line}
 use Rattle.transcript_lines.specs.Parts.{head-text, word-text}
 
--- A read's line is its six first bytes,
+-- A read's line is its six first bytes.
 pub read-line : (e : Entry) → e .kind ≡ 0 → line e ≡ head-text 82 (e .register) (e .lanes) 10
 unfolding access-of
 read-line e z = rw (eq-eqb (e .kind) 0 z) refl
 
--- and a write's has its word behind them.
+-- A write's line is its six first bytes, and then its word.
 pub write-line : (e : Entry) → e .kind ≢ 0 → line e ≡ head-text 87 (e .register) (e .lanes) 32 ++ word-text (e .word)
 unfolding access-of
 write-line e z = rw (ne-eqb (e .kind) 0 z) refl

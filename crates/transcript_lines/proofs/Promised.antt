@@ -41,7 +41,8 @@ use Rattle.transcript_lines.proofs.taking.take_lines.Reads as take-line
 
 -- ---- taking lines
 module _ {t : List ℕ} {l l′ : Lists} {o : LinesTaken} (p : TookLines t l o l′) where
-  -- It answers so exactly if: all lines are good and have places, all are good and there are too many, or a line is bad.
+  -- The answer of `take_lines` is a, in numbers, exactly if a's row of `TookAs` holds: all lines are good and have places, all are good and
+  -- have none (24), or a line is bad (27, with the good lines before it).
   pub take-exactly : (a : Transcribed) → taken-numbers o ≡ a ↔ TookAs t (size l) a
   take-exactly a =
       let k = takes-exactly t (size l) a in
@@ -51,7 +52,7 @@ module _ {t : List ℕ} {l l′ : Lists} {o : LinesTaken} (p : TookLines t l o l
   unfolding lists-after
   lists-left = p .lists ∙ ap (λ (x : LinesTaken). cond (is-taken x) (with-entries (taking t .entries) l) l) (sym (p .answer))
 
-  -- With another number than 0 it counts nothing, and leaves every place of the four lists.
+  -- With another number than 0 `take_lines` counts nothing, and leaves every place of the four lists.
   pub take-refused : taken-numbers o .number ≢ 0 → (taken-numbers o .count ≡ 0) × (l′ ≡ l)
   take-refused = go o lists-left
     where
@@ -65,7 +66,7 @@ module _ {t : List ℕ} {l l′ : Lists} {o : LinesTaken} (p : TookLines t l o l
   pub lists-filled : {n : ℕ} → o ≡ Taken n → l′ ≡ with-entries (taking t .entries) l
   lists-filled e = lists-left ∙ ap (λ (x : LinesTaken). cond (is-taken x) (with-entries (taking t .entries) l) l) e
 
-  -- With 0 the text is lines of entries, which stand in the lists' first places; the later ones are as they were.
+  -- With 0 the text is lines of entries, which are counted and stand in the lists' first places; the later ones are as they were.
   pub take-done : taken-numbers o .number ≡ 0 → TookAll t l (taken-numbers o) l′
   take-done = go o refl
     where
@@ -93,7 +94,7 @@ module _ {t : List ℕ} {l l′ : Lists} {o : LinesTaken} (p : TookLines t l o l
       go (BadLine n) e z = absurd (omega (arith, z))
       go NoPlaces e z = absurd (omega (arith, z))
 
-  -- Whatever it answers, each list is as long as it was.
+  -- Whatever `take_lines` answers, each list is as long as it was.
   pub take-lengths : SameLengths l l′
   take-lengths = go o refl
     where
@@ -113,7 +114,8 @@ module _ {l : Lists} {out out′ : List ℕ} {o : LinesPut} (p : PutLines l out 
   abbrev entries : List Entry
   entries = entries-in l
 
-  -- It answers so exactly if: a line can say each entry and the lines fit, they do not fit, or no line can say an entry.
+  -- The answer of `put_lines` is a, in numbers, exactly if a's row of `PutAs` holds: a line can say each entry and they fit, they do not
+  -- (24), or no line can say an entry (22, with its index).
   pub put-exactly : (a : Transcribed) → put-numbers o ≡ a ↔ PutAs entries (length out) a
   put-exactly a =
       let k = puts-exactly entries (length out) a in
@@ -123,7 +125,7 @@ module _ {l : Lists} {out out′ : List ℕ} {o : LinesPut} (p : PutLines l out 
   unfolding text-after
   text-left = p .text ∙ ap (λ (x : LinesPut). cond (is-written x) (over (text-of entries) out) out) (sym (p .answer))
 
-  -- With another number than 0 it counts nothing, and leaves every byte.
+  -- With another number than 0 `put_lines` counts nothing, and leaves every byte.
   pub put-refused : put-numbers o .number ≢ 0 → (put-numbers o .count ≡ 0) × (out′ ≡ out)
   put-refused = go o text-left
     where
@@ -137,7 +139,8 @@ module _ {l : Lists} {out out′ : List ℕ} {o : LinesPut} (p : PutLines l out 
   pub text-filled : {n : ℕ} → o ≡ Written n → out′ ≡ over (text-of entries) out
   text-filled e = text-left ∙ ap (λ (x : LinesPut). cond (is-written x) (over (text-of entries) out) out) e
 
-  -- With 0 the lines of the entries stand in the first bytes, and the later ones are as they were.
+  -- With 0 a line can say each entry; the bytes of the lines are counted, these stand in the first bytes, and the later ones are as they
+  -- were.
   pub put-done : put-numbers o .number ≡ 0 → PutAll l out (put-numbers o) out′
   put-done = go o refl
     where
@@ -162,7 +165,7 @@ module _ {l : Lists} {out out′ : List ℕ} {o : LinesPut} (p : PutLines l out 
       go (Unsayable k) e z = absurd (omega (arith, z))
       go NoBytes e z = absurd (omega (arith, z))
 
-  -- Whatever it answers, there are as many bytes as there were.
+  -- Whatever `put_lines` answers, there are as many bytes as there were.
   pub put-length : length out′ ≡ length out
   put-length = go o refl
     where
@@ -174,21 +177,21 @@ module _ {l : Lists} {out out′ : List ℕ} {o : LinesPut} (p : PutLines l out 
       go NoBytes e = ap length (put-refused (λ z. omega (arith, z, ap (λ (y : LinesPut). put-numbers y .number) e)) .1)
 
 -- ---- the contracts themselves: each is a statement on the call's own arguments
--- `entry_of`: a.
+-- `entry_of` takes any a, and all that its contract allows is `entry-of` of it.
 pub entry-of-contract : Contract entry-of-kinds.ps entry-of-kinds.r entry-of.Pre entry-of.Post
     (λ κs args e left.
     let a = args .0 in
     e ≡ entry-of a)
 entry-of-contract = record { takes-any = λ κs args. tt; says = λ κs args e left p. p }
 
--- `line_size`: e.
+-- `line_size` takes any e, and all that its contract allows is the length of its `line`.
 pub line-size-contract : Contract line-size-kinds.ps line-size-kinds.r line-size.Pre line-size.Post
     (λ κs args r left.
     let e = args .0 in
     r ≡ length (line e))
 line-size-contract = record { takes-any = λ κs args. tt; says = λ κs args r left p. p }
 
--- `put_lines`: kinds, registers, lanes, words, text.
+-- `put_lines` takes any kinds, registers, lanes, words and text, and all that its contract allows is `PutLines` of them.
 pub put-lines-contract : Contract put-lines-kinds.ps put-lines-kinds.r put-lines.Pre put-lines.Post
     (λ κs args o left.
     let kinds = args .0 in
@@ -200,7 +203,7 @@ pub put-lines-contract : Contract put-lines-kinds.ps put-lines-kinds.r put-lines
     PutLines (lists (kinds .now) (registers .now) (lanes .now) (words .now)) (text .now) o (text′ .now))
 put-lines-contract = record { takes-any = λ κs args. tt; says = λ κs args o left p. p }
 
--- `judge_lines`: text, room.
+-- `judge_lines` takes any text and room, and all that its contract allows is `take-answer` of them.
 pub judge-lines-contract : Contract judge-lines-kinds.ps judge-lines-kinds.r judge-lines.Pre judge-lines.Post
     (λ κs args o left.
     let text = args .0 in
@@ -208,7 +211,7 @@ pub judge-lines-contract : Contract judge-lines-kinds.ps judge-lines-kinds.r jud
     o ≡ take-answer (text .now) room)
 judge-lines-contract = record { takes-any = λ κs args. tt; says = λ κs args o left p. p }
 
--- `take_lines`: text, kinds, registers, lanes, words.
+-- `take_lines` takes any text, kinds, registers, lanes and words, and all that its contract allows is `TookLines` of them.
 pub take-lines-contract : Contract take-lines-kinds.ps take-lines-kinds.r take-lines.Pre take-lines.Post
     (λ κs args o left.
     let text = args .0 in

@@ -34,19 +34,20 @@ module _ (t : List ℕ) (l : Lists) {room : ℕ} {o : LinesTaken} (r : room ≡ 
   take-is : o ≡ take-answer t (size l)
   take-is = a ∙ ap (take-answer t) r
 
+  -- With a bad line, or too few places, `take_lines` leaves the lists as they were.
   pub refused-take : (tagOf taken-type o ≡ 1) ⊎ (tagOf taken-type o ≡ 2) → TookLines t l o l
   unfolding lists-after
   refused-take k = record { answer = take-is; lists = rw (sym take-is, not-taken o k) refl }
 
   module _ {n : ℕ} (e : o ≡ Taken n) where
-    -- The entries have places,
+    -- Where `take_lines` is done, the entries of the lines have places.
     pub taken-room : length (taking t .entries) ≤ size l
     taken-room =
         let m = take-answers t (size l) (Taken n) .0 (sym take-is ∙ e) in
         let all = ap (λ (x : Taking). length (x .entries)) (then-taken (m .0) nothing-there) in
         omega (arith, all, m .0 .count, m .1)
 
-    -- and take them.
+    -- Where it is done and these entries take the lists' first places, what it leaves is as its contract says.
     pub done-take : {l′ : Lists} → l′ ≡ with-entries (taking t .entries) l → TookLines t l o l′
     unfolding lists-after
     done-take p = record { answer = take-is; lists = rw (sym take-is, ap is-taken e) p }
@@ -65,18 +66,19 @@ module _ (l : Lists) (out : List ℕ) {done o : LinesPut} (f : done ≡ written-
   unfolding put-answer
   put-is = a ∙ ap (first-unsayable 0 (entries-in l)) f
 
+  -- Where no line can say an entry, or the lines do not fit, `put_lines` leaves the bytes as they were.
   pub refused-put : (tagOf put-type o ≡ 1) ⊎ (tagOf put-type o ≡ 2) → PutLines l out o out
   unfolding text-after
   refused-put k = record { answer = put-is; text = rw (sym put-is, not-written o k) refl }
 
   module _ {n : ℕ} (e : o ≡ Written n) where
-    -- The lines can be said and have room,
+    -- Where `put_lines` is done, a line can say each entry, and the lines have room.
     pub written-room : AllHaveLines (entries-in l) × (length (text-of (entries-in l)) ≤ length out)
     written-room =
         let m = put-answers (entries-in l) (length out) (Written n) .0 (sym put-is ∙ e) in
         (m .0, omega (arith, m .1, m .2))
 
-    -- and stand there.
+    -- Where it is done and these lines take the first bytes, what it leaves is as its contract says.
     pub done-put : {out′ : List ℕ} → out′ ≡ over (text-of (entries-in l)) out → PutLines l out o out′
     unfolding text-after
     done-put p = record { answer = put-is; text = rw (sym put-is, ap is-written e) p }

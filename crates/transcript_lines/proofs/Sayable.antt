@@ -29,7 +29,8 @@ of-read-test k w h = go (either-way (eqb k 0))
     go (inl e) = rw (e, eq-eqb w 0 (h (eqb-true k 0 e))) refl
     go (inr e) = rw e refl
 
--- A line can say an entry exactly if it has all this.
+-- A line can say an entry exactly if its kind is 0 or 1, its register and its lanes have one digit, and its word 16 bits, and is 0 for a
+-- read.
 pub sayable-when : (e : Entry) → unsayable e ≡ false ↔ HasLine e
 unfolding unsayable no-record
 sayable-when e = (to, from)
@@ -61,7 +62,7 @@ sayable-when e = (to, from)
         )
         refl
 
--- And none can exactly if it has not.
+-- No line can say an entry exactly if it has not all this.
 pub unsayable-when : (e : Entry) → unsayable e ≡ true ↔ (HasLine e → ⊥)
 unsayable-when e = (λ h s. true≢false (sym h ∙ sayable-when e .1 s), go (either-way (unsayable e)))
   where
@@ -98,7 +99,7 @@ same-entry e k w p q =
     ap (λ (n : ℕ). record { kind = n; register = e .register; lanes = e .lanes; word = w }) (sym p) ∙
     ap (λ (n : ℕ). record { kind = e .kind; register = e .register; lanes = e .lanes; word = n }) (sym q)
 
--- And back.
+-- An entry that a line can say is that of its access, and a line can ask for this access.
 pub said-entry : (e : Entry) → unsayable e ≡ false → Sayable (access-of e) × (entry-of (access-of e) ≡ e)
 unfolding access-of
 said-entry e h = go (sayable-when e .0 h) (either-way (eqb (e .kind) 0))

@@ -28,7 +28,7 @@ TakeMeans t room NoPlaces = (n : ℕ) × LinesThen t n [] × (room < n)
 
 -- ---- what is so is answered
 
--- Such lines are what is taken.
+-- Where a text is lines of entries, and then what begins with no good line, these entries are taken, and this is left.
 pub then-taken : {t : List ℕ} {n : ℕ} {left : List ℕ} (g : LinesThen t n left) → NoGoodLine left →
     taking t ≡ record { entries = g .entries; left = left }
 then-taken {t} {n} {left} g bad =
@@ -85,7 +85,8 @@ is-so t room =
           bad = text-taken t .stops;
         })
 
--- An answer is given exactly if what it says is so.
+-- Each case of the answer is given exactly if it is so: all lines are good and have places, all are good and there are too many, or a line
+-- is bad, behind so many good ones (`TakeMeans`).
 pub take-answers : (t : List ℕ) (room : ℕ) (o : LinesTaken) → take-answer t room ≡ o ↔ TakeMeans t room o
 take-answers t room o = (λ e. subst (TakeMeans t room) e (is-so t room), answered t room o)
 
@@ -100,12 +101,12 @@ took-says t room _ (plain.TookAs.done {n} g h) = ap taken-numbers (take-answers 
 took-says t room _ (plain.TookAs.no-places {n} g h) = ap taken-numbers (take-answers t room NoPlaces .1 (n, g, h))
 took-says t room _ (plain.TookAs.bad-line {n} b) = ap taken-numbers (take-answers t room (BadLine n) .1 b)
 
--- The numbers of the answer are these exactly if what they say is so.
+-- The numbers of the answer are a exactly if a's row of `TookAs` holds.
 pub takes-exactly : (t : List ℕ) (room : ℕ) (a : Transcribed) → taken-numbers (take-answer t room) ≡ a ↔ TookAs t room a
 takes-exactly t room a =
     (λ e. subst (TookAs t room) e (took-as t room (take-answer t room) (is-so t room)), took-says t room a)
 
--- They are 0, 24 or 27.
+-- The number of the answer is 0, 24 or 27.
 pub take-number : (o : LinesTaken) → let n = taken-numbers o .number in (n ≡ 0) ⊎ ((n ≡ 24) ⊎ (n ≡ 27))
 take-number (Taken n) = inl refl
 take-number (BadLine n) = inr (inr refl)

@@ -26,7 +26,7 @@ behind es x = record { entries = es ++ x .entries; left = x .left }
 
 -- ---- the lines of entries, taken
 
--- One line, and what is behind it.
+-- The line of an entry in front of a text is taken as this entry, and then what is taken of the text.
 pub line-taken : (e : Entry) (v : List ℕ) → unsayable e ≡ false → taking (line e ++ v) ≡ more e (taking v)
 line-taken e v h =
     let s = said-entry e h in
@@ -34,7 +34,7 @@ line-taken e v h =
     ap (λ (x : Entry). more x (taking (drop (length (line e)) (line e ++ v)))) (s .1) ∙
     ap (λ (u : List ℕ). more e (taking u)) (drop-at (line e) v (length (line e)) refl)
 
--- Any number of them.
+-- The lines of entries in front of a text are taken as these entries, and then what is taken of the text.
 pub lines-taken : (es : List Entry) (v : List ℕ) → AllHaveLines es → taking (text-of es ++ v) ≡ behind es (taking v)
 unfolding lines-of
 lines-taken [] v h = refl
@@ -43,7 +43,7 @@ lines-taken (e ∷ rest) v h =
     line-taken e (text-of rest ++ v) (h .0) ∙
     ap (more e) (lines-taken rest v (h .1))
 
--- The lines of entries, taken, give these entries, and nothing is left.
+-- The lines of entries are taken as these entries, and nothing is left.
 pub taken-back : (es : List Entry) → AllHaveLines es → taking (text-of es) ≡ record { entries = es; left = [] }
 unfolding takes
 taken-back es h =
@@ -65,11 +65,12 @@ none-front t h = go (front-line t) refl
     go Bad e = refl
     go Open e = refl
 
+-- A text whose front is found to be no good line begins with no line that says an entry.
 pub front-none : (t : List ℕ) → is-good (front-line t) ≡ false → NoGoodLine t
 front-none t h e v s is =
     true≢false (sym (ap is-good (ap front-line is ∙ good-front (access-of e) v (said-entry e s .0))) ∙ h)
 
--- The empty text begins with none.
+-- The empty text begins with no good line.
 pub nothing-there : NoGoodLine []
 unfolding front-line has-feed
 nothing-there = front-none [] refl
@@ -109,11 +110,11 @@ text-by zero [] h = stopped [] refl
 text-by zero (b ∷ t) h = absurd (omega (arith, h))
 text-by (suc n) t h = by-line (takes n) t (λ u l. text-by n u (omega (arith, l, h)))
 
--- What is taken of a text is so.
+-- Every text is the lines of the entries that are taken, and then what is left, which begins with no good line.
 pub text-taken : (t : List ℕ) → TextOf t (taking t)
 text-taken t = text-by (length t) t (omega arith)
 
--- And nothing else is so.
+-- A text is lines of entries, and then what begins with no good line, in one way only: as it is taken.
 pub only-taken : (t : List ℕ) (x : Taking) → TextOf t x → taking t ≡ x
 only-taken t x h =
     ap taking (h .is) ∙

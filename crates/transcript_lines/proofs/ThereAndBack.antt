@@ -24,14 +24,14 @@ use Rattle.transcript_lines.proofs.PutAnswers.{put-answers}
 
 -- ---- entries that were put
 
--- The bytes that were written are the lines of the list.
+-- The bytes that `put_lines` wrote are the lines of the list.
 pub put-text : {l : Lists} {out out′ : List ℕ} {n : ℕ} → PutLines l out (Written n) out′ → take n out′ ≡ text-of (entries-in l)
 put-text {l} {out} {out′} {n} p =
     let es = entries-in l in
     let m = put-answers es (length out) (Written n) .0 (sym (p .answer)) in
     ap (take n) (text-filled p refl) ∙ take-at (text-of es) (drop (length (text-of es)) out) n (sym (m .1))
 
--- Taken again, they are the list.
+-- Entries that were put as lines, taken again into lists that have places for them, are the list.
 pub take-after-put : {l k k′ : Lists} {out out′ : List ℕ} {n : ℕ} {o : LinesTaken} →
     PutLines l out (Written n) out′ → TookLines (take n out′) k o k′ → size l ≤ size k →
     (o ≡ Taken (size l)) × (k′ ≡ with-entries (entries-in l) k)
@@ -54,7 +54,7 @@ first-entries es l e =
     ap entries-in (first-are-columns es l) ∙
     entries-columns es
 
--- The first places of the lists that were filled hold what was taken of the text, and they are there.
+-- The first places of the lists that `take_lines` filled, which are there, hold what was taken of the text.
 pub took-entries : {t : List ℕ} {l l′ : Lists} {n : ℕ} → TookLines t l (Taken n) l′ →
     (n ≤ size l) × (entries-in (first-places n l′) ≡ taking t .entries)
 took-entries {t} {l} {l′} {n} p =
@@ -63,7 +63,7 @@ took-entries {t} {l} {l′} {n} p =
     let count : length (taking t .entries) ≡ n = ap (λ (x : Taking). length (x .entries)) all ∙ m .0 .count in
     (m .1, ap (λ (k : Lists). entries-in (first-places n k)) (lists-filled p refl) ∙ first-entries (taking t .entries) l count)
 
--- Lines can say these entries, and are the text.
+-- Lines can say these entries, and their lines are the text.
 pub took-text : {t : List ℕ} {l l′ : Lists} {n : ℕ} → TookLines t l (Taken n) l′ →
     AllHaveLines (entries-in (first-places n l′)) × (text-of (entries-in (first-places n l′)) ≡ t)
 took-text {t} {l} {l′} {n} p =
@@ -73,7 +73,7 @@ took-text {t} {l} {l′} {n} p =
     took-entries p .1 ∙ ap (λ (x : Taking). x .entries) (then-taken (m .0) nothing-there) in
     (subst AllHaveLines (sym same) (m .0 .says), ap text-of same ∙ sym (m .0 .is ∙ append-nil (text-of es)))
 
--- Put again, they are the text.
+-- Lines that were taken, put again into bytes that have room for them, are the text.
 pub put-after-take : {t : List ℕ} {l l′ : Lists} {n : ℕ} {out out′ : List ℕ} {o : LinesPut} →
     TookLines t l (Taken n) l′ → PutLines (first-places n l′) out o out′ → length t ≤ length out →
     (o ≡ Written (length t)) × (out′ ≡ over t out)

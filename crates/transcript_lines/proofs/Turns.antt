@@ -33,7 +33,7 @@ other-front (Good a n) (inr e) = absurd (omega (arith, e))
 other-front Bad e = refl
 other-front Open e = refl
 
--- So many lines are taken, of so many bytes: what is taken of the whole text is their entries, and then what is taken of the rest.
+-- so many lines are taken, of so many bytes: what is taken of the whole text is their entries, and then what is taken of the rest
 pub record Come (t : List ℕ) (used lines : ℕ) : Type 0 where
   pub got : List Entry
   pub come : taking t ≡ behind got (taking (drop used t))
@@ -45,7 +45,7 @@ unfoldable pub at-start : (t : List ℕ) → Come t 0 0
 at-start t = record { got = []; come = refl; count = refl; few = omega arith; most = omega arith }
 
 module _ {t : List ℕ} {used lines : ℕ} (k : Come t used lines) where
-  -- These entries are among all.
+  -- The entries taken so far are no more than those of the whole text.
   pub among : length (k .got) ≤ length (taking t .entries)
   among =
       let all = ap (λ (x : Taking). length (x .entries)) (k .come) ∙ length-append (k .got) (taking (drop used t) .entries) in
@@ -53,10 +53,11 @@ module _ {t : List ℕ} {used lines : ℕ} (k : Come t used lines) where
 
   -- x: the line that the rest begins with, as it is lent
   module _ {x : Front} (lent : x ≡ front-line (take (length t - used) (drop used t))) where
+    -- The line that the rest of a text begins with is the front of the bytes that are lent.
     pub front : front-line (drop used t) ≡ x
     front = part-front t used lent
 
-    -- A good line lies in the text.
+    -- A good line has one byte or more, and lies in the text.
     pub good-lies : {a : Access} {n : ℕ} → x ≡ Good a n → (1 ≤ n) × (used + n ≤ length t)
     good-lies e =
         let b = begins (drop used t) (front ∙ e) in
@@ -81,14 +82,14 @@ module _ {t : List ℕ} {used lines : ℕ} (k : Come t used lines) where
           most = lies .1;
         }
 
-    -- Where no good line follows, these entries are all.
+    -- Where no good line follows, the entries taken so far are all.
     pub no-more : NotGood x → taking t ≡ record { entries = k .got; left = drop used t }
     no-more tag =
         k .come ∙
         ap (behind (k .got)) (nothing-taken (drop used t) (ap is-good front ∙ other-front x tag)) ∙
         ap (λ (l : List Entry). record { entries = l; left = drop used t }) (append-nil (k .got))
 
-    -- A bad line, or a last one without its line feed, ends the judging;
+    -- Where no good line follows before the text's end, a bad line is answered, behind so many good ones.
     pub ends-bad : (room : ℕ) → used < length t → NotGood x → BadLine lines ≡ take-answer t room
     unfolding take-answer
     ends-bad room h tag =
@@ -96,7 +97,7 @@ module _ {t : List ℕ} {used lines : ℕ} (k : Come t used lines) where
         ap BadLine (k .count) ∙
         sym (ap (λ (y : Taking). taking-judged y room) (no-more tag) ∙ rw (ne-eqb (length (drop used t)) 0 some) refl)
 
-  -- so does the text's end.
+  -- At the text's end the answer is that of a text whose lines are all good, by the places for their entries.
   pub ends-even : (room : ℕ) → length t ≤ used → taken-if-fits lines room ≡ take-answer t room
   unfolding take-answer takes
   ends-even room h =

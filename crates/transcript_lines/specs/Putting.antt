@@ -1,4 +1,4 @@
--- The entries of a list, put as the lines of a text.
+-- The entries of a list, put as the lines of a text (ours).
 --   first-unsayable k es done   the answer to the first one of the entries es that no line can say, the first of them having index k;
 --                               `done` where a line can say each
 --   written-if-fits n room      that answer: n bytes, and room for so many

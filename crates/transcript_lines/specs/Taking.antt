@@ -1,4 +1,4 @@
--- The lines of a text, taken into lists.
+-- The lines of a text, taken into lists (ours).
 --   Taking               what is taken of a text: the entries of its good lines, up to the first bad one, and the text that is left
 --   nothing, more        nothing is taken; one entry more, the first
 --   by-front             what is taken of a text that begins so, by what is taken of the rest

@@ -13,7 +13,7 @@ use Rattle.transcript_lists.proofs.put_entry.Reads as put-entry
 use Rattle.transcript_lists.proofs.has_no_record.Kinds as has-no-record-kinds
 use Rattle.transcript_lists.proofs.has_no_record.Reads as has-no-record
 
--- `shortest`: kinds, registers, lanes, words.
+-- `shortest` takes any kinds, registers, lanes and words, and all that its contract allows is the least of the four (`min`).
 pub shortest-contract : Contract shortest-kinds.ps shortest-kinds.r shortest.Pre shortest.Post
     (λ κs args n left.
     let kinds = args .0 in
@@ -23,7 +23,7 @@ pub shortest-contract : Contract shortest-kinds.ps shortest-kinds.r shortest.Pre
     n ≡ min (min kinds registers) (min lanes words))
 shortest-contract = record { takes-any = λ κs args. tt; says = λ κs args n left p. p }
 
--- `entry_at`: kinds, registers, lanes, words, i.
+-- `entry_at` takes any kinds, registers, lanes, words and i, and all that its contract allows is `entry-at` of them.
 pub entry-at-contract : Contract entry-at-kinds.ps entry-at-kinds.r entry-at.Pre entry-at.Post
     (λ κs args e left.
     let kinds = args .0 in
@@ -34,7 +34,8 @@ pub entry-at-contract : Contract entry-at-kinds.ps entry-at-kinds.r entry-at.Pre
     e ≡ entry-at (lists (kinds .now) (registers .now) (lanes .now) (words .now)) i)
 entry-at-contract = record { takes-any = λ κs args. tt; says = λ κs args e left p. p }
 
--- `put_entry`: kinds, registers, lanes, words, i, e.
+-- `put_entry` takes any kinds, registers, lanes, words, i and e, and all that its contract allows is that the four lists are left as
+-- `with-entry` of them.
 pub put-entry-contract : Contract put-entry-kinds.ps put-entry-kinds.r put-entry.Pre put-entry.Post
     (λ κs args unit left.
     let kinds = args .0 in
@@ -51,7 +52,7 @@ pub put-entry-contract : Contract put-entry-kinds.ps put-entry-kinds.r put-entry
     with-entry (lists (kinds .now) (registers .now) (lanes .now) (words .now)) i e)
 put-entry-contract = record { takes-any = λ κs args. tt; says = λ κs args unit left p. p }
 
--- `has_no_record`: e.
+-- `has_no_record` takes any e, and all that its contract allows is `no-record` of it.
 pub has-no-record-contract : Contract has-no-record-kinds.ps has-no-record-kinds.r has-no-record.Pre has-no-record.Post
     (λ κs args r left.
     let e = args .0 in

@@ -39,6 +39,7 @@ module _ {p₀ : Part} {s : List ℕ} {p : Part} {entries place i : ℕ} (k : Co
         few = omega arith;
       }
 
-  -- It is bad: nothing more is read.
+  -- Where a byte shows the record to be bad, nothing more is read: the entries so far, the place where that record begins, and its refusal
+  -- are what the whole string gives.
   pub stopped : {n : ℕ} → byte-taken p (getD s i 0) ≡ Bad n → read-on p₀ s ≡ at (k .got) place (i + 1) fresh n
   stopped b = at-refusal (one-more (k .here) more b) (bad-has-number p (getD s i 0) b)

@@ -7,6 +7,7 @@ use Rattle.transcript_spec.specs.Reading.{none, fresh, with-group, head-read, w
 use Rattle.transcript_spec.specs.declared.Part.the-variants.{Head, Word}
 use Rattle.transcript_scan.specs.Scan.{scanned, scanned-on}
 
+-- what is found in some short strings, from a fresh start or from a part of a record on
 pub record Finds : Type 0 where
   pub nothing : scanned [] ≡ record { entries = 0; place = 0; refusal = 0 }
   pub all-good : scanned (0x1E ∷ 0x1D ∷ 0xA4 ∷ 0x34 ∷ []) ≡ record { entries = 2; place = 4; refusal = 0 }
@@ -21,7 +22,8 @@ pub record Finds : Type 0 where
       scanned-on (Head (record { begun = true; padded = true; value = 0 })) (0x1D ∷ 0x1E ∷ []) ≡
       record { entries = 0; place = 0; next = 1; part = fresh; refusal = 21 }
 
--- It finds this.
+-- In these strings this is found: records of one byte and of three are counted, and a bad one or one that is cut off has its place and its
+-- refusal; in strings that go on with a record, nothing is read behind a bad one.
 pub finds : Finds
 unfolding with-group head-read word-read byte-taken feed feeds
 finds = record { nothing = refl; all-good = refl; bad = refl; cut-off = refl; goes-on = refl; bad-from-before = refl }

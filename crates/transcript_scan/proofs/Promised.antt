@@ -17,7 +17,8 @@ use Rattle.transcript_scan.proofs.steps.take_byte.Reads as take-byte
 use Rattle.transcript_scan.proofs.steps.cut_off.Kinds as cut-off-kinds
 use Rattle.transcript_scan.proofs.steps.cut_off.Reads as cut-off
 
--- `fill_on`: begun, bytes, kinds, registers, lanes, words.
+-- `fill_on` takes any begun, bytes, kinds, registers, lanes and words, and all that its contract allows is that the entries of `read-on`
+-- are put into the four lists, one after the other (`with-each`).
 pub fill-on-contract : Contract fill-on-kinds.ps fill-on-kinds.r fill-on.Pre fill-on.Post
     (λ κs args unit left.
     let begun = args .0 in
@@ -34,7 +35,7 @@ pub fill-on-contract : Contract fill-on-kinds.ps fill-on-kinds.r fill-on.Pre fil
     with-each (lists (kinds .now) (registers .now) (lanes .now) (words .now)) 0 (read-on begun (bytes .now) .got))
 fill-on-contract = record { takes-any = λ κs args. tt; says = λ κs args unit left p. p }
 
--- `scan_on`: begun, bytes.
+-- `scan_on` takes any begun and bytes, and all that its contract allows is `scanned-on` of them.
 pub scan-on-contract : Contract scan-on-kinds.ps scan-on-kinds.r scan-on.Pre scan-on.Post
     (λ κs args r left.
     let begun = args .0 in
@@ -42,20 +43,20 @@ pub scan-on-contract : Contract scan-on-kinds.ps scan-on-kinds.r scan-on.Pre sca
     r ≡ scanned-on begun (bytes .now))
 scan-on-contract = record { takes-any = λ κs args. tt; says = λ κs args r left p. p }
 
--- `scan`: bytes.
+-- `scan` takes any bytes, and all that its contract allows is `scanned` of them.
 pub scan-contract : Contract scan-kinds.ps scan-kinds.r scan.Pre scan.Post
     (λ κs args r left.
     let bytes = args .0 in
     r ≡ scanned (bytes .now))
 scan-contract = record { takes-any = λ κs args. tt; says = λ κs args r left p. p }
 
--- `fresh_part`: nothing.
+-- `fresh_part` takes nothing, and all that its contract allows is `fresh`.
 pub fresh-part-contract : Contract fresh-part-kinds.ps fresh-part-kinds.r fresh-part.Pre fresh-part.Post
     (λ κs args r left.
     r ≡ fresh)
 fresh-part-contract = record { takes-any = λ κs args. tt; says = λ κs args r left p. p }
 
--- `take_byte`: p, b.
+-- `take_byte` takes any p and b, and all that its contract allows is `byte-taken` of them.
 pub take-byte-contract : Contract take-byte-kinds.ps take-byte-kinds.r take-byte.Pre take-byte.Post
     (λ κs args r left.
     let p = args .0 in
@@ -63,7 +64,7 @@ pub take-byte-contract : Contract take-byte-kinds.ps take-byte-kinds.r take-byte
     r ≡ byte-taken p b)
 take-byte-contract = record { takes-any = λ κs args. tt; says = λ κs args r left p. p }
 
--- `cut_off`: p.
+-- `cut_off` takes any p, and all that its contract allows is `cut-off` of it.
 pub cut-off-contract : Contract cut-off-kinds.ps cut-off-kinds.r cut-off.Pre cut-off.Post
     (λ κs args r left.
     let p = args .0 in

@@ -1,8 +1,8 @@
 -- What is found in a string, from its start to its first bad record: document 02, requests (ii), (vii) and (xii).
---   read-on p s      the string s read on from the part p of a record, by itself: with no entries before it, and places counted from its start
---   scanned-on p s   how many good records it finishes, where the record begins that is read last, how many bytes are read, the part of that
---                    record, its refusal or 0
---   scanned s        of a whole string: how many good records there are, where the first bad one begins or else the string ends, its refusal or 0
+--   read-on p s      the string s read on from the part p of a record, by itself: no entries before it, and places counted from its start
+--   scanned-on p s   how many good records it finishes, where the record begins that is read last, how many bytes are read, the part of
+--                    that record, its refusal or 0
+--   scanned s        of a whole string: how many good records it has, where the first bad one begins or else it ends, its refusal or 0
 use Prim.Native.Nat.{ℕ}
 use mathlib.Core.List.{List, []}
 use lib.ListN.{length}

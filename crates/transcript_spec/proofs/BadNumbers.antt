@@ -45,11 +45,11 @@ unfolding byte-taken
 step-numbered (Head n) b = either-numbered (ltb b 128) _ _ (head-numbered (grown n b)) tt
 step-numbered (Word h n) b = either-numbered (ltb b 128) _ _ (word-numbered h (grown n b)) tt
 
--- The number of a bad record is one of these.
+-- A record that a byte shows to be bad is refused with 21, 22 or 23.
 pub bad-range : (p : Part) (b : ℕ) {n : ℕ} → byte-taken p b ≡ Bad n → (21 ≤ n) × (n ≤ 23)
 bad-range p b e = rw e at (step-numbered p b)
 
--- It is not 0.
+-- A record that a byte shows to be bad is not refused with 0.
 pub bad-has-number : (p : Part) (b : ℕ) {n : ℕ} → byte-taken p b ≡ Bad n → n ≢ 0
 bad-has-number p b e z = let h = bad-range p b e in omega arith
 

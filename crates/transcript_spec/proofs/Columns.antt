@@ -17,7 +17,8 @@ unfolding entries-from
 length-entries l i zero = refl
 length-entries l i (suc n) = ap suc (length-entries l (suc i) n)
 
--- A part of them is that list from there on. Said once for the four: `f` takes the part, and `col` is its list.
+-- A part of some entries is as many places of its list, from there on, where the list has them. Said once for the four: `f` takes the part,
+-- and `col` is its list.
 pub column-is : (l : Lists) (f : Entry → ℕ) (col : List ℕ) → ((i : ℕ) → f (entry-at l i) ≡ getD col i 0) → (i n : ℕ) →
     i + n ≤ length col → map f (entries-from l i n) ≡ take n (drop i col)
 unfolding entries-from
@@ -29,16 +30,19 @@ column-is l f col rule i (suc n) h =
     ∙ sym (ap (take (suc n)) (drop-cons col i 0 k))
 
 module _ (l : Lists) where
-  -- The kinds, registers, lanes and words of a list are its first places.
+  -- The kinds of the entries that four lists hold are the first places of their list, as many as the shortest of the four has.
   pub kinds-in : map (λ (e : Entry). e .kind) (entries-in l) ≡ take (size l) (l .kinds)
   kinds-in = column-is l (λ (e : Entry). e .kind) (l .kinds) (λ i. refl) 0 (size l) (omega arith)
 
+  -- Their registers are the first places of their list, as many as the shortest of the four has.
   pub registers-in : map (λ (e : Entry). e .register) (entries-in l) ≡ take (size l) (l .registers)
   registers-in = column-is l (λ (e : Entry). e .register) (l .registers) (λ i. refl) 0 (size l) (omega arith)
 
+  -- Their lanes are the first places of their list, as many as the shortest of the four has.
   pub lanes-in : map (λ (e : Entry). e .lanes) (entries-in l) ≡ take (size l) (l .lanes)
   lanes-in = column-is l (λ (e : Entry). e .lanes) (l .lanes) (λ i. refl) 0 (size l) (omega arith)
 
+  -- Their words are the first places of their list, as many as the shortest of the four has.
   pub words-in : map (λ (e : Entry). e .word) (entries-in l) ≡ take (size l) (l .words)
   words-in = column-is l (λ (e : Entry). e .word) (l .words) (λ i. refl) 0 (size l) (omega arith)
 
@@ -48,7 +52,7 @@ unfolding entries-from
 shifted e es i zero = refl
 shifted e es i (suc n) = ap (λ (t : List Entry). entry-at (columns es) i ∷ t) (shifted e es (suc i) n)
 
--- There are as many as there are entries,
+-- The four lists of some entries' parts have as many places as there are entries.
 pub size-columns : (es : List Entry) → size (columns es) ≡ length es
 size-columns es =
     let a = length-map es (λ (e : Entry). e .kind) in
@@ -62,7 +66,7 @@ unfolding entries-from
 all-of [] = refl
 all-of (e ∷ es) = ap (λ (t : List Entry). e ∷ t) (shifted e es 0 (length es) ∙ all-of es)
 
--- and they hold these entries.
+-- The four lists of some entries' parts hold these entries.
 pub entries-columns : (es : List Entry) → entries-in (columns es) ≡ es
 entries-columns es = ap (entries-from (columns es) 0) (size-columns es) ∙ all-of es
 
@@ -73,7 +77,7 @@ same-lists p q s t = cc
 front : (f : Entry → ℕ) (es : List Entry) (old : List ℕ) → take (length es) (over (map f es) old) ≡ map f es
 front f es old = take-at (map f es) (drop (length (map f es)) old) (length es) (length-map es f)
 
--- These places hold the entries' parts.
+-- Where entries took the lists' first places, these hold their parts.
 pub first-are-columns : (es : List Entry) (l : Lists) → first-places (length es) (with-entries es l) ≡ columns es
 first-are-columns es l =
     same-lists (front (λ (e : Entry). e .kind) es (l .kinds)) (front (λ (e : Entry). e .register) es (l .registers))
@@ -84,17 +88,17 @@ back f es old =
     drop-at (map f es) (drop (length (map f es)) old) (length es) (length-map es f)
     ∙ ap (λ (n : ℕ). drop n old) (length-map es f)
 
--- The places after them stay.
+-- The places behind those that entries took stay.
 pub later-stay : (es : List Entry) (l : Lists) → later-places (length es) (with-entries es l) ≡ later-places (length es) l
 later-stay es l =
     same-lists (back (λ (e : Entry). e .kind) es (l .kinds)) (back (λ (e : Entry). e .register) es (l .registers))
     (back (λ (e : Entry). e .lanes) es (l .lanes)) (back (λ (e : Entry). e .word) es (l .words))
 
--- The first places of a list hold its entries' parts.
+-- The parts of the entries that four lists hold are the lists' first places, as many as the shortest has.
 pub columns-first : (l : Lists) → columns (entries-in l) ≡ first-places (size l) l
 columns-first l = same-lists (kinds-in l) (registers-in l) (lanes-in l) (words-in l)
 
--- A list has n entries exactly if each of the four has n places.
+-- Four lists have n entries, or more, exactly if each of them has n places, or more.
 pub size-is-shortest : (l : Lists) (n : ℕ) →
     n ≤ size l ↔ (n ≤ length (l .kinds)) × (n ≤ length (l .registers)) × (n ≤ length (l .lanes)) × (n ≤ length (l .words))
 size-is-shortest l n = (λ h. (omega arith, omega arith, omega arith, omega arith), λ h. omega arith)

@@ -14,6 +14,8 @@ use Rattle.transcript_spec.specs.Reading.{entry-said}
 use Rattle.transcript_spec.specs.declared.Entry.{Entry}
 
 -- ---- the number at the front of a string
+
+-- what a string begins with: a number that is cut off, or a whole one
 pub data FrontNumber (s : List ℕ) : Type 0 where
   cut : Continued s → FrontNumber s
   whole : (h rest : List ℕ) → s ≡ h ++ rest → Spelled h → FrontNumber s
@@ -39,6 +41,7 @@ front-number (b ∷ s) =
     (one-byte b s (front-number s))
     (less-or-not b 128)
 
+-- A whole number has at least one byte.
 pub has-a-byte : (h : List ℕ) → Spelled h → 1 ≤ length h
 has-a-byte h p = let e = ap length (p .all) ∙ length-append (p .first) (p .last ∷ []) in omega arith
 
@@ -47,7 +50,7 @@ data FrontRecord (s : List ℕ) : Type 0 where
   good : (r rest : List ℕ) (e : Entry) → s ≡ r ++ rest → 1 ≤ length r → GoodRecord r e → FrontRecord s
   bad : (n : ℕ) → BadRecord s n → FrontRecord s
 
--- A head that is not refused is that of an entry,
+-- The entry of a head from 8 to 31 and a word of at most 65,535, which for a read is 0, is good.
 pub entry-good : (v w : ℕ) → 8 ≤ v → v ≤ 31 → w ≤ 65535 → (v % 2 ≡ 0 → w ≡ 0) → Good (entry-said v w)
 entry-good v w l h k z =
     record { kind = omega arith; register = omega arith; a-lane = omega arith; lanes = omega arith; word = k; read = z }
@@ -59,7 +62,7 @@ entry-head v w h =
     let c : v ≡ v % 2 + 2 * (v / 2) = omega arith in
     omega arith
 
--- and says it.
+-- A number that spells at most 31, with no leading zero group, spells the head of the entry that this is.
 pub says-head : (h : List ℕ) (w : ℕ) → Spelled h → Unpadded h → value-of h ≤ 31 → Spells h (head-of (entry-said (value-of h) w))
 says-head h w p d l = record { spelled = p; unpadded = d; value = sym (entry-head (value-of h) w l) }
 
@@ -120,6 +123,8 @@ front-record b s (cut c) = bad 20 (head-cut c)
 front-record b s (whole h rest e p) = front-head (b ∷ s) h rest e p
 
 -- ---- a whole string
+
+-- a string that is good records, or good records and then a bad one
 pub data Divided (s : List ℕ) : Type 0 where
   all-good : (es : List Entry) → Sound s es → Divided s
   then-bad : (es : List Entry) (t u : List ℕ) (n : ℕ) → s ≡ t ++ u → Sound t es → BadRecord u n → Divided s
@@ -142,7 +147,7 @@ divide zero (b ∷ s) h = absurd (omega arith)
 divide (suc fuel) [] h = all-good [] nothing
 divide (suc fuel) (b ∷ s) h = go-on fuel (λ t k. divide fuel t k) (b ∷ s) h (front-record b s (front-number (b ∷ s)))
 
--- Every string divides.
+-- Every string is good records, or good records and then a bad one.
 pub divided : (s : List ℕ) → Divided s
 divided s = divide (length s) s (omega arith)
 

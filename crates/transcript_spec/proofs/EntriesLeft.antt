@@ -16,14 +16,14 @@ module _ (l : Lists) where
   pub all-left : (n : ℕ) → left n 0 ≡ entries-from l 0 n
   all-left n = ap (entries-from l 0) (sub-zero n)
 
-  -- Entry i, and those behind it.
+  -- As long as there are any, entry i is the first of those that are left from place i on, and the next place's are behind it.
   pub next-left : (n i : ℕ) → i < n → left n i ≡ entry-at l i ∷ left n (i + 1)
   unfolding entries-from
   next-left n i h =
       let some : n - i ≡ suc (n - (i + 1)) = omega arith in
       ap (entries-from l i) some ∙ ap (λ (j : ℕ). entry-at l i ∷ entries-from l j (n - (i + 1))) (sym (add-one i))
 
-  -- In the end none is left.
+  -- From place n on, none of n entries is left.
   pub none-left : (n i : ℕ) → n ≤ i → left n i ≡ []
   unfolding entries-from
   none-left n i h = let none : n - i ≡ 0 = omega arith in ap (entries-from l i) none

@@ -37,7 +37,7 @@ module _ (part : Entry → ℕ) (got : List Entry) (old : List ℕ) where
 
 -- ---- the four of them
 
--- they are as long as they were
+-- the four lists l are as long as l₀ were
 pub record SameLengths (l₀ l : Lists) : Type 0 where
   pub kinds : length (l .kinds) ≡ length (l₀ .kinds)
   pub registers : length (l .registers) ≡ length (l₀ .registers)
@@ -55,7 +55,7 @@ module _ (got : List Entry) (l : Lists) where
         words = column-length (λ e. e .word) got (l .words) (omega arith);
       }
 
-  -- One entry more is put at the next place.
+  -- Where there is room, one entry more behind those that took the first places is put at the next place.
   pub entry-more : (e : Entry) → length got < size l → with-entry (with-entries got l) (length got) e ≡ with-entries (got ++ (e ∷ [])) l
   entry-more e h =
       rw (
@@ -67,7 +67,7 @@ module _ (got : List Entry) (l : Lists) where
 
 -- ---- entries that are put in one after the other, whether they fit or not
 
--- They leave the lists as long as they were.
+-- Entries that are put in one after the other, whether they fit or not, leave the lists as long as they were.
 pub each-lengths : (l : Lists) (i : ℕ) (es : List Entry) → SameLengths l (with-each l i es)
 unfolding with-each
 each-lengths l i [] = record { kinds = refl; registers = refl; lanes = refl; words = refl }
@@ -80,7 +80,7 @@ each-lengths l i (e ∷ es) =
       words = h .words ∙ length-set (l .words) i (e .word);
     }
 
--- One entry more is put at the next place.
+-- One entry more behind those that are put in one after the other is put at the next place.
 pub each-more : (l : Lists) (i : ℕ) (es : List Entry) (e : Entry) →
     with-each l i (es ++ (e ∷ [])) ≡ with-entry (with-each l i es) (i + length es) e
 unfolding with-each
@@ -101,6 +101,6 @@ each-behind got l (e ∷ es) h =
     ∙ each-behind (got ++ (e ∷ [])) l es (omega arith)
     ∙ ap (λ (x : List Entry). with-entries x l) (append-snoc got e es)
 
--- Entries that fit take the lists' first places.
+-- Entries that fit, put in one after the other from the first place on, take the lists' first places.
 pub each-fits : (es : List Entry) (l : Lists) → length es ≤ size l → with-each l 0 es ≡ with-entries es l
 each-fits es l h = each-behind [] l es (omega arith)

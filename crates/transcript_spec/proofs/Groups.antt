@@ -20,17 +20,17 @@ pub one-group : (v : ℕ) → v < 128 → groups v ≡ v ∷ []
 unfolding groups
 one-group v h = rw (lt-ltb v 128 h)
 
--- From there on up to 16,384 it has two,
+-- A number from 128 on, below 16,384, is two groups.
 pub two-groups : (v : ℕ) → 128 ≤ v → v < 16384 → groups v ≡ (128 + v / 128) ∷ (v % 128) ∷ []
 unfolding groups
 two-groups v l h = rw (le-ltb v 128 l, lt-ltb v 16384 h)
 
--- and from there on three.
+-- A number from 16,384 on is three groups.
 pub three-groups : (v : ℕ) → 16384 ≤ v → groups v ≡ (128 + v / 16384) ∷ (128 + v / 128 % 128) ∷ (v % 128) ∷ []
 unfolding groups
 three-groups v l = let k : 128 ≤ v = omega arith in rw (le-ltb v 128 k, le-ltb v 16384 l)
 
--- There are never more.
+-- A number has at most three groups.
 pub few-groups : (v : ℕ) → length (groups v) ≤ 3
 few-groups v =
     ⊎-elim
@@ -82,7 +82,7 @@ says-three v l h =
       value = value-three (128 + v / 16384) (128 + v / 128 % 128) (v % 128) ∙ (omega arith);
     })
 
--- The groups of a number below 2^21 say it.
+-- A number below 2^21 is spelled by its groups, with the top bit on all bytes but the last and no leading zero group.
 pub groups-say : (v : ℕ) → v < 2097152 → Spells (groups v) v
 groups-say v h =
     ⊎-elim (says-one v)
@@ -92,7 +92,7 @@ groups-say v h =
 three-bytes : (a b c : ℕ) → a < 256 → b < 256 → c < 256 → AreBytes (a ∷ b ∷ c ∷ [])
 three-bytes a b c p q r = bytes-cons a (b ∷ c ∷ []) p (bytes-cons b (c ∷ []) q (bytes-cons c [] r bytes-none))
 
--- They are bytes.
+-- The groups of a number below 2^21 are bytes.
 pub groups-bytes : (v : ℕ) → v < 2097152 → AreBytes (groups v)
 groups-bytes v h =
     ⊎-elim
@@ -145,7 +145,7 @@ only (a ∷ k ∷ j ∷ rest) g b c h d v =
     let l = long a (k ∷ j ∷ rest ++ (g ∷ [])) (f .0) n in
     absurd (omega arith)
 
--- Bytes that say a number below 65,536 are its groups.
+-- Bytes that spell a number below 65,536, with no leading zero group, are its groups.
 pub said-by-groups : (s : List ℕ) (v : ℕ) → AreBytes s → Spells s v → v < 65536 → s ≡ groups v
 said-by-groups s v b q h =
     let p = q .spelled in

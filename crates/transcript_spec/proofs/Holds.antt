@@ -8,6 +8,8 @@ use Rattle.transcript_spec.specs.Reading.{with-group, head-read, word-re
 use Rattle.transcript_spec.specs.Writing.{no-record, entry-refusal, first-bad, write-answer, bytes-after}
 use Rattle.transcript_spec.specs.Examples.{entry, worked, reads, writes, examples}
 
+-- The worked examples of `specs/Examples` hold, by computation: 1Dh A4h 34h both ways, every good head, each refusal and the order of any
+-- two, heads 0 to 7, forty bytes, and what each call leaves.
 pub examples-hold : map worked examples ≡ examples
 unfolding
     examples reads writes are-lanes groups record-of transcript-of entries-from with-group head-read word-read byte-taken feed feeds

@@ -16,7 +16,7 @@ use Rattle.transcript_spec.specs.declared.Step.the-variants.{Goes, Whole
 use Rattle.transcript_spec.proofs.BadNumbers.{bad-range}
 use Rattle.transcript_spec.proofs.ReadingOn.{stays-refused}
 
--- r′ is what k bytes more can make of r
+-- what k bytes more can make of the reading r: r′
 pub record Further (r : Reading) (k : ℕ) (r′ : Reading) : Type 0 where
   pub most : r′ .next ≤ r .next + k
   pub all : r′ .refusal ≡ 0 → r′ .next ≡ r .next + k
@@ -62,7 +62,8 @@ two-further r r′ r″ k p q good =
       few = omega (arith, p .few, q .few);
     }
 
--- Of any string that is read on.
+-- A string is read no further than it reaches, and to its end where nothing is refused; the record that is being read begins no later than
+-- the next byte, if it did before; and no more entries are added than there are bytes.
 pub goes-further : (r : Reading) (s : List ℕ) → Further r (length s) (feeds r s)
 unfolding feeds
 goes-further r [] = record { most = omega arith; all = λ _. omega arith; behind = λ h. h; few = omega arith }
@@ -88,7 +89,7 @@ byte-early r b h = either (eqb (r .refusal) 0)
     either true = made (byte-taken (r .part) b) refl
     either false = h
 
--- What a string is refused with before its end is 21, 22 or 23.
+-- Before its end a string is refused with 21, 22 or 23 alone: 20 comes only with the end.
 pub early-refusal : (r : Reading) (s : List ℕ) → EarlyRefusal (r .refusal) → EarlyRefusal (feeds r s .refusal)
 unfolding feeds
 early-refusal r [] h = h
@@ -96,10 +97,10 @@ early-refusal r (b ∷ s) h = early-refusal (feed r b) s (byte-early r b h)
 
 -- ---- the end
 
--- What a string is refused with at its end: the refusal of its bad record,
+-- A string with a bad record is refused with that record's number.
 pub ends-bad : (r : Reading) → r .refusal ≢ 0 → ended r ≡ r .refusal
 ends-bad r d = ap (λ (t : Bool). cond t (cut-off (r .part)) (r .refusal)) (ne-eqb (r .refusal) 0 d)
 
--- or, where none is bad, that of the part at which it ends.
+-- A string without a bad record is refused with 20 if a number is cut off or missing at its end, and else not.
 pub ends-good : (r : Reading) → r .refusal ≡ 0 → ended r ≡ cut-off (r .part)
 ends-good r z = ap (λ (t : Bool). cond t (cut-off (r .part)) (r .refusal)) (eq-eqb (r .refusal) 0 z)

@@ -45,7 +45,7 @@ module _ (s : List ℕ) (p : Spelled s) where
   value-within limit l h = keeps-value s .below (omega arith)
 
   -- ---- a bad head, a bad word
-  -- A head is refused as it should be.
+  -- A bad head is refused with its number.
   pub head-refused : (n : ℕ) → BadHead s n → head-read (grown-by none s) ≡ Bad n
   unfolding head-read
   head-refused n (plain.BadHead.padded h) = rw (marked h)
@@ -55,7 +55,7 @@ module _ (s : List ℕ) (p : Spelled s) where
       let a : value-of s ≤ 31 = omega arith in
       rw (unmarked h, v, le-ltb 31 (value-of s) a, lt-ltb (value-of s) 8 k)
 
-  -- So is a word.
+  -- A bad word is refused with its number.
   pub word-refused : (h n : ℕ) → BadWord s n → word-read h (grown-by none s) ≡ Bad n
   unfolding word-read
   word-refused h n (plain.BadWord.padded q) = rw (marked q)
@@ -63,14 +63,14 @@ module _ (s : List ℕ) (p : Spelled s) where
 
 -- ---- a good head, a good word
 module _ (s : List ℕ) (v : ℕ) (q : Spells s v) where
-  -- A good head makes a read whole, and calls for a write's word.
+  -- A good head, from 8 to 31, makes a read whole, and calls for a write's word.
   pub head-accepted : 8 ≤ v → v ≤ 31 → head-read (grown-by none s) ≡ cond (eqb (v % 2) 0) (Whole (entry-said v 0)) (Goes (Word v none))
   unfolding head-read
   head-accepted l h =
       let e = value-within s (q .spelled) 31 (omega arith) (omega (arith, q .value)) ∙ q .value in
       rw (unmarked s (q .spelled) (q .unpadded), e, le-ltb 31 v h, le-ltb v 8 l)
 
-  -- A good word makes a write whole.
+  -- A good word, of at most 65,535, makes a write whole.
   pub word-accepted : (h : ℕ) → v ≤ 65535 → word-read h (grown-by none s) ≡ Whole (entry-said h v)
   unfolding word-read
   word-accepted h k =
@@ -78,11 +78,11 @@ module _ (s : List ℕ) (v : ℕ) (q : Spells s v) where
       rw (unmarked s (q .spelled) (q .unpadded), e, le-ltb 65535 v k)
 
 -- ---- the head of an entry
--- It is one of 8 to 31,
+-- The head of a good entry is one of 8 to 31.
 pub head-range : (e : Entry) → Good e → (8 ≤ head-of e) × (head-of e ≤ 31)
 head-range e g = (omega arith, omega arith)
 
--- it is even for a read and odd for a write,
+-- The head of a good entry is even for a read and odd for a write.
 pub head-kind : (e : Entry) → Good e → head-of e % 2 ≡ e .kind
 head-kind e g = omega arith
 
@@ -95,7 +95,7 @@ register-back k r l h i =
     let d : (k + 2 * r + 8 * l) / 2 ≡ r + 4 * l = omega arith in
     ap (λ (x : ℕ). x % 4) d ∙ (omega arith)
 
--- and it has all of the entry but the word.
+-- The head of a good entry has all of the entry but the word.
 pub head-back : (e : Entry) → Good e → entry-said (head-of e) (e .word) ≡ e
 head-back e g =
     same-parts (e .word) (head-kind e g) (register-back (e .kind) (e .register) (e .lanes) (g .kind) (g .register)) (omega arith)

@@ -23,13 +23,13 @@ pub record Lends (k₀ r₀ n₀ w₀ : ℕ) (l : Lists) (k r n w : ℕ) : Type 
   pub of-words : w ≡ min w₀ (length (l .words))
 
 module _ {k₀ r₀ n₀ w₀ : ℕ} {l : Lists} {k r n w : ℕ} (y : Lends k₀ r₀ n₀ w₀ l k r n w) where
-  -- These places are lent,
+  -- What code lends is the first places of each list, as many as are asked for, or all where there are fewer.
   pub parts-lent : parts k r n w l ≡ lent-lists k₀ r₀ n₀ w₀ l
   parts-lent i =
       lists (lent-is k₀ k (l .kinds) (y .of-kinds) i) (lent-is r₀ r (l .registers) (y .of-registers) i)
       (lent-is n₀ n (l .lanes) (y .of-lanes) i) (lent-is w₀ w (l .words) (y .of-words) i)
 
-  -- and come back.
+  -- What comes back takes these places of each list, and the others stay.
   pub parts-back : (part : Lists) → put-back k r n w l part ≡ lists-back k₀ r₀ n₀ w₀ l part
   parts-back part i =
       lists (back-is k₀ k (l .kinds) (y .of-kinds) (part .kinds) i) (back-is r₀ r (l .registers) (y .of-registers) (part .registers) i)

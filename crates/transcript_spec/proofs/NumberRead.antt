@@ -59,6 +59,7 @@ at-least v s =
     let e = mul-one v in
     omega arith
 
+-- what the reader keeps as n of a number that is v: v itself below 65,536, and 65,536 at least otherwise
 pub record Kept (n : Number) (v : ℕ) : Type 0 where
   pub below : v < 65536 → n .value ≡ v
   pub above : 65536 ≤ v → 65536 ≤ n .value
@@ -87,6 +88,6 @@ kept n (b ∷ s) =
     record { below = λ q. absurd (omega arith); above = λ q. k .above w })
     (less-or-not (n .value) 65536)
 
--- What was read is what the bytes spell, up to the limit.
+-- Of a number of any length the reader keeps its value below 65,536, and a value of at least 65,536 otherwise: it never wraps.
 pub keeps-value : (s : List ℕ) → Kept (grown-by none s) (value-of s)
 keeps-value s = subst (Kept (grown-by none s)) (omega arith) (kept none s)

@@ -29,7 +29,7 @@ record-good e g =
     subst (λ (s : List ℕ). GoodRecord s e) (sym (of-write e o)) (a-write g o h (groups-say (e .word) (omega (arith, g .word)))))
     (same-or-not (e .kind) 0)
 
--- The transcript of good entries is sound.
+-- The transcript of good entries is good records, theirs.
 pub transcript-sound : (es : List Entry) → AllGood es → Sound (transcript-of es) es
 unfolding transcript-of
 transcript-sound [] g = nothing
@@ -41,6 +41,7 @@ good-entry : {s : List ℕ} {e : Entry} → GoodRecord s e → Good e
 good-entry (a-read g z h) = g
 good-entry (a-write g o p q) = g
 
+-- The entries of good records are good.
 pub good-entries : {s : List ℕ} {es : List Entry} → Sound s es → AllGood es
 good-entries nothing = tt
 good-entries (and-more g q) = (good-entry g, good-entries q)
@@ -56,7 +57,7 @@ good-record-is _ e b (a-write {h} {w} g o p q) =
     let y = said-by-groups w (e .word) (bytes-second h w b) q (omega (arith, g .word)) in
     (g, ap (λ (l : List ℕ). l ++ w) x ∙ ap (λ (l : List ℕ). groups (head-of e) ++ l) y ∙ sym (of-write e o))
 
--- A sound string of bytes is the transcript of its entries, and these are good.
+-- A string of bytes that is good records is the transcript of their entries, and these are good.
 pub sound-is : (s : List ℕ) (es : List Entry) → AreBytes s → Sound s es → AllGood es × (s ≡ transcript-of es)
 unfolding transcript-of
 sound-is _ _ b nothing = (tt, refl)
@@ -83,6 +84,6 @@ unfolding transcript-of
 transcript-bytes [] g = bytes-none
 transcript-bytes (e ∷ es) g = bytes-joined (record-of e) (transcript-of es) (record-bytes e (g .0)) (transcript-bytes es (g .1))
 
--- Two sound strings of bytes with the same entries are one.
+-- Two strings of bytes that are good records, of the same entries, are one.
 pub one-encoding : (s t : List ℕ) (es : List Entry) → AreBytes s → AreBytes t → Sound s es → Sound t es → s ≡ t
 one-encoding s t es a b p q = sound-is s es a p .1 ∙ sym (sound-is t es b q .1)

@@ -29,16 +29,17 @@ module _ {l : Lists} {out out′ : List ℕ} {o : Transcribed} (p : WroteTranscr
   abbrev entries : List Entry
   entries = entries-in l
 
-  -- Its answer is the one that the entries call for.
+  -- The writer's answer has a row of `Written` that holds of the entries.
   pub writer-answers : Written entries (length out) o
   writer-answers = writes-exactly entries (length out) o .0 (sym (p .answer))
 
-  -- And it is no other.
+  -- The writer's answer is a exactly if a's row of `Written` holds: all entries are good and fit, all are good and do not fit (24), or an
+  -- entry is the first bad one, with its number and its index.
   pub writer-exactly : (a : Transcribed) → o ≡ a ↔ Written entries (length out) a
   writer-exactly a =
       (λ e. subst (Written entries (length out)) e writer-answers, λ w. p .answer ∙ writes-exactly entries (length out) a .1 w)
 
-  -- Refused, it leaves every byte, and counts none.
+  -- A refused writer leaves every byte, and counts none.
   pub writer-refused : o .number ≢ 0 → (out′ ≡ out) × (o .count ≡ 0)
   unfolding bytes-after
   writer-refused d = (
@@ -53,7 +54,8 @@ module _ {l : Lists} {out out′ : List ℕ} {o : Transcribed} (p : WroteTranscr
       counts (plain.Written.too-small g h) d = refl
       counts (plain.Written.bad-entry xs ys q g b) d = refl
 
-  -- Accepted, it leaves the transcript of the entries in the first bytes, and the later ones as they were.
+  -- With 0, all entries are good; the writer counts the bytes of their transcript, which fit, and leaves it in the first bytes, and the
+  -- later ones as they were.
   pub writer-done : o .number ≡ 0 → WroteAll l out o out′
   unfolding bytes-after
   writer-done z = finish writer-answers z
@@ -79,15 +81,16 @@ module _ {l : Lists} {out out′ : List ℕ} {o : Transcribed} (p : WroteTranscr
 
 -- ---- the reader
 module _ {s : List ℕ} {l l′ : Lists} {o : Transcribed} (p : ReadTranscript s l o l′) where
-  -- Its answer is the one that the string calls for.
+  -- The reader's answer has a row of `ReadAs` that holds of the string.
   pub reader-answers : ReadAs s (size l) o
   reader-answers = reads-exactly s (size l) o .0 (sym (p .answer))
 
-  -- And it is no other.
+  -- The reader's answer is a exactly if a's row of `ReadAs` holds: the string is good records, with room for their entries or without it
+  -- (24), or good records and then a bad one, with its refusal and its first byte.
   pub reader-exactly : (a : Transcribed) → o ≡ a ↔ ReadAs s (size l) a
   reader-exactly a = (λ e. subst (ReadAs s (size l)) e reader-answers, λ w. p .answer ∙ reads-exactly s (size l) a .1 w)
 
-  -- Refused, it leaves every place of the four lists, and counts none.
+  -- A refused reader leaves every place of the four lists, and counts none.
   pub reader-refused : o .number ≢ 0 → (l′ ≡ l) × (o .count ≡ 0)
   unfolding lists-after
   reader-refused d = (
@@ -102,7 +105,8 @@ module _ {s : List ℕ} {l l′ : Lists} {o : Transcribed} (p : ReadTranscript s
       counts (plain.ReadAs.too-small q h) d = refl
       counts (plain.ReadAs.bad-record e q b) d = refl
 
-  -- Accepted, it leaves the string's entries in the lists' first places, and the later ones as they were.
+  -- With 0, the string is good records; the reader counts their entries, which fit, and leaves these in the lists' first places, and the
+  -- later ones as they were.
   pub reader-done : o .number ≡ 0 → ReadAll s l o l′
   unfolding lists-after
   reader-done z = finish reader-answers z
@@ -135,7 +139,7 @@ module _ {s : List ℕ} {l l′ : Lists} {o : Transcribed} (p : ReadTranscript s
       finish (plain.ReadAs.bad-record {es} {t} {u} {n} f q b) e = absurd (bad-record-number u n b e)
 
 -- ---- one after the other
--- Reading what was written returns the list, into any lists that have as many places.
+-- Reading what was written returns the list, with no refusal, into any lists that have as many places.
 pub returned : {l k k′ : Lists} {out out′ : List ℕ} {o a : Transcribed} → WroteTranscript l out o out′ → o .number ≡ 0 →
     ReadTranscript (take (o .count) out′) k a k′ → size l ≤ size k →
     (a .number ≡ 0) × (a .count ≡ size l) × (first-places (size l) k′ ≡ first-places (size l) l)
@@ -156,7 +160,7 @@ returned {l} {k} {k′} {out} {out′} {o} {a} p z q room =
           ∙ columns-first l,
     )
 
--- Writing what was read returns the bytes, into any that are as many.
+-- Writing what was read without a refusal returns the bytes, into any that are as many.
 pub given-back : {s out out′ : List ℕ} {l l′ : Lists} {o a : Transcribed} → AreBytes s → ReadTranscript s l o l′ → o .number ≡ 0 →
     WroteTranscript (first-places (o .count) l′) out a out′ → length s ≤ length out →
     (a .number ≡ 0) × (a .count ≡ length s) × (take (length s) out′ ≡ s)

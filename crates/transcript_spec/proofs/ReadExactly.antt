@@ -20,13 +20,13 @@ use Rattle.transcript_spec.proofs.ThroughRecords.{between, adds-entries
 use Rattle.transcript_spec.proofs.Divided.{Divided, all-good, then-bad, divided}
 
 -- ---- what is read of a sound string, and of one with a bad record
--- A sound string is read to its end.
+-- A string of good records is read to its end, as their entries.
 pub reads-sound : (s : List ℕ) (es : List Entry) → Sound s es → feeds start s ≡ between es (length s)
 unfolding feeds
 reads-sound s es q =
     ap (feeds start) (sym (append-nil s)) ∙ adds-entries [] 0 s [] es q ∙ ap (between es) (zero-add (length s))
 
--- A bad record stops the reader: its refusal, its place, and the entries before it.
+-- A bad record behind good ones stops the reader: its refusal, the place where it begins, and the entries of the good ones before it.
 pub reads-bad : (s t u : List ℕ) (es : List Entry) (n : ℕ) → s ≡ t ++ u → Sound t es → BadRecord u n →
     Stopped es (length t) n (feeds start s)
 reads-bad s t u es n e q b =
@@ -61,7 +61,8 @@ module _ (s : List ℕ) (room : ℕ) where
       (less-or-not room (length es))
   some (then-bad es t u n e q b) = (refused n (length t), plain.ReadAs.bad-record e q b)
 
-  -- The reader's answer is o exactly if o's row holds: accepted, 24, or the refusal of the first bad record and its place.
+  -- The reader's answer is o exactly if o's row of `ReadAs` holds: the string is good records, with room for their entries or without it
+  -- (24), or good records and then a bad one, with its refusal and its first byte.
   pub reads-exactly : (o : Transcribed) → read-answer s room ≡ o ↔ ReadAs s room o
   reads-exactly o =
       let x = some (divided s) in
@@ -72,7 +73,7 @@ sound-if : (s : List ℕ) → Divided s → refusal-read s ≡ 0 → Sound s (en
 sound-if s (all-good es q) z = subst (Sound s) (sym (ap (λ (a : Reading). a .got) (reads-sound s es q))) q
 sound-if s (then-bad es t u n e q b) z = let x = reads-bad s t u es n e q b in absurd (x .refuses (sym (x .refusal) ∙ z))
 
--- A string is sound, and the entries are those that are read, exactly if the reader finds no bad record.
+-- A string is good records, of these entries, exactly if nothing is refused and these are read.
 pub sound-exactly : (s : List ℕ) (es : List Entry) → Sound s es ↔ (refusal-read s ≡ 0) × (entries-read s ≡ es)
 sound-exactly s es = (
   λ q. (ap ended (reads-sound s es q), ap (λ (a : Reading). a .got) (reads-sound s es q)),

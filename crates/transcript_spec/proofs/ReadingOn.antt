@@ -53,11 +53,11 @@ pub record Reached (r₀ : Reading) (s : List ℕ) (i : ℕ) (r : Reading) : Typ
   pub most : i ≤ length s
   pub come : feeds r₀ s ≡ feeds r (drop i s)
 
--- Before the first byte.
+-- Before the first byte the reading is where it began.
 pub none-yet : (r₀ : Reading) (s : List ℕ) → Reached r₀ s 0 r₀
 none-yet r₀ s = record { most = omega arith; come = refl }
 
--- One byte more.
+-- One byte more makes of the reading what it makes of the record that is being read.
 pub one-more : {r₀ : Reading} {s : List ℕ} {i : ℕ} {got : List Entry} {from next : ℕ} {p : Part} →
     Reached r₀ s i (at got from next p 0) → i < length s → {x : Step} → byte-taken p (getD s i 0) ≡ x →
     Reached r₀ s (i + 1) (fed got from (next + 1) x)
@@ -73,15 +73,15 @@ one-more {s = s} {i = i} {got = got} {from = from} {next = next} {p = p} here mo
     }
 
 module _ {r₀ r : Reading} {s : List ℕ} {i : ℕ} (here : Reached r₀ s i r) where
-  -- The end of the string.
+  -- At the end of a string the reading is what the whole string makes.
   pub at-end : length s ≤ i → feeds r₀ s ≡ r
   unfolding feeds
   at-end h = here .come ∙ ap (feeds r) (drop-of-length-le s h)
 
-  -- A bad record is an end too.
+  -- After a bad record too the reading is what the whole string makes.
   pub at-refusal : r .refusal ≢ 0 → feeds r₀ s ≡ r
   at-refusal h = here .come ∙ stays-refused r (drop i s) h
 
-  -- The entries so far are no more than there are in all.
+  -- The entries read so far are no more than those of the whole string.
   pub so-far : length (r .got) ≤ length (feeds r₀ s .got)
   so-far = rw (here .come) (only-adds r (drop i s))

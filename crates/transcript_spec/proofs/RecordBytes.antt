@@ -16,20 +16,21 @@ use Rattle.transcript_spec.proofs.Groups.{one-group, few-groups}
 use Rattle.transcript_spec.proofs.Judged.{head-range}
 
 module _ (e : Entry) where
-  -- A write.
+  -- The record of a write is the groups of its head, and then those of its word.
   pub of-write : e .kind ≡ 1 → record-of e ≡ groups (head-of e) ++ groups (e .word)
   unfolding record-of
   of-write h = rw (eq-eqb (e .kind) 1 h)
 
+  -- The record of a write is as long as the groups of its head and of its word together.
   pub length-of-write : e .kind ≡ 1 → length (record-of e) ≡ length (groups (head-of e)) + length (groups (e .word))
   length-of-write h = ap length (of-write h) ∙ length-append (groups (head-of e)) (groups (e .word))
 
-  -- Any other.
+  -- The record of any other entry is the groups of its head.
   pub of-other : e .kind ≢ 1 → record-of e ≡ groups (head-of e)
   unfolding record-of
   of-other h = rw (ne-eqb (e .kind) 1 h) (append-nil (groups (head-of e)))
 
-  -- Any record has room for the head.
+  -- The groups of an entry's head are no longer than its record.
   pub head-fits : length (groups (head-of e)) ≤ length (record-of e)
   unfolding record-of
   head-fits = omega (arith, length-append (groups (head-of e)) (cond (eqb (e .kind) 1) (groups (e .word)) []))

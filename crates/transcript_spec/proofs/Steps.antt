@@ -26,7 +26,7 @@ use Rattle.transcript_spec.proofs.Judged.{head-refused, word-refused, h
 use Rattle.transcript_spec.proofs.NumberRead.{grown-by}
 use Rattle.transcript_spec.proofs.ThroughNumbers.{grown-snoc, head-rule, word-rule}
 
--- Where no record is whole, the entry is zeros.
+-- Where a byte makes no record whole, the entry that is told is zeros.
 pub zeros-else : (x : Step) → step-numbers x .count ≡ 0 →
     let e = step-numbers x .entry in (e .kind ≡ 0) × (e .register ≡ 0) × (e .lanes ≡ 0) × (e .word ≡ 0)
 zeros-else (Goes p) z = (refl, refl, refl, refl)
@@ -126,7 +126,8 @@ module _ (first : List ℕ) (b : ℕ) (c : Continued first) where
       (λ h. (_, plain.HeadAs.goes-on (continued-more first b c h)))
       (less-or-not b 128)
 
-  -- Of a head and one byte more the numbers are these exactly if: it goes on, it is bad, it is a read's, or it is a write's.
+  -- Of a head and one byte more, the numbers of what `take_byte` answers are these exactly if their row of `HeadAs` holds: the head goes
+  -- on, it is bad, it is a good one of a read, which is then whole, or a good one of a write.
   pub head-exactly : {x : Step} → x ≡ head-step → (a : StepNumbers) → step-numbers x ≡ a ↔ HeadAs s a
   head-exactly p a = (
     λ e. subst (HeadAs s) (sym (head-says (some-head .0) (some-head .1)) ∙ ap step-numbers (sym p) ∙ e) (some-head .1),
@@ -158,7 +159,8 @@ module _ (first : List ℕ) (b : ℕ) (c : Continued first) where
         (λ l. (_, plain.WordAs.goes-on (continued-more first b c l)))
         (less-or-not b 128)
 
-    -- Of a word and one byte more they are these exactly if: it goes on, it is bad, or it is good.
+    -- Of a word and one byte more, behind the head h, they are these exactly if their row of `WordAs` holds: the word goes on, it is bad,
+    -- or it is good, and its write whole.
     pub word-exactly : {x : Step} → x ≡ word-step → (a : StepNumbers) → step-numbers x ≡ a ↔ WordAs h s a
     word-exactly p a = (
       λ e. subst (WordAs h s) (sym (word-says (some-word .0) (some-word .1)) ∙ ap step-numbers (sym p) ∙ e) (some-word .1),

@@ -19,6 +19,7 @@ use Rattle.transcript_spec.specs.declared.Step.{Step}
 use Rattle.transcript_spec.specs.declared.Step.the-variants.{Goes}
 use Rattle.transcript_spec.proofs.NumberRead.{grown-by}
 
+-- n places on from the next one are n + 1 places on from here.
 pub next-place : (i n : ℕ) → i + 1 + n ≡ i + suc n
 next-place i n = omega arith
 
@@ -52,7 +53,7 @@ module _ (K : Number → Part) (D : Number → Step)
   unfolding feeds feed
   last-byte i n b rest h = ap (λ (t : Step). feeds (fed got from (i + 1) t) rest) (judged n b h)
 
-  -- A whole number is judged by what its bytes make.
+  -- A whole number is judged by what its bytes make, when its last byte is there.
   pub reads-number : (i : ℕ) (s rest : List ℕ) → Spelled s →
       feeds (at got from i (K none) 0) (s ++ rest) ≡ feeds (fed got from (i + length s) (D (grown-by none s))) rest
   reads-number i s rest p =
@@ -71,10 +72,13 @@ module _ (K : Number → Part) (D : Number → Step)
       length-one-more i m n e = omega arith
 
 -- ---- heads and words
+
+-- A byte with the top bit set is added to a head, and one without has the head judged, with this byte.
 pub head-rule : (n : Number) (b : ℕ) → byte-taken (Head n) b ≡ cond (ltb b 128) (head-read (grown n b)) (Goes (Head (grown n b)))
 unfolding byte-taken
 head-rule n b = refl
 
+-- A byte with the top bit set is added to a word, and one without has the word judged, with this byte.
 pub word-rule : (h : ℕ) (n : Number) (b : ℕ) →
     byte-taken (Word h n) b ≡ cond (ltb b 128) (word-read h (grown n b)) (Goes (Word h (grown n b)))
 unfolding byte-taken

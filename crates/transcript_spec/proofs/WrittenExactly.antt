@@ -96,7 +96,7 @@ module _ (e : Entry) where
       (λ d. ⊎-elim (λ h. inr (_, no-lanes r (inr h))) (λ l. with-lanes r (omega (arith, d)) l) (less-or-not 3 (e .lanes)))
       (same-or-not (e .lanes) 0)
 
-  -- Every entry is good or bad.
+  -- Every entry is good, or bad with 2, 3 or 22.
   pub good-or-bad : Judged
   good-or-bad = ⊎-elim (λ h. inr (_, no-register h)) with-register (less-or-not 3 (e .register))
 
@@ -105,14 +105,14 @@ pub passes-good : (e : Entry) → entry-refusal e ≡ 0 → Good e
 passes-good e z = ⊎-elim (λ g. g) (λ b. absurd (bad-number e (b .0) (b .1) (sym (bad-refused e (b .0) (b .1)) ∙ z))) (good-or-bad e)
 
 -- ---- a list of entries
--- Where all are good, none is bad.
+-- Where all entries are good, none is refused.
 pub none-bad : (k : ℕ) (es : List Entry) (good : Transcribed) → AllGood es → first-bad k es good ≡ good
 unfolding first-bad
 none-bad k [] good g = refl
 none-bad k (e ∷ es) good g =
     ap (λ (n : ℕ). cond (eqb n 0) (first-bad (suc k) es good) (refused n k)) (good-passes e (g .0)) ∙ none-bad (suc k) es good (g .1)
 
--- The first bad one is found.
+-- The first bad entry, behind good ones, is refused with its number and its index.
 pub finds-bad : (k : ℕ) (xs ys : List Entry) (e : Entry) (n : ℕ) (good : Transcribed) → AllGood xs → BadEntry e n →
     first-bad k (xs ++ (e ∷ ys)) good ≡ refused n (k + length xs)
 unfolding first-bad
@@ -163,7 +163,8 @@ module _ (es : List Entry) (room : ℕ) where
       (less-or-not room (length (transcript-of es)))
   some (then-bad xs ys e n q g b) = (refused n (length xs), plain.Written.bad-entry xs ys q g b)
 
-  -- The writer's answer is o exactly if o's row holds: accepted, 24, or the refusal of the first bad entry and its index.
+  -- The writer's answer is o exactly if o's row of `Written` holds: all entries are good and fit, all are good and do not fit (24), or an
+  -- entry is the first bad one, with its number and its index.
   pub writes-exactly : (o : Transcribed) → write-answer es room ≡ o ↔ Written es room o
   writes-exactly o =
       let x = some (sorted es) in

@@ -1,7 +1,7 @@
--- A list of accesses as a call is lent it: one list of numbers for each part (house).
+-- A list of accesses as a call is lent it: one list of numbers for each part (ours).
 --   Lists               the four of them
 --   lists k r l w       those with these kinds, registers, lanes and words
---   size l              how many entries they hold: the list's length is the shortest (house)
+--   size l              how many entries they hold: the list's length is the shortest (ours)
 --   entry-at l i        entry i
 --   entries-from l i n  n entries from place i on
 --   entries-in l        all of them

@@ -7,7 +7,7 @@
 --   Reading                   how far a transcript is read
 --   at, fed, feed, feeds      such a reading, by its parts; with what a byte made; with one byte more; with a whole string more
 --   start, cut-off, ended     before the first byte; the refusal of a part when nothing follows, or 0; that of a reading
---   entries-read, place-read, refusal-read   of a whole string: the entries before the first bad record, where that begins, its refusal or 0
+--   entries-read, place-read, refusal-read   of a whole string: the entries before the first bad record, where that is, its refusal or 0
 --   read-answer s room        what the reader answers of a string, lent lists for so many entries
 --   lists-after s l           the lent lists afterwards
 --   ReadTranscript            these, as the contract of the call
@@ -32,7 +32,7 @@ use Rattle.transcript_spec.specs.declared.Transcribed.{Transcribed}
 abbrev pub none : Number
 none = record { begun = false; padded = false; value = 0 }
 
--- "groups of seven bits, most significant group first". Numbers may be of any length: one that is over every limit stays there
+-- "groups of seven bits, most significant group first". Numbers may be of any length (ours): one that is over every limit stays there
 unfoldable pub with-group : ℕ → ℕ → ℕ
 with-group v g = cond (ltb v 65536) (v * 128 + g) v
 
@@ -66,7 +66,7 @@ word-read h n = cond (n .padded) (Bad 21) (cond (ltb 65535 (n .value)) (Bad 22) 
 abbrev pub fresh : Part
 fresh = Head none
 
--- "the top bit set on all bytes but the last": a number is judged when its last byte is there
+-- "the top bit set on all bytes but the last": a number is judged when its last byte is there (ours)
 unfoldable pub byte-taken : Part → ℕ → Step
 byte-taken (Head n) b = cond (ltb b 128) (head-read (grown n b)) (Goes (Head (grown n b)))
 byte-taken (Word h n) b = cond (ltb b 128) (word-read h (grown n b)) (Goes (Word h (grown n b)))
@@ -102,7 +102,7 @@ feeds a (b ∷ rest) = feeds (feed a b) rest
 abbrev pub start : Reading
 start = at [] 0 0 fresh 0
 
--- "20 number cut off or missing": between two records nothing is missing
+-- "20 number cut off or missing": between two records nothing is missing (ours)
 abbrev pub cut-off : Part → ℕ
 cut-off (Head n) = cond (n .begun) 20 0
 cut-off (Word h n) = 20

@@ -32,6 +32,7 @@ apart = lists (counting 10 6) (counting 20 6) (counting 30 6) (counting 40 6)
 abbrev six : List ℕ
 six = 0x08 ∷ 0x1D ∷ 0xA4 ∷ 0x34 ∷ 0x07 ∷ 0x20 ∷ []
 
+-- what records say, and what they lend of a string and of four lists
 pub record Says : Type 0 where
   -- "six kinds, six registers, six lanes, six words", from byte 8 on
   pub lists-held :
@@ -56,7 +57,8 @@ pub record Says : Type 0 where
       lists (1 ∷ 1 ∷ 12 ∷ 13 ∷ 14 ∷ 15 ∷ []) (2 ∷ 2 ∷ 2 ∷ 23 ∷ 24 ∷ 25 ∷ []) (3 ∷ 3 ∷ 3 ∷ 3 ∷ 34 ∷ 35 ∷ [])
       (4 ∷ 4 ∷ 4 ∷ 4 ∷ 4 ∷ 45 ∷ [])
 
--- They say so.
+-- The lists are read from the record's bytes from byte 8 on, low byte first; as many places are lent as it says, or all where there are
+-- fewer; and what is lent comes back at its places.
 pub they-say : Says
 they-say =
     record {
@@ -69,6 +71,7 @@ they-say =
       lists-again = refl;
     }
 
+-- what short records leave, carried out
 pub record Leaves : Type 0 where
   -- the writer, lent two entries and five bytes: four are written, and the lists stay
   pub written :
@@ -86,7 +89,8 @@ pub record Leaves : Type 0 where
   -- lent all bytes: the record from the fifth on is bad
   pub bad-record : CarriedOut (255 ∷ 255 ∷ 4 ∷ 4 ∷ 4 ∷ 4 ∷ []) six four (refused 23 4) six four
 
--- They leave so.
+-- By computation: the writer, with room for its records, with too little and with a bad entry; and the reader, with room for its entries,
+-- with too little and with a bad record.
 pub they-leave : Leaves
 unfolding
     answer-from string-from lists-from called-answer called-string called-lists are-lanes groups record-of transcript-of entries-from

@@ -30,11 +30,11 @@ module _ {reader : Bool} {s : List ℕ} {l : Lists} {o : Transcribed} where
 
 -- ---- a record
 
--- No more are lent than there are.
+-- No more places are lent than there are.
 pub smaller-of : (k m : ℕ) {n : ℕ} → n ≡ min k m → n ≤ m
 smaller-of k m e = omega arith
 
--- The numbers are those that the record b says: m of the string, and k, r, n and w of the lists.
+-- the numbers are those that the record b says: m of the string, and k, r, n and w of the lists
 pub record LendsBoth (b s : List ℕ) (l : Lists) (m k r n w : ℕ) : Type 0 where
   pub of-string : m ≡ min (byte b 1) (length s)
   pub of-lists : Lends (byte b 2) (byte b 3) (byte b 4) (byte b 5) l k r n w
@@ -58,7 +58,7 @@ module _ {b s : List ℕ} {l : Lists} {m k r n w : ℕ} (y : LendsBoth b s l m k
             ap (lists-returned b l) (c .lists ∙ (λ i. called-lists (is-read b) (string-is i) (parts-lent (y .of-lists) i)));
       }
 
--- The lists may be those that the record holds.
+-- What a record asks for may be done on the lists that it holds.
 pub on-its-lists :
     {b s kinds registers lanes words : List ℕ} {o : Transcribed} {s′ : List ℕ} {l′ : Lists} →
     kinds ≡ column b 0 → registers ≡ column b 6 → lanes ≡ column b 12 → words ≡ column b 18 →

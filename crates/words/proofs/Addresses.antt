@@ -10,7 +10,7 @@ use Rattle.words.specs.declared.BitAddress.{BitAddress}
 pub bit-in-word : (a : BitAddress) → a .0 ≡ word-at a .0 * 16 + a .0 % 16
 bit-in-word a = omega arith
 
--- Any of the sixteen bit addresses of word n lies in word n.
+-- Bit addresses 16 n to 16 n + 15 lie in word n.
 pub word-of-bit : (n k : ℕ) → k < 16 → word-at (address (n * 16 + k)) .0 ≡ n
 word-of-bit n k h = omega arith
 
@@ -18,11 +18,11 @@ word-of-bit n k h = omega arith
 pub step-keeps-low-bits : (a : BitAddress) → step a .0 % 16 ≡ a .0 % 16
 step-keeps-low-bits a = omega arith
 
--- The step goes to the next word.
+-- Where adding 16 stays below 2^32, the step goes to the next word.
 pub step-next : (a : BitAddress) → a .0 + 16 < 2 ^ 32 → word-at (step a) .0 ≡ suc (word-at a .0)
 step-next a h = omega arith
 
--- It goes from word to word, modulo 2^28.
+-- The step goes from word to word, modulo 2^28.
 pub step-of-word : (a : BitAddress) → word-at (step a) .0 ≡ (word-at a .0 + 1) % 2 ^ 28
 step-of-word a = omega arith
 
@@ -34,7 +34,7 @@ step-wraps = refl
 pub step-fits : (a : BitAddress) → step a .0 < 2 ^ 32
 step-fits a = omega arith
 
--- So has an address that is stepped or stays, where it had 32 before.
+-- An address of 32 bits that is stepped, or stays, has 32 bits.
 pub stepped-fits : (s : Bool) (a : BitAddress) → a .0 < 2 ^ 32 → stepped-from s a .0 < 2 ^ 32
 stepped-fits true a h = step-fits a
 stepped-fits false a h = h

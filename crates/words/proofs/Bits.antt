@@ -49,7 +49,7 @@ pub bit-of-remainder : (w k i : ℕ) → i < k → bit (w % 2 ^ k) i ≡ bit w i
 bit-of-remainder w k i h =
     subst (λ (n : ℕ). bit (w % 2 ^ n) i ≡ bit w i) (omega arith) (remainder-by w (k - suc i) i)
 
--- One bit more of a number.
+-- The n + 1 low bits of a number are its bit n, at weight 2^n, and its n low bits.
 pub one-bit-more : (x n : ℕ) → x % 2 ^ (n + 1) ≡ cond (bit x n) (2 ^ n) 0 + x % 2 ^ n
 one-bit-more x n =
     let y : ℕ = x % 2 ^ (n + 1) in

@@ -27,7 +27,7 @@ same-test true t f g = sym (f refl)
 same-test false true f g = g refl
 same-test false false f g = refl
 
--- They are one exactly if the library's test of that holds.
+-- Two tests are one exactly if the library's test of that holds.
 pub come-out-alike : (s t : Bool) → Bool·beq s t ≡ true ↔ s ≡ t
 come-out-alike true true = (λ _. refl, λ _. refl)
 come-out-alike true false = (λ e. absurd (false≢true e), λ e. absurd (true≢false e))

@@ -11,11 +11,12 @@ use borrow.Author.Tests.{eq-eqb, ne-eqb, eqb-true, eqb-false}
 use Rattle.words.specs.Bytes.{bit}
 use Rattle.words.proofs.Choices.{either-way}
 
--- A bit is set exactly if its digit is 1, and clear exactly if that is 0.
+-- A bit is set exactly if its binary digit is 1.
 pub is-set : (v i : ℕ) → bit v i ≡ true ↔ v / 2 ^ i % 2 ≡ 1
 unfolding bit
 is-set v i = (eqb-true _ 1, eq-eqb _ 1)
 
+-- A bit is clear exactly if its binary digit is 0.
 pub is-clear : (v i : ℕ) → bit v i ≡ false ↔ v / 2 ^ i % 2 ≡ 0
 unfolding bit
 is-clear v i = (λ e. omega (arith, eqb-false (v / 2 ^ i % 2) 1 e), λ e. ne-eqb (v / 2 ^ i % 2) 1 (omega (arith, e)))

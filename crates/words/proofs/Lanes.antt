@@ -18,12 +18,12 @@ one-of n j k = go (eqb n j) (eqb n k) refl refl
     go false true e f = (λ _. inr (eqb-true n k f), λ _. refl)
     go false false e f = (λ x. absurd (false≢true x), λ x. absurd (⊎-elim (eqb-false n j e) (eqb-false n k f) x))
 
--- Lanes 1 and 3 select the low byte.
+-- Exactly lanes 1 and 3 select the low byte.
 pub low-lanes : (lanes : ℕ) → takes-low lanes ≡ true ↔ (lanes ≡ 1) ⊎ (lanes ≡ 3)
 unfolding takes-low
 low-lanes lanes = one-of lanes 1 3
 
--- Lanes 2 and 3 select the high byte.
+-- Exactly lanes 2 and 3 select the high byte.
 pub high-lanes : (lanes : ℕ) → takes-high lanes ≡ true ↔ (lanes ≡ 2) ⊎ (lanes ≡ 3)
 unfolding takes-high
 high-lanes lanes = one-of lanes 2 3
@@ -42,7 +42,7 @@ lanes-named n = go (eqb n 1) (eqb n 2) (eqb n 3) refl refl refl
       λ h. absurd (omega (arith, h .0, h .1, eqb-false n 1 p, eqb-false n 2 q, eqb-false n 3 r)),
     )
 
--- Any number that does not is none of the three.
+-- A number that names no lanes is none of 1, 2 and 3.
 pub lanes-unnamed : (n : ℕ) → are-lanes n ≡ false → (n ≢ 1) × (n ≢ 2) × (n ≢ 3)
 unfolding are-lanes
 lanes-unnamed n e =
@@ -73,17 +73,17 @@ module _ (lanes old l h : ℕ) (p : l < 256) (q : h < 256) where
   high-below : cond (takes-high lanes) h (hi old) < 256
   high-below = byte-below (takes-high lanes) h (hi old) q (omega arith)
 
-  -- What is laid is a word.
+  -- Bytes laid over a word make a word.
   pub laid-word : lay lanes old l h < 65536
   unfolding lay
   laid-word = omega (arith, low-below, high-below)
 
-  -- Its low byte is the new one where selected, else the old one.
+  -- The low byte of what is laid is the new one where it is selected, else the old one.
   pub laid-low : lo (lay lanes old l h) ≡ cond (takes-low lanes) l (lo old)
   unfolding lay
   laid-low = low-of _ _ low-below
 
-  -- Its high byte is the new one where selected, else the old one.
+  -- The high byte of what is laid is the new one where it is selected, else the old one.
   pub laid-high : hi (lay lanes old l h) ≡ cond (takes-high lanes) h (hi old)
   unfolding lay
   laid-high = high-of _ _ low-below high-below
@@ -93,7 +93,7 @@ module _ (lanes old l h : ℕ) (p : l < 256) (q : h < 256) where
 pub replaced-low : (lanes old new : ℕ) → lo (replaced lanes old new) ≡ cond (takes-low lanes) (lo new) (lo old)
 replaced-low lanes old new = laid-low lanes old (lo new) (hi new) (omega arith) (omega arith)
 
--- So with the high byte.
+-- A write leaves the written high byte where it is selected, and else the old one.
 pub replaced-high : (lanes old new : ℕ) → hi (replaced lanes old new) ≡ cond (takes-high lanes) (hi new) (hi old)
 replaced-high lanes old new = laid-high lanes old (lo new) (hi new) (omega arith) (omega arith)
 
@@ -111,7 +111,7 @@ replaced-whole old w p = whole-word w p
 pub shown-low : (lanes w : ℕ) → lo (shown lanes w) ≡ cond (takes-low lanes) (lo w) 0
 shown-low lanes w = laid-low lanes 0 (lo w) (hi w) (omega arith) (omega arith)
 
--- So with the high byte.
+-- An answer has the high byte where it is selected, and else 0.
 pub shown-high : (lanes w : ℕ) → hi (shown lanes w) ≡ cond (takes-high lanes) (hi w) 0
 shown-high lanes w = laid-high lanes 0 (lo w) (hi w) (omega arith) (omega arith)
 

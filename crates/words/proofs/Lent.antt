@@ -8,17 +8,17 @@ use lib.ListN.{length, take, drop, length-take}
 use borrow.Rule.Slice.PartMut.{putMid, post-is, put-same}
 use Rattle.words.specs.Lent.{lent, given-back}
 
--- There are n of them, if the list has so many.
+-- The first n places are n, if the list has so many.
 pub first-length : (n : ℕ) (l : List ℕ) → n ≤ length l → length (take (n - 0) l) ≡ n
 first-length n l h = simp length-take (omega arith)
 
 -- up to the smaller of two numbers
 module _ {A : Type 0} (k n : ℕ) (l : List A) (e : n ≡ min k (length l)) where
-  -- What is lent.
+  -- Up to the smaller of k and the list's length, what is lent is `lent k`.
   pub lent-is : take (n - 0) l ≡ lent k l
   lent-is = ap (λ (j : ℕ). take j l) (sub-zero n ∙ e)
 
-  -- What the whole is when the part comes back as ys.
+  -- When that part comes back as ys, the whole is `given-back k` of it.
   pub back-is : (ys : List A) → putMid 0 (n - 0) l ys ≡ given-back k l ys
   back-is ys = ap (λ (r : List A). ys ++ r) (post-is 0 n l (omega arith) ∙ ap (λ (j : ℕ). drop j l) e)
 

@@ -22,12 +22,12 @@ module _ (m : List ℕ) (n : WordNumber) where
   pub in-memory-when : in-memory m n ≡ true ↔ n .0 < length m
   in-memory-when = (ltb-true (n .0) (length m), lt-ltb (n .0) (length m))
 
-  -- A fetch inside memory brings its word.
+  -- A fetch inside memory brings its word, and says so.
   pub fetched-inside : in-memory m n ≡ true → fetch-at m n ≡ record { word = getD m (n .0) 0; inside = true }
   unfolding fetch-at
   fetched-inside e = rw e
 
-  -- Beyond memory it brings FFFFh, and says so.
+  -- A fetch beyond memory brings FFFFh, and says so.
   pub fetched-beyond : in-memory m n ≡ false → fetch-at m n ≡ record { word = 65535; inside = false }
   unfolding fetch-at
   fetched-beyond e = rw e
@@ -42,7 +42,7 @@ module _ (m : List ℕ) (n : WordNumber) where
   unfolding store-at
   stored-here w e = rw e (getD-set-same m (n .0) w 0 (ltb-true _ _ e))
 
-  -- It changes no other word.
+  -- A store changes no other word.
   pub stored-elsewhere : (w k : ℕ) → k ≢ n .0 → getD (store-at m n w) k 0 ≡ getD m k 0
   unfolding store-at
   stored-elsewhere w k d = go (in-memory m n)
@@ -60,7 +60,7 @@ module _ (m : List ℕ) (n : WordNumber) where
       go true = length-set m (n .0) w
       go false = refl
 
-  -- What was stored is fetched.
+  -- What was stored inside memory is fetched again.
   pub fetch-stored : (w : ℕ) → in-memory m n ≡ true → fetch-at (store-at m n w) n ≡ record { word = w; inside = true }
   unfolding fetch-at
   fetch-stored w e = rw (stored-length w, e, stored-here w e)

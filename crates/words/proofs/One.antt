@@ -6,7 +6,7 @@ use mathlib.Core.List.{List}
 use Rattle.words.specs.Memory.{Stored}
 use Rattle.words.specs.declared.WordNumber.{WordNumber}
 
--- A statement that is one equation, as of every function that is lent nothing to change.
+-- A statement that is one equation, as that of every function that is lent nothing to change, allows one value.
 pub one-value : {A : Type 0} {x r r′ : A} → r ≡ x → r′ ≡ x → r ≡ r′
 one-value p q = p ∙ sym q
 

@@ -52,7 +52,7 @@ use Rattle.words.proofs.store_word.Reads as store-word
 
 -- ---- a store, of any outcome that `Stored` allows
 module _ {m : List ℕ} {n : WordNumber} {w : ℕ} {inside : Bool} {m′ : List ℕ} (k : Stored m n w inside m′) where
-  -- It says inside exactly if the word's number is below the memory's length.
+  -- A store says inside exactly if the word's number is below the memory's length.
   pub store-says-inside : inside ≡ true ↔ n .0 < length m
   store-says-inside = (λ e. in-memory-when m n .0 (sym (k .fell) ∙ e), λ h. k .fell ∙ in-memory-when m n .1 h)
 
@@ -65,40 +65,40 @@ module _ {m : List ℕ} {n : WordNumber} {w : ℕ} {inside : Bool} {m′ : List 
   store-keeps-the-rest =
       (λ j d. ap (λ (x : List ℕ). getD x j 0) (k .memory) ∙ stored-elsewhere m n w j d, ap length (k .memory) ∙ stored-length m n w)
 
-  -- Beyond memory it is dropped.
+  -- Beyond memory a store is dropped, and the memory stays.
   pub store-beyond : inside ≡ false → m′ ≡ m
   store-beyond e = k .memory ∙ stored-beyond m n w (sym (k .fell) ∙ e)
 
 -- ---- the contracts themselves: each is a statement on the call's own arguments
--- `word_of`: a.
+-- `word_of` takes any a, and all that its contract allows is `word-at` of it.
 pub word-of-contract : Contract word-of-kinds.ps word-of-kinds.r word-of.Pre word-of.Post
     (λ κs args r left.
     let a = args .0 in
     r ≡ word-at a)
 word-of-contract = record { takes-any = λ κs args. tt; says = λ κs args r left p. p }
 
--- `step_address`: a.
+-- `step_address` takes any a, and all that its contract allows is `step` of it.
 pub step-address-contract : Contract step-address-kinds.ps step-address-kinds.r step-address.Pre step-address.Post
     (λ κs args r left.
     let a = args .0 in
     r ≡ step a)
 step-address-contract = record { takes-any = λ κs args. tt; says = λ κs args r left p. p }
 
--- `low_byte`: w.
+-- `low_byte` takes any w, and all that its contract allows is `lo` of it.
 pub low-byte-contract : Contract low-byte-kinds.ps low-byte-kinds.r low-byte.Pre low-byte.Post
     (λ κs args r left.
     let w = args .0 in
     r ≡ lo w)
 low-byte-contract = record { takes-any = λ κs args. tt; says = λ κs args r left p. p }
 
--- `high_byte`: w.
+-- `high_byte` takes any w, and all that its contract allows is `hi` of it.
 pub high-byte-contract : Contract high-byte-kinds.ps high-byte-kinds.r high-byte.Pre high-byte.Post
     (λ κs args r left.
     let w = args .0 in
     r ≡ hi w)
 high-byte-contract = record { takes-any = λ κs args. tt; says = λ κs args r left p. p }
 
--- `join_bytes`: l, h.
+-- `join_bytes` takes any l and h, and all that its contract allows is l + 256 h.
 pub join-bytes-contract : Contract join-bytes-kinds.ps join-bytes-kinds.r join-bytes.Pre join-bytes.Post
     (λ κs args r left.
     let l = args .0 in
@@ -106,7 +106,7 @@ pub join-bytes-contract : Contract join-bytes-kinds.ps join-bytes-kinds.r join-b
     r ≡ l + 256 * h)
 join-bytes-contract = record { takes-any = λ κs args. tt; says = λ κs args r left p. p }
 
--- `join_four`: a, b, c, d.
+-- `join_four` takes any a, b, c and d, and all that its contract allows is the four bytes added up, each at its weight.
 pub join-four-contract : Contract join-four-kinds.ps join-four-kinds.r join-four.Pre join-four.Post
     (λ κs args r left.
     let a = args .0 in
@@ -116,7 +116,7 @@ pub join-four-contract : Contract join-four-kinds.ps join-four-kinds.r join-four
     r ≡ a + 256 * b + 65536 * c + 16777216 * d)
 join-four-contract = record { takes-any = λ κs args. tt; says = λ κs args r left p. p }
 
--- `bit_of`: w, i.
+-- `bit_of` takes any w and i, and all that its contract allows is `bit` of them.
 pub bit-of-contract : Contract bit-of-kinds.ps bit-of-kinds.r bit-of.Pre bit-of.Post
     (λ κs args r left.
     let w = args .0 in
@@ -124,7 +124,7 @@ pub bit-of-contract : Contract bit-of-kinds.ps bit-of-kinds.r bit-of.Pre bit-of.
     r ≡ bit w i)
 bit-of-contract = record { takes-any = λ κs args. tt; says = λ κs args r left p. p }
 
--- `both`: a, b.
+-- `both` takes any a and b, and all that its contract allows is `&&` of them.
 pub both-contract : Contract both-kinds.ps both-kinds.r both.Pre both.Post
     (λ κs args r left.
     let a = args .0 in
@@ -132,7 +132,7 @@ pub both-contract : Contract both-kinds.ps both-kinds.r both.Pre both.Post
     r ≡ (a && b))
 both-contract = record { takes-any = λ κs args. tt; says = λ κs args r left p. p }
 
--- `either`: a, b.
+-- `either` takes any a and b, and all that its contract allows is `||` of them.
 pub either-contract : Contract either-kinds.ps either-kinds.r either.Pre either.Post
     (λ κs args r left.
     let a = args .0 in
@@ -140,7 +140,7 @@ pub either-contract : Contract either-kinds.ps either-kinds.r either.Pre either.
     r ≡ (a || b))
 either-contract = record { takes-any = λ κs args. tt; says = λ κs args r left p. p }
 
--- `least`: a, b.
+-- `least` takes any a and b, and all that its contract allows is the smaller (`min`).
 pub least-contract : Contract least-kinds.ps least-kinds.r least.Pre least.Post
     (λ κs args r left.
     let a = args .0 in
@@ -148,28 +148,28 @@ pub least-contract : Contract least-kinds.ps least-kinds.r least.Pre least.Post
     r ≡ min a b)
 least-contract = record { takes-any = λ κs args. tt; says = λ κs args r left p. p }
 
--- `selects_low`: lanes.
+-- `selects_low` takes any lanes, and all that its contract allows is `takes-low` of them.
 pub selects-low-contract : Contract selects-low-kinds.ps selects-low-kinds.r selects-low.Pre selects-low.Post
     (λ κs args r left.
     let lanes = args .0 in
     r ≡ takes-low lanes)
 selects-low-contract = record { takes-any = λ κs args. tt; says = λ κs args r left p. p }
 
--- `selects_high`: lanes.
+-- `selects_high` takes any lanes, and all that its contract allows is `takes-high` of them.
 pub selects-high-contract : Contract selects-high-kinds.ps selects-high-kinds.r selects-high.Pre selects-high.Post
     (λ κs args r left.
     let lanes = args .0 in
     r ≡ takes-high lanes)
 selects-high-contract = record { takes-any = λ κs args. tt; says = λ κs args r left p. p }
 
--- `names_lanes`: n.
+-- `names_lanes` takes any n, and all that its contract allows is `are-lanes` of it.
 pub names-lanes-contract : Contract names-lanes-kinds.ps names-lanes-kinds.r names-lanes.Pre names-lanes.Post
     (λ κs args r left.
     let n = args .0 in
     r ≡ are-lanes n)
 names-lanes-contract = record { takes-any = λ κs args. tt; says = λ κs args r left p. p }
 
--- `lay_bytes`: lanes, old, l, h.
+-- `lay_bytes` takes any lanes, old, l and h, and all that its contract allows is `lay` of them.
 pub lay-bytes-contract : Contract lay-bytes-kinds.ps lay-bytes-kinds.r lay-bytes.Pre lay-bytes.Post
     (λ κs args r left.
     let lanes = args .0 in
@@ -179,7 +179,7 @@ pub lay-bytes-contract : Contract lay-bytes-kinds.ps lay-bytes-kinds.r lay-bytes
     r ≡ lay lanes old l h)
 lay-bytes-contract = record { takes-any = λ κs args. tt; says = λ κs args r left p. p }
 
--- `show_bytes`: lanes, w.
+-- `show_bytes` takes any lanes and w, and all that its contract allows is `shown` of them.
 pub show-bytes-contract : Contract show-bytes-kinds.ps show-bytes-kinds.r show-bytes.Pre show-bytes.Post
     (λ κs args r left.
     let lanes = args .0 in
@@ -187,7 +187,7 @@ pub show-bytes-contract : Contract show-bytes-kinds.ps show-bytes-kinds.r show-b
     r ≡ shown lanes w)
 show-bytes-contract = record { takes-any = λ κs args. tt; says = λ κs args r left p. p }
 
--- `replace_bytes`: lanes, old, new.
+-- `replace_bytes` takes any lanes, old and new, and all that its contract allows is `replaced` of them.
 pub replace-bytes-contract : Contract replace-bytes-kinds.ps replace-bytes-kinds.r replace-bytes.Pre replace-bytes.Post
     (λ κs args r left.
     let lanes = args .0 in
@@ -196,14 +196,14 @@ pub replace-bytes-contract : Contract replace-bytes-kinds.ps replace-bytes-kinds
     r ≡ replaced lanes old new)
 replace-bytes-contract = record { takes-any = λ κs args. tt; says = λ κs args r left p. p }
 
--- `is_over_limit`: words.
+-- `is_over_limit` takes any words, and all that its contract allows is `over-limit` of them.
 pub is-over-limit-contract : Contract is-over-limit-kinds.ps is-over-limit-kinds.r is-over-limit.Pre is-over-limit.Post
     (λ κs args r left.
     let words = args .0 in
     r ≡ over-limit words)
 is-over-limit-contract = record { takes-any = λ κs args. tt; says = λ κs args r left p. p }
 
--- `fetch_word`: memory, n.
+-- `fetch_word` takes any memory and n, and all that its contract allows is `fetch-at` of them.
 pub fetch-word-contract : Contract fetch-word-kinds.ps fetch-word-kinds.r fetch-word.Pre fetch-word.Post
     (λ κs args r left.
     let memory = args .0 in
@@ -211,7 +211,7 @@ pub fetch-word-contract : Contract fetch-word-kinds.ps fetch-word-kinds.r fetch-
     r ≡ fetch-at (memory .now) n)
 fetch-word-contract = record { takes-any = λ κs args. tt; says = λ κs args r left p. p }
 
--- `store_word`: memory, n, w.
+-- `store_word` takes any memory, n and w, and all that its contract allows is `Stored` of them.
 pub store-word-contract : Contract store-word-kinds.ps store-word-kinds.r store-word.Pre store-word.Post
     (λ κs args r left.
     let memory = args .0 in

@@ -102,11 +102,12 @@ returns-3 c =
     let d = at-call-lent .call-lent .ensures in
     let m = lent-is (a .s .length) (at-least .least .result) room (at-least .least .ensures) in
     let l = lent-is (a .s .size) (at-least2 .least2 .result) list (at-least2 .least2 .ensures) in
+    let kept = at-call-lent .call-lent .last .1 in
     record {
       answer = rw (e1, e2) (d .answer ∙ (λ i. lent-answer (a .s) (m i) (l i) (a .call)));
-      left = rw (e1, e2) (back-is (a .s .length) (at-least .least .result) room (at-least .least .ensures) (at-call-lent .call-lent .last .1 .0)
+      left = rw (e1, e2) (back-is (a .s .length) (at-least .least .result) room (at-least .least .ensures) (kept .0)
           ∙ ap (given-back (a .s .length) room) (d .memory ∙ (λ i. lent-memory (a .s) (m i) (l i) (a .call))));
-      list-left = rw (e1, e2) (back-is (a .s .size) (at-least2 .least2 .result) list (at-least2 .least2 .ensures) (at-call-lent .call-lent .last .1 .1 .0)
+      list-left = rw (e1, e2) (back-is (a .s .size) (at-least2 .least2 .result) list (at-least2 .least2 .ensures) (kept .1 .0)
           ∙ ap (given-back (a .s .size) list) (d .list ∙ (λ i. lent-list (a .s) (m i) (l i) (a .call))));
     }
 

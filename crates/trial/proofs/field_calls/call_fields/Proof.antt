@@ -51,7 +51,8 @@ returns-2 c =
     let same : toZ w32 (ofZ w32 (t .result .value)) ≡ t .result .value =
     toZ-ofZ (record { sfits = c .before .before .struct-told .given .1 .0 .1 }) in
     record {
-      answer = rw (e, f, c .answer2 .ensures, c .before .modulo-of .ensures ∙ ap modulo same) (ap (signed-done (start .args .s)) (t .ensures));
+      answer =
+          rw (e, f, c .answer2 .ensures, c .before .modulo-of .ensures ∙ ap modulo same) (ap (signed-done (start .args .s)) (t .ensures));
       memory = rw (e, f);
     }
 

@@ -39,7 +39,8 @@ same-length c = search needs
 returns : tie.Need-returns
 returns c =
     let at-host-access-by-lending = c .before .before .before in
-    carried-out _ _ _ (at-host-access-by-lending .before .access-of .ensures) (at-host-access-by-lending .host-access-by-lending .ensures) (c .host-done .ensures)
+    carried-out _ _ _ (at-host-access-by-lending .before .access-of .ensures)
+    (at-host-access-by-lending .host-access-by-lending .ensures) (c .host-done .ensures)
 
 access-of-requires-2 : tie.Need-access-of-requires-2
 access-of-requires-2 c κs = tt

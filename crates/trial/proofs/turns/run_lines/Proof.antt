@@ -158,10 +158,11 @@ loop-again c =
     let line = part-is (38 * at-loop .loop .i) 38 (start .args .input .now) in
     let read = read-good _ _ (sym (ap line-in line) ∙ sym (at-read-line .read-line .ensures) ∙ at-call .call .given .1) in
     let done = at-carry-out .carry-out .ensures in
+    let kept = at-carry-out .carry-out .kept .1 in
     let part = part-length (47 * at-loop .loop .i) 47 (at-loop .loop .output) (in-output k more (start .pre)) in
     let long = at-put-line .put-line .kept .0 ∙ part in
     let written = at-put-line .put-line .ensures ∙ whole-line _ _ _ part in
-    turned k more (start .pre) (read .0) (read .1) done (at-carry-out .carry-out .kept .1 .0) (at-carry-out .carry-out .kept .1 .1 .0) written long
+    turned k more (start .pre) (read .0) (read .1) done (kept .0) (kept .1 .0) written long
 
 enum-told : tie.Need-enum-told Inv-loop μ-loop
 enum-told c = search needs

@@ -26,7 +26,11 @@ returns c =
     let at-digest-of = c .before .before .before in
     let at-if1 = at-digest-of .before .before in
     let e = eq-eqb _ _ (at-if1 .if1 .taken) in
-    record { answer = rw (e, c .answer .ensures, at-digest-of .digest-of .ensures, c .before .digest-of2 .ensures); left = rw e; list-left = rw e }
+    record {
+      answer = rw (e, c .answer .ensures, at-digest-of .digest-of .ensures, c .before .digest-of2 .ensures);
+      left = rw e;
+      list-left = rw e;
+    }
 
 fill-requires : tie.Need-fill-requires
 fill-requires c κs = tt
