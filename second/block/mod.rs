@@ -16,7 +16,7 @@ fn part(memory: &[u16], list: &[u16], place: u64, count: u32) -> Result<Range<us
     }
 }
 
-/// Number, and the hollow words handed out.
+/// Number, and "the hollow words handed out": a count of two-lane reads of register 2.
 pub fn read(port: &mut Port, memory: &[u16], list: &mut [u16], at: u64, count: u32) -> (u8, u32) {
     let part = match part(memory, list, at, count) {
         Ok(part) => part,
@@ -31,7 +31,7 @@ pub fn read(port: &mut Port, memory: &[u16], list: &mut [u16], at: u64, count: u
     (0, hollow)
 }
 
-/// Number, and the stores that fell empty.
+/// Number, and "the stores that fell empty".
 pub fn write(port: &mut Port, memory: &mut [u16], list: &[u16], at: u64, count: u32) -> (u8, u32) {
     let part = match part(memory, list, at, count) {
         Ok(part) => part,

@@ -2,6 +2,8 @@
 
 const HOLD: usize = 0;
 
+/// "Sources, highest first: 0 hold, 1 screen refresh, 2 DRAM refresh, 3 host, 4 processor. Each waits
+/// or doesn't."
 #[derive(Default)]
 pub struct Bus {
     waits: [bool; 5],
@@ -23,7 +25,8 @@ impl Bus {
         }
     }
 
-    /// Number and source.
+    /// Number and source. "A grant answers the highest waiting source and clears it, except hold, which
+    /// stays until released."
     pub fn grant(&mut self) -> (u8, u32) {
         let Some(source) = (0..5).find(|&source| self.waits[source]) else {
             return (8, 0);
@@ -32,6 +35,7 @@ impl Bus {
         (0, source as u32)
     }
 
+    /// "Hold may be released whether or not it was granted."
     pub fn release(&mut self) -> u8 {
         let waited = std::mem::replace(&mut self.waits[HOLD], false);
         if waited {

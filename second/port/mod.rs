@@ -3,6 +3,8 @@
 
 pub mod access;
 
+use crate::refusal::none_of;
+
 const MSGIN: u16 = 0x0007;
 const INTIN: u16 = 0x0008;
 const MSGOUT: u16 = 0x0070;
@@ -37,6 +39,7 @@ pub struct Port {
     pub hollow: bool,
 }
 
+/// The answer to a refusal, or to a write: no word and no mark.
 fn without_word(number: u8, cycle: Cycle) -> Answer {
     Answer {
         number,
@@ -51,16 +54,13 @@ pub fn too_long(memory: &[u16]) -> bool {
     memory.len() > 32_768
 }
 
-fn refusal(memory: &[u16], register: u32, lanes: u32) -> u8 {
-    if too_long(memory) {
-        1
-    } else if register > 3 {
-        2
-    } else if !(1..=3).contains(&lanes) {
-        3
-    } else {
-        0
-    }
+/// "Tested in this order".
+fn judged(memory: &[u16], register: u32, lanes: u32) -> Result<(), u8> {
+    none_of(&[
+        (too_long(memory), 1),
+        (register > 3, 2),
+        (!(1..=3).contains(&lanes), 3),
+    ])
 }
 
 /// The bits of the selected bytes.
@@ -78,6 +78,7 @@ fn high_control(word: u16) -> u16 {
 }
 
 impl Port {
+    /// "All registers 0 except HLT 1, hollow true".
     pub fn reset() -> Port {
         Port {
             pointer: 0,
@@ -87,9 +88,11 @@ impl Port {
         }
     }
 
+    /// "Reading registers 0, 1 and 3 changes nothing. [..] Reading register 2 answers what HSTDATA
+    /// held at entry, with its hollow mark at entry. If the closing byte is selected, then: with
+    /// INCR 1 the pointer gains 16; then a fetch."
     pub fn read(&mut self, memory: &[u16], register: u32, lanes: u32) -> Answer {
-        let number = refusal(memory, register, lanes);
-        if number != 0 {
+        if let Err(number) = judged(memory, register, lanes) {
             return without_word(number, Cycle::None);
         }
         let bits = selected(lanes);
@@ -101,16 +104,18 @@ impl Port {
             cycle = self.fetch(memory);
         }
         Answer {
-            number,
+            number: 0,
             word,
             hollow,
             cycle,
         }
     }
 
+    /// "Writing register 0 or 1 replaces the selected bytes. If the closing byte is selected, and the
+    /// register is 1 with LBL 0, or 0 with LBL 1, memory is fetched at the new pointer. This fetch
+    /// doesn't increment". LBL counts as it stands before the access.
     pub fn write(&mut self, memory: &mut [u16], register: u32, lanes: u32, word: u16) -> Answer {
-        let number = refusal(memory, register, lanes);
-        if number != 0 {
+        if let Err(number) = judged(memory, register, lanes) {
             return without_word(number, Cycle::None);
         }
         let bits = selected(lanes);
@@ -126,9 +131,11 @@ impl Port {
             0 | 1 if closes && register == last_half => self.fetch(memory),
             _ => Cycle::None,
         };
-        without_word(number, cycle)
+        without_word(0, cycle)
     }
 
+    /// "The whole of HSTDATA is stored at the pointer, the hollow mark clears, then with INCW 1 the
+    /// pointer gains 16"; "an empty store is dropped".
     fn end_of_write(&mut self, memory: &mut [u16]) -> Cycle {
         let mut cycle = Cycle::Empty;
         if let Some(word) = memory.get_mut(self.pointer as usize / 16) {
@@ -140,6 +147,8 @@ impl Port {
         cycle
     }
 
+    /// By the host: "MSGIN is replaced; INTIN becomes old OR written; INTOUT becomes old AND written;
+    /// MSGOUT stays. High lane: all its bits but 10 are replaced."
     fn write_control(&mut self, word: u16, bits: u16) {
         let old = self.control;
         let intin = (old | word) & INTIN;
@@ -147,19 +156,22 @@ impl Port {
         self.control = replaced(old, high_control(word) | low, bits);
     }
 
-    /// Whether the closing byte is among those bits, by LBL as it stands.
+    /// Whether the closing byte is among those bits: "the high byte when LBL is 0 and the low byte
+    /// when LBL is 1".
     fn closes(&self, bits: u16) -> bool {
         let closing = if self.control & LBL == 0 { HIGH } else { LOW };
         bits & closing != 0
     }
 
-    /// The pointer's gain, if that bit of HSTCTL is 1.
+    /// If that bit of HSTCTL is 1, "the pointer gains 16 modulo 2^32: after FFFFFFF0h comes 0".
     fn step_if(&mut self, bit: u16) {
         if self.control & bit != 0 {
             self.pointer = self.pointer.wrapping_add(16);
         }
     }
 
+    /// "A fetch inside memory clears the hollow mark"; "an empty fetch puts FFFFh in HSTDATA and makes
+    /// it hollow".
     fn fetch(&mut self, memory: &[u16]) -> Cycle {
         if let Some(&word) = memory.get(self.pointer as usize / 16) {
             self.data = word;
@@ -171,7 +183,7 @@ impl Port {
         Cycle::Empty
     }
 
-    /// A register as the host reads it, with both lanes.
+    /// A register as the host reads it, with both lanes; bit 10 "reads as 0".
     fn register(&self, register: u32) -> u16 {
         match register {
             0 => self.pointer as u16,
@@ -186,7 +198,7 @@ impl Port {
         self.pointer = self.pointer & !(0xFFFF << shift) | u32::from(half) << shift;
     }
 
-    /// Number and word.
+    /// Number and word. "HSTCTLL reads as the low byte", "HSTCTLH reads with a zero low byte".
     pub fn processor_read(&self, register: u32) -> (u8, u16) {
         match register {
             0..=2 => (0, self.register(register)),
@@ -196,6 +208,9 @@ impl Port {
         }
     }
 
+    /// "A write to HSTDATA clears the hollow mark." HSTCTLL: "a write replaces MSGOUT, makes INTIN old
+    /// AND written and INTOUT old OR written, and keeps MSGIN"; HSTCTLH: "a write replaces the high
+    /// byte but bit 10".
     pub fn processor_write(&mut self, register: u32, word: u16) -> u8 {
         let old = self.control;
         match register {
