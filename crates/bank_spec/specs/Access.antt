@@ -16,7 +16,7 @@ use Rattle.bank_spec.specs.declared.Banks.{Banks}
 use Rattle.bank_spec.specs.declared.BankPort.{BankPort}
 use Rattle.bank_spec.specs.declared.BankAnswer.{BankAnswer}
 
--- "The caller passes the registers' starting contents and index (modulo 16)"
+-- "The caller passes the registers' starting contents and index (modulo 16)": a record by value, which each access hands back (ours)
 abbrev pub place : ℕ → ℕ
 place i = i % 16
 

@@ -50,7 +50,8 @@ host-low old new = low-parts new (intin old || intin new) old (intout old && int
 unfoldable pub processor-low : ℕ → ℕ → ℕ
 processor-low old new = low-parts old (intin old && intin new) new (intout old || intout new)
 
--- HSTCTL after a write: the low byte by the writer's rule; "High lane: all its bits but 10 are replaced"
+-- HSTCTL after a write: the low byte by the writer's rule; "High lane: all its bits but 10 are replaced"; a bit 10 that was passed in set
+-- stays until then (ours)
 abbrev pub control-laid : (ℕ → ℕ → ℕ) → ℕ → ℕ → ℕ → ℕ
 control-laid low lanes c w = lay lanes c (low (lo c) (lo w)) (hi (bare w))
 

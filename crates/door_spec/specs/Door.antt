@@ -19,7 +19,8 @@ use Rattle.door_spec.specs.Bytes.{words-of, bytes-of, byte}
 use Rattle.door_spec.specs.Image.{registers-of, image-of}
 use Rattle.door_spec.specs.Answer.{packed, refusing}
 
--- "11 C door: image not nine bytes, hollow byte over 1, bit 10 set, or odd memory length"
+-- "11 C door: image not nine bytes, hollow byte over 1, bit 10 set, or odd memory length"; an image of another length is looked at no
+-- further (ours)
 unfoldable pub misfit : List ℕ → List ℕ → Bool
 misfit image memory =
     not (eqb (length image) 9) ||

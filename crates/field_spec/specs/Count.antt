@@ -50,6 +50,6 @@ put-cost whole = cond whole 1 2
 unfoldable pub put-cycles : BitAddress → ℕ → ℕ
 put-cycles a n = sum-over (λ w. put-cost (wholly-covered a n w)) (word-at a) (touched a n)
 
--- "The two cycles of a partly covered word are one grant"
+-- "The two cycles of a partly covered word are one grant": counted here, and no call uses grants up (ours)
 unfoldable pub put-grants : BitAddress → ℕ → ℕ
 put-grants a n = sum-over (λ w. 1) (word-at a) (touched a n)

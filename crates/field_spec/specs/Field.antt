@@ -15,6 +15,7 @@ use Rattle.words.specs.Addresses.{address, word-at}
 use Rattle.words.specs.Bytes.{bit}
 use Rattle.words.specs.declared.BitAddress.{BitAddress}
 
+-- it does not wrap (ours)
 abbrev pub bits-after : BitAddress → ℕ → BitAddress
 bits-after a i = address (a .0 + i)
 

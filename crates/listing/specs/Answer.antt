@@ -16,7 +16,7 @@ use Rattle.port_spec.specs.declared.Cycle.{Cycle}
 use Rattle.port_spec.specs.declared.Cycle.the-variants.{None, Inside, Empty}
 use Rattle.digits.specs.Digits.{digit-for}
 
--- the number's digit (a host's answer has no number above 3), a space, the word's four digits
+-- the number's digit (a host's answer has no number above 3), a space, the word's four digits, upper-case (ours)
 unfoldable pub number-text : ℕ → ℕ → List ℕ
 number-text number w =
     (48 + number) ∷ 32 ∷ digit-for (w / 4096) ∷ digit-for (w / 256) ∷ digit-for (w / 16) ∷ digit-for w ∷ []
@@ -52,6 +52,6 @@ answer-text a x =
     number-text (x .number) (x .word) ++
     (mark-text (shows-mark a (x .number)) (x .hollow) ++ cycle-text (x .cycle))
 
--- "prints `bad line`", and a line feed
+-- "prints `bad line`", and a line feed (ours)
 abbrev pub bad-line : List ℕ
 bad-line = 98 ∷ 97 ∷ 100 ∷ 32 ∷ 108 ∷ 105 ∷ 110 ∷ 101 ∷ 10 ∷ []

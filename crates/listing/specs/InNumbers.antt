@@ -16,7 +16,7 @@ use Rattle.listing.specs.Spelled.{line-text, Sayable}
 use Rattle.listing.specs.declared.Front.{Front}
 use Rattle.listing.specs.declared.Front.the-variants.{Good, Bad, Open}
 
--- Document 01 has words for it, `bad line`, and no paper has a number: this one is ours, the next behind document 02's 26.
+-- Document 01 has words for it, `bad line`, and no paper has a number: (ours) the next behind document 02's 26.
 abbrev pub bad-line-number : ℕ
 bad-line-number = 27
 

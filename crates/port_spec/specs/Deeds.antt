@@ -35,7 +35,7 @@ pub data Deed : Type 0 where
   -- a write by the processor, of a word to one of its registers; what it reads changes nothing
   processor : ℕ → ℕ → Deed
   reset : Deed
-  -- whoever else holds the memory, between two calls, leaves it so
+  -- whoever else holds the memory, between two calls, leaves it so (ours)
   elsewhere : List ℕ → Deed
 
 -- "Reset: .. Memory stays"

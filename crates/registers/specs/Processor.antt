@@ -32,7 +32,7 @@ processor-written r register w =
     (cond (eqb register 3) (with-control r (control-laid processor-low 1 (r .control) w))
     (with-control r (control-laid processor-low 2 (r .control) w))))
 
--- "2 register not listed for that side"
+-- "2 register not listed for that side"; that a read answers a word and no mark, and a write the registers, is (ours)
 unfoldable pub processor-reads : Registers → ℕ → ProcessorRead
 processor-reads r register =
     cond (ltb 4 register) (record { number = 2; word = 0 }) (record { number = 0; word = processor-word r register })

@@ -99,7 +99,7 @@ sent-back n = eqb n 24 || eqb n 26
 abbrev pub kept : Streamed → List ℕ → List ℕ
 kept o s = cond (sent-back (o .number)) [] s
 
--- "the joined bytes"
+-- "the joined bytes": but those that were sent back (ours)
 unfoldable pub joined : List Turn → List ℕ
 joined [] = []
 joined (t ∷ ts) = kept (t .answer) (t .bytes) ++ joined ts

@@ -80,6 +80,7 @@ lists-after st s l = cond (eqb (barred st s (size l)) 0) (with-entries (heard st
 abbrev pub end-answered : Stream → Streamed
 end-answered st = streamed (cut-off (st .part)) 0 (place-of (cut-off (st .part)) (st .from)) (closed st)
 
+-- the end is a call of its own, and a second one is refused with 25 (ours)
 unfoldable pub end-answer : Stream → Streamed
 end-answer st = cond (st .ended) (streamed 25 0 0 st) (end-answered st)
 

@@ -16,7 +16,7 @@ taken-numbers (Taken n) = accepted n
 taken-numbers (BadLine k) = refused bad-line-number k
 taken-numbers NoPlaces = refused 24 0
 
--- 22: "also for a kind over 1 or a read's word not 0"; that a register or lanes of two digits have it too is ours
+-- 22: "also for a kind over 1 or a read's word not 0"; also for a register or lanes of two digits (ours)
 abbrev pub put-numbers : LinesPut → Transcribed
 put-numbers (Written n) = accepted n
 put-numbers (Unsayable k) = refused 22 k

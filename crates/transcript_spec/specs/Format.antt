@@ -13,7 +13,8 @@ use Rattle.transcript_spec.specs.declared.Entry.{Entry}
 abbrev pub head-of : Entry → ℕ
 head-of e = e .kind + 2 * e .register + 8 * e .lanes
 
--- "groups of seven bits, most significant group first, the top bit set on all bytes but the last, no leading zero group"
+-- "groups of seven bits, most significant group first, the top bit set on all bytes but the last, no leading zero group"; 0
+-- is one group (ours)
 unfoldable pub groups : ℕ → List ℕ
 groups v =
     cond (ltb v 128) (v ∷ [])

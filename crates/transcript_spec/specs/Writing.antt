@@ -32,6 +32,7 @@ entry-refusal e = cond (ltb 3 (e .register)) 2 (cond (are-lanes (e .lanes)) (con
 abbrev pub refused : ℕ → ℕ → Transcribed
 refused n place = record { number = n; count = 0; place = place }
 
+-- one kind of answer for writer and reader (ours)
 abbrev pub accepted : ℕ → Transcribed
 accepted count = record { number = 0; count = count; place = 0 }
 
