@@ -14,8 +14,8 @@ use Rattle.bank_spec.specs.Decode.{agrees}
 use Rattle.bank_spec.specs.InPlainWords.{mask-for}
 use Rattle.bank_spec.proofs.BitByBit.{masked-alike}
 
--- Two such masks in figures: FF800000h for 1 MByte, 2^23 bits, the paper's own example, and FFFFFE00h for 2^9 bits, those of a palette's
--- registers in its sample map.
+-- Two of source document 001's masks in figures: FF800000h for 1 MByte, 2^23 bits, the paper's own example, and FFFFFE00h for 2^9 bits,
+-- those of a palette's registers in its sample map.
 pub sample-masks : (mask-for 23 ≡ 0xFF800000) × (mask-for 9 ≡ 0xFFFFFE00)
 sample-masks = (refl, refl)
 

@@ -22,7 +22,7 @@ unfolding read-answer write-answer
 steps p (read lanes) e = rw (when lanes .done .1 e)
 steps p (write lanes w) e = rw (when lanes .done .1 e)
 
--- Any other access, of a byte or with no lanes, is refused and leaves the port.
+-- An access that is not of sixteen bits, but of a byte or with no lanes, leaves the port.
 pub stays : (p : BankPort) (x : Access) → lanes-of x ≢ 3 → answer-to p x .port ≡ p
 stays p x d = let k = access-numbers p x in k .refused (λ z. d (k .number .done .0 z)) .1
 

@@ -12,7 +12,7 @@ use Rattle.bank_trial.specs.Selected.{digit}
 abbrev shown : ℕ → ℕ → Decoded
 shown number d = decoded-as number (bit d 0) (bit d 1) (bit d 2) (bit d 3)
 
--- The bits of the digit are the banks of the answer that it was made of.
+-- The bits of the digit for the selected banks are the banks of the answer that it was made of.
 pub bit-by-bank : (o : Decoded) → shown (o .number) (digit o) ≡ o
 unfolding bit
 bit-by-bank o = each (o .bank0) (o .bank1) (o .bank2) (o .bank3)

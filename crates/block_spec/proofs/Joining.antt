@@ -22,7 +22,7 @@ one-more true h = omega arith
 one-more false h = omega arith
 
 module _ (f : Answer → Bool) where
-  -- The counts of two parts are added.
+  -- Of answers in two parts, one behind the other, the counts are added.
   pub tally-join : (xs ys : List Answer) → tally f (xs ++ ys) ≡ tally f xs + tally f ys
   unfolding tally
   tally-join [] ys = sym (zero-add (tally f ys))

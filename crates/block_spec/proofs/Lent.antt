@@ -19,15 +19,15 @@ part-is a n l =
     let e : a + n - a ≡ n = omega arith in
     ap (λ (k : ℕ). take k (drop a l)) e
 
--- Come back as ys, they lie between what was before them and what was after them.
+-- A list whose n places from a on were lent and come back as ys is what was before them, ys, and what was behind them.
 pub put-back : (a n : ℕ) (l ys : List ℕ) → putMid a (a + n - a) l ys ≡ with-list-part l a n ys
 put-back a n l ys = ap (λ (r : List ℕ). take a l ++ (ys ++ r)) (post-is a (a + n) l (omega arith))
 
--- The first n places, lent, are its first n words.
+-- The first n places of a list, lent, are its first n words.
 pub first-is : (n : ℕ) (l : List ℕ) → take (n - 0) l ≡ take n l
 first-is n l = ap (λ (k : ℕ). take k l) (sub-zero n)
 
--- The places from n on, lent, are the words from there on.
+-- The places of a list from n on, lent, are its words from there on.
 pub rest-is : (n : ℕ) (l : List ℕ) → take (length l - n) (drop n l) ≡ drop n l
 rest-is n l = take-all (length l - n) (drop n l) (simp length-drop (omega arith))
 
@@ -44,11 +44,11 @@ module _ (n : ℕ) (l xs : List ℕ) (h : n ≤ length l) (e : length xs ≡ n) 
   pub rest-starts : n ≤ length (between n l xs)
   rest-starts = rw between-length h
 
-  -- The places from n on, lent, are then all that is left.
+  -- The places from n on, lent once the first n came back as xs, are as many as the list has behind those.
   pub rest-length : length (take (length (between n l xs) - n) (drop n (between n l xs))) ≡ length l - n
   rest-length = simp (length-take, length-drop) (omega (arith, between-length))
 
-  -- When they come back as ys, the list is both parts.
+  -- A list whose first n places came back as xs, and the others come back as ys, is both parts.
   pub both-back : (ys : List ℕ) → putMid n (length (between n l xs) - n) (between n l xs) ys ≡ xs ++ ys
   both-back ys =
       let left : length (drop n (between n l xs)) ≤ length (between n l xs) - n = simp length-drop (omega arith) in
@@ -63,26 +63,26 @@ module _ (a n : ℕ) (l ys : List ℕ) (h : a + n ≤ length l) (e : length ys �
   front : length (take a l) ≡ a
   front = length-take-le a l (omega arith)
 
-  -- The list is as long as it was.
+  -- A list whose n places from a on become n words ys is as long as it was.
   pub laid-length : length laid ≡ length l
   laid-length = simp (length-append, length-drop) (omega (arith, front))
 
-  -- In the part lie ys.
+  -- In a list whose n places from a on become ys, place a + k has word k of ys.
   pub laid-inside : (k : ℕ) → k < n → getD laid (a + k) 0 ≡ getD ys k 0
   laid-inside k q =
       ap (λ (x : ℕ). getD laid (x + k) 0) (sym front) ∙
       getD-append-add (take a l) (ys ++ drop (a + n) l) k 0 ∙
       List·getD-append ys (drop (a + n) l) 0 k (omega arith)
 
-  -- The part itself is ys.
+  -- In a list whose n places from a on become ys, the part from a on is ys.
   pub laid-part : list-part laid a n ≡ ys
   laid-part = rw (drop-at (take a l) (ys ++ drop (a + n) l) a front) (take-at ys (drop (a + n) l) n e)
 
-  -- Before the part lies what lay there.
+  -- In a list whose n places from a on become ys, the places before a stay.
   pub laid-before : (k : ℕ) → k < a → getD laid k 0 ≡ getD l k 0
   laid-before k q = List·getD-append (take a l) (ys ++ drop (a + n) l) 0 k (omega (arith, front)) ∙ getD-take a l k 0 q
 
-  -- Behind the part lies what lay there.
+  -- In a list whose n places from a on become ys, the places from a + n on stay.
   pub laid-behind : (k : ℕ) → a + n ≤ k → getD laid k 0 ≡ getD l k 0
   laid-behind k q =
       let j = k - (a + n) in

@@ -88,7 +88,7 @@ module _ (r : Registers) (m l : List ℕ) (place count : ℕ) where
     unfolding block-read
     read-taken = rw (eq-eqb _ _ e)
 
-    -- The list after it has the words that these reads hand out in its part.
+    -- The list after an accepted block read has in its part the words that the single reads hand out.
     pub list-taken : list-after r m l place count ≡ with-list-part l place count (words-in (answers (machine r m) (reading count)))
     unfolding list-after
     list-taken = rw (eq-eqb _ _ e)
@@ -99,7 +99,7 @@ module _ (r : Registers) (m l : List ℕ) (place count : ℕ) where
     unfolding block-write
     write-taken = rw (eq-eqb _ _ e)
 
-    -- The memory after it is that where these writes end.
+    -- The memory after an accepted block write is that where the single writes end.
     pub memory-taken : memory-left r m l place count ≡ ends (machine r m) writes .memory
     unfolding memory-left
     memory-taken = rw (eq-eqb _ _ e)
@@ -148,6 +148,7 @@ module _ (r : Registers) (m l : List ℕ) (place count : ℕ) where
   pub read-numbered : BlockWhen (length m) (length l) place count (block-read r m l place count .number)
   read-numbered = rw read-number (when (length m) (length l) place count)
 
-  -- The number of a block write is 0, 1 or 10, each exactly if, as that of a block read (`BlockWhen`).
+  -- The number of a block write is 0, 1 or 10: 1 exactly if memory has over 32,768 words; 10 exactly if not, and the count is over 4,096 or
+  -- place plus count over the list's length; 0 exactly otherwise.
   pub write-numbered : BlockWhen (length m) (length l) place count (block-write r m l place count .number)
   write-numbered = rw write-number (when (length m) (length l) place count)

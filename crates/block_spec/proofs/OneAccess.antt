@@ -31,11 +31,12 @@ use Rattle.block_spec.specs.Parts.{ReadInto, WrittenFrom}
 
 module _ (r : Registers) (m : List ℕ) (few : length m ≤ 32768) where
   -- ---- a read
-  -- A read of both bytes of HSTDATA is not refused.
+  -- With a memory of at most 32,768 words, a read of both bytes of HSTDATA is not refused.
   pub read-accepted : access r m (Read 2 3) .answer .number ≡ 0
   read-accepted = numbered r m (Read 2 3) .done .1 (few, omega arith, omega arith, omega arith)
 
-  -- Such a read hands out the word that is held, with its mark, and then fetches.
+  -- With a memory of at most 32,768 words, a read of both bytes of HSTDATA hands out the word that is held, with its mark, and then
+  -- fetches.
   pub one-read : r .latch < 65536 →
       ReadInto (machine r m) 1 (record { registers = standing m (r .control) (ahead r); tallied = counted (r .hollow) }) (r .latch ∷ [])
   unfolding reading answers ends tally answer-of after
@@ -49,7 +50,7 @@ module _ (r : Registers) (m : List ℕ) (few : length m ≤ 32768) where
 
   -- ---- a write
   module _ (w : ℕ) (h : w < 65536) where
-    -- A write of both bytes of HSTDATA is not refused.
+    -- With a memory of at most 32,768 words, a write of both bytes of HSTDATA is not refused.
     pub write-accepted : access r m (Write 2 3 w) .answer .number ≡ 0
     write-accepted = numbered r m (Write 2 3 w) .done .1 (few, omega arith, omega arith, omega arith)
 
@@ -64,7 +65,8 @@ module _ (r : Registers) (m : List ℕ) (few : length m ≤ 32768) where
         (λ e. rw (told .empty .1 (called, e), e) refl)
         (either-way (in-memory m (word-at (r .pointer))))
 
-    -- Such a write stores the word, holds it, and then steps where INCW is set; beyond memory the store falls empty.
+    -- With a memory of at most 32,768 words, a write of both bytes of HSTDATA stores the word, holds it, and then steps where INCW is set;
+    -- beyond memory the store falls empty.
     pub one-write :
         WrittenFrom (machine r m) (w ∷ [])
         (record {

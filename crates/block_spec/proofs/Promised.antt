@@ -55,15 +55,15 @@ module _ {r : Registers} {m l : List ℕ} {place count : ℕ} {o : BlockRead} {l
     pub read-fills : (j : ℕ) → j < count → getD l′ (place + j) 0 ≡ kth-read (machine r m) j .word
     read-fills j h = ap (λ (x : List ℕ). getD x (place + j) 0) (k .list) ∙ like .inside j h
 
-    -- Every other place of the list stays.
+    -- A block read that is done leaves every place of the list before its part and behind it.
     pub read-keeps-others : (j : ℕ) → (j < place) ⊎ (place + count ≤ j) → getD l′ j 0 ≡ getD l j 0
     read-keeps-others j h = ap (λ (x : List ℕ). getD x j 0) (k .list) ∙ ⊎-elim (like .before j) (like .behind j) h
 
-    -- The list stays as long as it was.
+    -- A block read that is done leaves the list as long as it was.
     pub read-keeps-length : length l′ ≡ length l
     read-keeps-length = ap length (k .list) ∙ like .size
 
-    -- The hollow words that it counts are those that the single reads answer.
+    -- A block read that is done counts as many hollow words as the single reads answer.
     pub read-counts-hollows : o .hollows ≡ number-below count (λ j. kth-read (machine r m) j .hollow)
     read-counts-hollows = ap (λ (x : BlockRead). x .hollows) (k .outcome) ∙ like .hollows
 
@@ -101,12 +101,14 @@ module _ (s : Machine) (a : BitAddress) {l : List ℕ} {place n : ℕ} {o : Bloc
       let w = every-word-of-a-block s y i a l place n h f in
       rw (k .outcome, k .list) (w .number, w .words, w .hollows)
 
-  -- Begun past the end of memory, up to word 2^28, such a block is done, and every word of it is filler, and counted.
+  -- With a memory that is not refused, INCR set, and the pointer loaded past the end of memory, a block read that its list does not refuse,
+  -- up to word 2^28, is done, and every word of it is filler, and counted.
   pub hands-out-filler : a .0 < 2 ^ 32 → length (s .memory) ≤ word-at a .0 → word-at a .0 + n ≤ 2 ^ 28 →
       (o .number ≡ 0) × (list-part l′ place n ≡ replicate n 0xffff) × (o .hollows ≡ n)
   hands-out-filler b h q = rw (k .outcome, k .list) (block-beyond s y i a l place n b h q f)
 
--- Of n + j words, n left in memory, up to word 2^28, such a block hands out those and then j fillers, and counts j hollow.
+-- With a memory that is not refused, INCR set, and the pointer loaded where n words are left in memory, a block read of n + j words that
+-- its list does not refuse, up to word 2^28, is done, hands out those n and then j fillers, and counts j hollow.
 pub hands-out-words-then-filler : (s : Machine) (a : BitAddress) {l : List ℕ} {place : ℕ} (n j : ℕ) {o : BlockRead} {l′ : List ℕ} →
     ReadBlock (loaded s a .registers) (s .memory) l place (n + j) o l′ →
     Memory (s .memory) → incr (s .registers .control) ≡ true → Fits l place (n + j) →
@@ -145,16 +147,16 @@ module _ {r : Registers} {m l : List ℕ} {place count : ℕ} {o : BlockWrite} {
         ap (λ (x : BlockWrite). machine (x .registers) (memory-left r m l place count)) (k .outcome) ∙
         done .ended
 
-    -- The j-th of these words is that of place + j of the list.
+    -- Of the words that a block write which is done writes, the j-th is that of place + j of the list.
     pub write-takes : (j : ℕ) → j < count → getD (list-part l place count) j 0 ≡ getD l (place + j) 0
     write-takes = done .words
 
-    -- The empty stores that it counts are those of the single writes.
+    -- A block write that is done counts as many empty stores as the single writes of the part's words have.
     pub write-counts-empties :
         o .empties ≡ number-below count (λ j. is-empty (kth-write (machine r m) (list-part l place count) j .cycle))
     write-counts-empties = ap (λ (x : BlockWrite). x .empties) (k .outcome) ∙ done .empties
 
-    -- A block write that is done ends like any calls that write these words one by one, by words or by bytes: with their registers and
+    -- A block write that is done ends like any calls that write the part's words one by one, by words or by bytes: with their registers and
     -- memory, and as many stores that fell empty.
     pub write-like-calls : {xs : List Answer} {t : Machine} → Made (machine r m) (writing (list-part l place count)) xs t →
         (machine (o .registers) m′ ≡ t) × (o .empties ≡ empties-in xs)
@@ -181,17 +183,20 @@ module _ {r : Registers} {m l : List ℕ} {place n : ℕ} {o : BlockWrite} {m′
       let p = words-laid r m l place n y i w some most room there in
       rw (k .outcome) (p .number, p .empties, p .pointer)
 
-  -- Its words lie in memory from the pointer's word on.
+  -- With INCW set, a block write that its list does not refuse, of one word or more that find room in memory, lays them there from the
+  -- pointer's word on.
   pub write-lays : table m′ (r .pointer) n ≡ list-part l place n
   write-lays = rw (k .memory) (words-laid r m l place n y i w some most room there .words)
 
-  -- All else of memory stays.
+  -- With INCW set, a block write that its list does not refuse, of one word or more that find room in memory, leaves all other words of
+  -- memory.
   pub write-keeps-others : (j : ℕ) → (j < word-at (r .pointer) .0) ⊎ (word-at (r .pointer) .0 + n ≤ j) → getD m′ j 0 ≡ getD m j 0
   write-keeps-others j h =
       let p = words-laid r m l place n y i w some most room there in
       ap (λ (x : List ℕ). getD x j 0) (k .memory) ∙ ⊎-elim (p .before j) (p .behind j) h
 
-  -- With INCR set, a block read from where it began hands the words out again, all held, into any list with room for them.
+  -- With INCW and INCR set, words that a block write laid in memory are handed out again by a block read from where that write began, all
+  -- held, into any list with room for them.
   pub read-after-write : incr (r .control) ≡ true → {q : BlockRead} {t t′ : List ℕ} {place′ : ℕ} →
       ReadBlock (loaded (machine (o .registers) m′) (r .pointer) .registers) m′ t place′ n q t′ → place′ + n ≤ length t →
       (q .number ≡ 0) × (list-part t′ place′ n ≡ list-part l place n) × (q .hollows ≡ 0)

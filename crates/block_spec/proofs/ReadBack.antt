@@ -35,7 +35,8 @@ pub record Laid (r : Registers) (m l : List ℕ) (place n : ℕ) : Type 0 where
   pub behind : (k : ℕ) → word-at (r .pointer) .0 + n ≤ k → getD (memory-left r m l place n) k 0 ≡ getD m k 0
   pub size : length (memory-left r m l place n) ≡ length m
 
--- What the same words are when a block reads them again: the pointer is loaded with the address where the write began.
+-- A block read of n words into l′ at place′, with registers q and memory m′, of words that a block write took from l at `place`: it is
+-- done, hands out those words, and counts none hollow.
 pub record ReadBack (l : List ℕ) (place n : ℕ) (l′ : List ℕ) (place′ : ℕ) (q : Registers) (m′ : List ℕ) : Type 0 where
   pub number : block-read q m′ l′ place′ n .number ≡ 0
   pub words : list-part (list-after q m′ l′ place′ n) place′ n ≡ list-part l place n
@@ -107,7 +108,8 @@ module _ (r : Registers) (m l : List ℕ) (place n : ℕ) (k : Memory m) (i : in
       (less-or-not j (x + n)))
       (less-or-not j x)
 
-  -- With INCR set too, a block read from where they begin hands them out, none hollow, into any list with room for them.
+  -- With INCW and INCR set, words that a block write laid in memory are handed out by a block read from where they begin, none hollow, into
+  -- any list with room for them.
   pub reads-back : incr (r .control) ≡ true → (l′ : List ℕ) (place′ : ℕ) → place′ + n ≤ length l′ →
       let t = machine (block-write r m l place n .registers) (memory-left r m l place n) in
       ReadBack l place n l′ place′ (loaded t (r .pointer) .registers) (t .memory)

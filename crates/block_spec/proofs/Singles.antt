@@ -119,7 +119,7 @@ module _ (r : Registers) (m l : List ℕ) (place count : ℕ) where
             ap (machine (ends s (writing ws) .registers)) (memory-taken r m l place count e);
       }
 
-  -- The list's part is the words that the single reads hand out, and as many of these are hollow.
+  -- After an accepted block read the list's part is the words that the single reads hand out, and as many of these are hollow as it counts.
   pub reads-answer : block-read r m l place count .number ≡ 0 →
       (list-part (list-after r m l place count) place count ≡ words-in (answers (machine r m) (reading count)))
       × (block-read r m l place count .hollows ≡ hollows-in (answers (machine r m) (reading count)))

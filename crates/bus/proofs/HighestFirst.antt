@@ -49,7 +49,7 @@ highest-waits b = go (b .hold) (b .screen) (b .dram) (b .host) (b .processor)
     go false false false false true n = refl
     go false false false false false n = absurd (n refl)
 
--- There is no highest one exactly if no source waits.
+-- There is no highest waiting source, for which 5 stands, exactly if no source waits.
 pub none-highest : (b : Bus) → highest b ≡ 5 ↔ ((s : ℕ) → waits b s ≡ false)
 none-highest b = (
   λ e s. untrue _ (λ w. omega (arith, e, none-higher b s w, waits-listed b s w)),

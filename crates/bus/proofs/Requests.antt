@@ -19,7 +19,7 @@ ask-waits b s z =
     let d = ask-numbers b s .done .0 z in
     rw (d .1, le-ltb 4 s (d .0)) (set-here b s _ (d .0))
 
--- Every source but the one that was accepted is then as it stood.
+-- After an asking that is accepted every source but the one that asked is as it stood.
 pub ask-others : (b : Bus) (s : ℕ) → asked b s .number ≡ 0 →
     (k : ℕ) → k ≢ s → waits (asked b s .bus) k ≡ waits b k
 unfolding asked

@@ -20,9 +20,11 @@ no-steps = record { start = at-rest (woken []); steps = [] }
 abbrev no-step : Step
 no-step = memory ⇒ words []
 
+-- the n-th row of a table, or one without steps where it has none
 abbrev pub row : List Example → ℕ → Example
 row t n = getD t n no-steps
 
+-- what comes out of the i-th step of a row
 abbrev pub line : Example → ℕ → Seen
 line e i = getD (e .steps) i no-step .what
 

@@ -36,7 +36,7 @@ first-is-open c = go (lbl c)
     go true = refl
     go false = refl
 
--- The last byte closes the word.
+-- Of a word done byte by byte the last byte closes it.
 pub last-closes : (c : ℕ) → closes c (last-lane c) ≡ true
 unfolding closes takes-low takes-high
 last-closes c = go (lbl c)

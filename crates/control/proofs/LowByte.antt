@@ -54,7 +54,7 @@ pub host-parts : (old new : ℕ) → Parts (host-low old new) (msgin new) (intin
 unfolding host-low
 host-parts old new = parts new old (intin old || intin new) (intout old && intout new)
 
--- What the host's write leaves is a byte.
+-- What the host's write leaves of HSTCTL's low byte is a byte.
 pub host-byte : (old new : ℕ) → host-low old new < 256
 unfolding host-low
 host-byte old new = byte new old (intin old || intin new) (intout old && intout new)
@@ -65,7 +65,7 @@ pub processor-parts : (old new : ℕ) →
 unfolding processor-low
 processor-parts old new = parts old new (intin old && intin new) (intout old || intout new)
 
--- What the processor's write leaves is a byte.
+-- What the processor's write leaves of HSTCTL's low byte is a byte.
 pub processor-byte : (old new : ℕ) → processor-low old new < 256
 unfolding processor-low
 processor-byte old new = byte old new (intin old && intin new) (intout old || intout new)

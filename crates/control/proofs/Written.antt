@@ -18,26 +18,26 @@ high-below v = omega arith
 
 -- low is the writer's rule for the low byte
 module _ (low : ℕ → ℕ → ℕ) (byte : (x y : ℕ) → low x y < 256) (lanes c w : ℕ) where
-  -- The low byte follows the writer's rule if it is selected, and else stays.
+  -- After a write of HSTCTL the low byte follows the writer's rule if it is selected, and else is as it stood.
   pub low-lane : lo (control-laid low lanes c w) ≡ cond (takes-low lanes) (low (lo c) (lo w)) (lo c)
   low-lane = laid-low lanes c _ _ (byte _ _) (high-below _)
 
-  -- The high byte is the written one without bit 10 if it is selected, and else stays.
+  -- After a write of HSTCTL the high byte is the written one without bit 10 if it is selected, and else as it stood.
   pub high-lane : hi (control-laid low lanes c w) ≡ cond (takes-high lanes) (hi (bare w)) (hi c)
   high-lane = laid-high lanes c _ _ (byte _ _) (high-below _)
 
-  -- A high bit that is written is the word's, but for bit 10, which is left 0.
+  -- After a write of HSTCTL's high byte each of its bits is the word's, but for bit 10, which is left 0.
   pub high-bit-written : takes-high lanes ≡ true → (i : ℕ) → i < 8 → bit (control-laid low lanes c w) (8 + i) ≡ bit (bare w) (8 + i)
   high-bit-written e i h =
       sym (bit-of-high (control-laid low lanes c w) i h) ∙
       ap (λ (b : ℕ). bit b i) (high-lane ∙ ap (λ (t : Bool). cond t (hi (bare w)) (hi c)) e) ∙
       bit-of-high (bare w) i h
 
-  -- A write of the high byte leaves bit 10 clear.
+  -- A write of HSTCTL's high byte leaves bit 10 clear.
   pub ten-left-clear : takes-high lanes ≡ true → bit (control-laid low lanes c w) 10 ≡ false
   ten-left-clear e = high-bit-written e 2 (omega arith) ∙ ten-hidden w
 
-  -- Where bit 10 is clear, every write leaves it so.
+  -- Where bit 10 of HSTCTL is clear, every write leaves it so.
   pub ten-stays-clear : bit c 10 ≡ false → bit (control-laid low lanes c w) 10 ≡ false
   ten-stays-clear h = ⊎-elim ten-left-clear kept (either-way (takes-high lanes))
     where
@@ -47,7 +47,7 @@ module _ (low : ℕ → ℕ → ℕ) (byte : (x y : ℕ) → low x y < 256) (lan
           ap (λ (b : ℕ). bit b 2) (high-lane ∙ ap (λ (t : Bool). cond t (hi (bare w)) (hi c)) e) ∙
           bit-of-high c 2 (omega arith) ∙ h
 
-  -- What a write leaves has 16 bits.
+  -- What a write of HSTCTL leaves has 16 bits.
   pub control-fits : control-laid low lanes c w < 65536
   control-fits = laid-word lanes c _ _ (byte _ _) (high-below _)
 

@@ -24,17 +24,17 @@ not-between low high b f = go (either-way (leb low b && leb b high))
 
 -- ---- "decimal digit"
 
--- The bytes 48 to 57, '0' to '9', are the decimal digits.
+-- The bytes 48 to 57, '0' to '9', are decimal digits.
 pub decimal : (b : ℕ) → 48 ≤ b → b ≤ 57 → is-decimal b ≡ true
 unfolding is-decimal
 decimal b h k = between 48 57 b h k
 
--- No other byte is a decimal digit.
+-- No byte but 48 to 57, '0' to '9', is a decimal digit.
 pub not-decimal : (b : ℕ) → (48 ≤ b → b ≤ 57 → ⊥) → is-decimal b ≡ false
 unfolding is-decimal
 not-decimal b f = not-between 48 57 b f
 
--- A decimal digit is one of these ten bytes.
+-- A decimal digit is one of the bytes 48 to 57, '0' to '9'.
 pub decimal-is : (b : ℕ) → is-decimal b ≡ true → (48 ≤ b) × (b ≤ 57)
 unfolding is-decimal
 decimal-is b e =
@@ -81,7 +81,7 @@ by-letter b u hb hu e h =
     let x : u + 10 ≡ b - 55 = omega (arith, e, h, hb) in
     x ∙ sym v
 
--- If neither is so, the byte is no digit, and its value is 16.
+-- If a byte less 48, modulo 2^8, is 10 or more, and less 65, modulo 2^8, is 6 or more, it is no digit, and its value is 16.
 pub by-neither : (b d u : ℕ) → b < 256 → d < 256 → u < 256 → (d + 48) % 2 ^ 8 ≡ b → 10 ≤ d → (u + 65) % 2 ^ 8 ≡ b → 6 ≤ u →
     16 ≡ value-of b
 by-neither b d u hb hd hu e h f k =

@@ -33,7 +33,7 @@ module _ (b : List ℕ) (even : length b % 2 ≡ 0) (s : AreBytes b) where
       go true = sym (bytes-of-set (words-of b) (n .0) w ∙ ap (λ (x : List ℕ). put-word x (n .0) w) (bytes-of-words b even s))
       go false = sym (bytes-of-words b even s)
 
-  -- Any cycle over bytes leaves the bytes of the words that it leaves.
+  -- Any cycle over bytes leaves the bytes of the words that the same cycle over words leaves.
   pub cycled-bytes : (r : Registers) (due : Due) → bytes-after r due b ≡ bytes-of (memory-after r due (words-of b))
   unfolding bytes-after memory-after
   cycled-bytes r Nothing = sym (bytes-of-words b even s)

@@ -59,7 +59,7 @@ module _ (image memory : List ℕ) (f : Fitting image memory) (s : AreBytes imag
       done-or-same (call-number image memory a) _ _
       (λ n. ap refusing number-by-words ∙ sym (ap (λ (o : Outcome). o .answer) (barred r m a (barred-words n))))
 
-  -- Such a call leaves the image of the registers that the access leaves.
+  -- A call that 11 does not refuse leaves the image of the registers that the access by value leaves.
   pub image-as-access : call-image image memory a ≡ image-of (access r m a .registers)
   unfolding call-image
   image-as-access =
@@ -69,7 +69,7 @@ module _ (image memory : List ℕ) (f : Fitting image memory) (s : AreBytes imag
       (ap (λ (o : Outcome). image-of (o .registers)) (barred r m a (barred-words n)) ∙
       image-of-registers image (f .good-image) s))
 
-  -- Such a call leaves the bytes of the words that the access leaves.
+  -- A call that 11 does not refuse leaves the bytes of the words that the access by value leaves.
   pub memory-as-access : call-memory image memory a ≡ bytes-of (access-memory r m a)
   unfolding call-memory
   memory-as-access =
@@ -87,22 +87,22 @@ module _ (image memory : List ℕ) (f : Fitting image memory) (s : AreBytes imag
         ten-clear = access-ten-clear r m a (given .ten-clear);
       }
 
-  -- The image after it stands for the registers that the access leaves.
+  -- The image after a call that 11 does not refuse stands for the registers that the access by value leaves.
   pub registers-left : registers-of (call-image image memory a) ≡ access r m a .registers
   registers-left = rw image-as-access (registers-of-image (access r m a .registers) (fits .widths))
 
-  -- The memory after it stands for the words that the access leaves.
+  -- The memory after a call that 11 does not refuse stands for the words that the access by value leaves.
   pub words-left : words-of (call-memory image memory a) ≡ access-memory r m a
   words-left =
       rw memory-as-access
       (words-of-bytes (access-memory r m a) (access-memory-fits r m a (given .widths) (words-fit memory t)))
 
   -- ---- another call can follow
-  -- The image that such a call leaves is a good one.
+  -- A call that 11 does not refuse leaves a good image.
   pub good-again : GoodImage (call-image image memory a)
   good-again = rw image-as-access (good-image (access r m a .registers) fits)
 
-  -- What such a call leaves fits the door again: 11 does not refuse it.
+  -- What is left by a call that 11 does not refuse fits the door again: 11 does not refuse the next call.
   pub fits-again : Fitting (call-image image memory a) (call-memory image memory a)
   fits-again =
       record {
@@ -110,10 +110,10 @@ module _ (image memory : List ℕ) (f : Fitting image memory) (s : AreBytes imag
         even-memory = rw (memory-as-access, bytes-length) (twice-even (length (access-memory r m a)));
       }
 
-  -- The image that such a call leaves is made of bytes.
+  -- A call that 11 does not refuse leaves an image that is made of bytes.
   pub image-bytes-again : AreBytes (call-image image memory a)
   image-bytes-again = rw image-as-access (image-bytes (access r m a .registers))
 
-  -- The memory that such a call leaves is made of bytes.
+  -- A call that 11 does not refuse leaves a memory that is made of bytes.
   pub memory-bytes-again : AreBytes (call-memory image memory a)
   memory-bytes-again = rw memory-as-access (bytes-fit (access-memory r m a))

@@ -50,7 +50,7 @@ places i s =
       hollow = refl;
     }
 
--- An image with no two parts alike.
+-- an image in which no two registers are alike: 78 56 34 12 CD AB 01 98 01
 pub an-image : List ℕ
 an-image = 0x78 ∷ 0x56 ∷ 0x34 ∷ 0x12 ∷ 0xcd ∷ 0xab ∷ 0x01 ∷ 0x98 ∷ 0x01 ∷ []
 

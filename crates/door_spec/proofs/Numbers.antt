@@ -33,7 +33,7 @@ not-both : {b : Bool} → b ≡ true → b ≡ false → ⊥
 not-both p q = let z : _≡_ {A = ℕ} 0 1 = cc in omega arith
 
 module _ (image memory : List ℕ) where
-  -- What passes the four tests fits the door.
+  -- What is lent, if it passes the four tests for number 11, fits the door.
   pub fitting : misfit image memory ≡ false → Fitting image memory
   unfolding misfit
   fitting =
@@ -52,7 +52,7 @@ module _ (image memory : List ℕ) where
       go true true u v p q r d e = absurd (not-both refl e)
       go false t u v p q r d e = absurd (not-both refl e)
 
-  -- What does not pass them has one of the four faults.
+  -- What is lent, if it does not pass the four tests for number 11, has one of the four faults.
   pub faulty : misfit image memory ≡ true → Misfit image memory
   unfolding misfit
   faulty =
@@ -67,14 +67,14 @@ module _ (image memory : List ℕ) where
       go true false false true p q r d e = inr (inr (inr (eqb-true _ _ d)))
       go true false false false p q r d e = absurd (not-both e refl)
 
-  -- What fits the door passes the four tests.
+  -- What fits the door passes the four tests for number 11.
   pub fit-passes : Fitting image memory → misfit image memory ≡ false
   unfolding misfit
   fit-passes f =
       let g = f .good-image in
       rw (eq-eqb _ _ (g .nine-bytes), le-ltb _ _ (g .hollow-byte), g .bit-10-clear, ne-eqb (length memory % 2) 1 (omega arith))
 
-  -- What fits the door has none of the faults.
+  -- What fits the door has none of the four faults that number 11 tells.
   pub fit-or-faulty : Fitting image memory → Misfit image memory → ⊥
   fit-or-faulty f =
       let g = f .good-image in

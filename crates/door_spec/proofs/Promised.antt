@@ -63,25 +63,25 @@ module _ {image memory : List ℕ} {a : Access} {x : ℕ} {image′ memory′ : 
       pub answers-as-access : x ≡ packed (access (registers-of image) (words-of memory) a .answer)
       answers-as-access = k .answered ∙ ap packed (tells-as-access image memory f s t a)
 
-      -- The word, the number, the hollow mark and the cycle in that answer are the access's.
+      -- The word, the number, the hollow mark and the cycle in the answer of a call on bytes that fit are those of the access by value.
       pub parts-as-access : Unpacks x (access (registers-of image) (words-of memory) a .answer)
       parts-as-access =
           subst (λ (u : Answer). Unpacks x u) (tells-as-access image memory f s t a)
           (subst (λ (p : ℕ). Unpacks p (call-tells image memory a)) (sym (k .answered)) (call-unpacks image memory a))
 
-      -- A call on bytes that fit leaves the image of the registers that the access leaves.
+      -- A call on bytes that fit leaves the image of the registers that the access by value leaves.
       pub leaves-image : image′ ≡ image-of (access (registers-of image) (words-of memory) a .registers)
       leaves-image = k .image-left ∙ image-as-access image memory f s t a
 
-      -- A call on bytes that fit leaves the bytes of the words that the access leaves.
+      -- A call on bytes that fit leaves the bytes of the words that the access by value leaves.
       pub leaves-bytes : memory′ ≡ bytes-of (access-memory (registers-of image) (words-of memory) a)
       leaves-bytes = k .memory-left ∙ memory-as-access image memory f s t a
 
-      -- The image after it stands for the registers that the access leaves.
+      -- The image after a call on bytes that fit stands for the registers that the access by value leaves.
       pub leaves-registers : registers-of image′ ≡ access (registers-of image) (words-of memory) a .registers
       leaves-registers = ap registers-of (k .image-left) ∙ registers-left image memory f s t a
 
-      -- The memory after it stands for the words that the access leaves.
+      -- The memory after a call on bytes that fit stands for the words that the access by value leaves.
       pub leaves-words : words-of memory′ ≡ access-memory (registers-of image) (words-of memory) a
       leaves-words = ap words-of (k .memory-left) ∙ words-left image memory f s t a
 

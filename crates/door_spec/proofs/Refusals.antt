@@ -15,7 +15,7 @@ pub record Refused (image memory : List ℕ) (a : Access) : Type 0 where
   pub image-kept : call-image image memory a ≡ image
   pub memory-kept : call-memory image memory a ≡ memory
 
--- With another number than 0 the answer is 65,536 times that number, and every byte of image and memory stays.
+-- A call with another number than 0 answers 65,536 times that number, and leaves every byte of image and memory.
 pub refuses : (image memory : List ℕ) (a : Access) → call-number image memory a ≢ 0 → Refused image memory a
 unfolding packed call-tells call-image call-memory
 refuses image memory a n =

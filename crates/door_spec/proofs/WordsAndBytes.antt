@@ -13,11 +13,11 @@ use Rattle.door_spec.specs.Bytes.{words-of, bytes-of, byte}
 half : (k : ℕ) → suc (suc k) / 2 ≡ suc (k / 2)
 half k = omega arith
 
--- The next word's low byte lies two bytes on.
+-- The low byte of the next word lies two bytes on: 2 (n + 1) is 2 n + 2.
 pub twice : (n : ℕ) → 2 * suc n ≡ suc (suc (2 * n))
 twice n = omega arith
 
--- The next word's high byte lies two bytes on too.
+-- The high byte of the next word lies two bytes on: 2 (n + 1) + 1 is 2 n + 1 + 2.
 pub twice-one : (n : ℕ) → 2 * suc n + 1 ≡ suc (suc (2 * n + 1))
 twice-one n = omega arith
 

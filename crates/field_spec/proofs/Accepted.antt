@@ -11,7 +11,7 @@ use Rattle.words.specs.declared.BitAddress.{BitAddress}
 use Rattle.field_spec.specs.Count.{last-word, touched}
 use Rattle.field_spec.specs.Answers.{no-size, refusal, Accepted}
 
--- v is the number for a memory of so many words and a field of n bits that touches t words, l the last of them.
+-- v is the number for a memory of so many words and a field of n bits that touches t words, l the last of them
 pub record Tested (words n t l v : ℕ) : Type 0 where
   pub listed : (v ≤ 6) × (v ≢ 2) × (v ≢ 3)
   pub over : v ≡ 1 ↔ 32768 < words
@@ -22,7 +22,8 @@ pub record Tested (words n t l v : ℕ) : Type 0 where
   pub missing : v ≡ 6 ↔ (words ≤ 32768) × (1 ≤ n) × (n ≤ 32) × (t ≤ 3) × (words ≤ l)
   pub done : v ≡ 0 ↔ (words ≤ 32768) × (1 ≤ n) × (n ≤ 32) × (t ≤ 3) × (l < words)
 
--- The number that `refusal` gives is that one.
+-- `refusal` gives the number that its tests come to, by the memory, the size, how many words the field touches and the last of them
+-- (`Tested`).
 pub tested : (words : ℕ) (a : BitAddress) (n : ℕ) → Tested words n (touched a n) (last-word a n .0) (refusal words a n)
 unfolding refusal no-size
 tested words a n = go (touched a n) (last-word a n .0) (ltb 32768 words) (ltb n 1) (ltb 32 n) _ _ refl refl refl refl refl
@@ -40,7 +41,7 @@ tested words a n = go (touched a n) (last-word a n .0) (ltb 32768 words) (ltb n 
     go k l false false false false false p q r s t =
         omega (arith, ltb-false 32768 words p, ltb-false n 1 q, ltb-false 32 n r, ltb-false 3 k s, leb-false words l t)
 
--- Where none applies, the memory is short enough, the size is one of 1 to 32, and the last word is in memory.
+-- Where no refusal applies to a field, the memory is short enough, the size is one of 1 to 32, and the last word is in memory.
 pub none-applies : (words : ℕ) (a : BitAddress) (n : ℕ) → refusal words a n ≡ 0 → Accepted words a n
 none-applies words a n e =
     let t = tested words a n .done .0 e in

@@ -25,13 +25,13 @@ module _ {m m′ : List ℕ} {a : BitAddress} {n v : ℕ} {r : Put} (p : PutIn m
   number-is : r .number ≡ refusal (length m) a n
   number-is = ap (λ (s : Put). s .number) (p .answer) ∙ put-number m a n
 
-  -- If it said done, memory bit address + i is the value's bit i, for each bit of the field.
+  -- If putting in said done, memory bit address + i is the value's bit i, for each bit of the field.
   pub then-bit : r .number ≡ 0 → (i : ℕ) → i < n → memory-bit m′ (address (a .0 + i)) ≡ bit v i
   then-bit e i l =
       let z : refusal (length m) a n ≡ 0 = sym number-is ∙ e in
       rw (p .memory, memory-done m a n z v) (put-bit m a n v i l (omega (arith, l, none-applies (length m) a n z .there)))
 
-  -- Done or refused, no bit outside the field has changed.
+  -- After putting in, done or refused, no bit outside the field has changed.
   pub then-elsewhere : (b : BitAddress) → (Covers a n b → ⊥) → memory-bit m′ b ≡ memory-bit m b
   then-elsewhere b h =
       ⊎-elim
@@ -39,7 +39,7 @@ module _ {m m′ : List ℕ} {a : BitAddress} {n v : ℕ} {r : Put} (p : PutIn m
       (λ d. rw (p .memory, memory-refused m a n d v))
       (same-or-not (refusal (length m) a n) 0)
 
-  -- Words of sixteen bits stay so, and there are as many as before.
+  -- After putting in, done or refused, a memory of sixteen-bit words is one still, and has as many as before.
   pub then-words : AreWords m → AreWords m′ × (length m′ ≡ length m)
   then-words w =
       ⊎-elim
@@ -47,11 +47,11 @@ module _ {m m′ : List ℕ} {a : BitAddress} {n v : ℕ} {r : Put} (p : PutIn m
       (λ d. rw (p .memory, memory-refused m a n d v) (w, refl))
       (same-or-not (refusal (length m) a n) 0)
 
-  -- If it said done, the next taking out answers the value, modulo 2^size.
+  -- If putting in said done, the next taking out of the same field answers the value, modulo 2^size.
   pub then-taken : r .number ≡ 0 → taken m′ a n ≡ record { number = 0; value = v % 2 ^ n; cycles = take-cycles a n }
   then-taken e = rw (p .memory) (taken-after-put m a n v (sym number-is ∙ e))
 
-  -- If not, it counted no cycle and left the memory as it stood.
+  -- If putting in said another number than 0, it counted no cycle and left the memory as it stood.
   pub then-as-it-stood : r .number ≢ 0 → (r .cycles ≡ 0) × (m′ ≡ m)
   then-as-it-stood d =
       let s = refused-put m a n (λ q. d (ap (λ (s : Put). s .number) (p .answer) ∙ q)) in

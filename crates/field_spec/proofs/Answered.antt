@@ -18,17 +18,17 @@ module _ (m : List ℕ) (a : BitAddress) (n : ℕ) where
     unfolding taken
     taken-done = rw e
 
-    -- Taking it out as signed answers the signed reading instead.
+    -- Where the field is accepted, taking it out as signed answers number 0, its signed reading and its cycles.
     pub signed-done : taken-signed m a n ≡ record { number = 0; value = signed n (field-at m a n); cycles = take-cycles a n }
     unfolding taken-signed
     signed-done = rw e
 
-    -- Putting one in answers number 0 and its cycles.
+    -- Where the field is accepted, putting one in answers number 0 and its cycles.
     pub put-done : put-answer (length m) a n ≡ record { number = 0; cycles = put-cycles a n }
     unfolding put-answer
     put-done = rw e
 
-    -- Putting one in leaves the memory with the field put in.
+    -- Where the field is accepted, putting one in leaves the memory with the field put in.
     pub memory-done : (v : ℕ) → put-memory m a n v ≡ with-field m a n v
     unfolding put-memory
     memory-done v = rw e

@@ -92,7 +92,7 @@ module _ (words : ℕ) (a : BitAddress) (n : ℕ) where
       let e : b / 16 ≡ m .word .0 = ap (λ (x : WordNumber). x .0) (m .holds .in-word) in
       omega (arith, m .beyond)
 
-  -- If the last one isn't there, one is missing.
+  -- If the last word that a field of one bit or more touches isn't in memory, some touched word isn't.
   pub last-missing : 1 ≤ n → words ≤ last-word a n .0 → Missing words a n
   last-missing s l =
       record {

@@ -23,7 +23,7 @@ module _ (i r : ℕ) (h : r < 2 ^ i) where
   top-is true = let e : (2 ^ i + r) / 2 ^ i ≡ 1 = subst (λ (x : ℕ). (x + r) / 2 ^ i ≡ 1) (one-mul (2 ^ i)) (high 1 i h) in rw e
   top-is false = rw (zero-add r) (bit-above i h (omega arith))
 
-  -- Below bit i lies that number.
+  -- Where a bit is laid above a number of i bits, below bit i lies that number.
   pub rest-is : (v : Bool) → (cond v (2 ^ i) 0 + r) % 2 ^ i ≡ r
   rest-is true = subst (λ (x : ℕ). (x + r) % 2 ^ i ≡ r) (one-mul (2 ^ i)) (low 1 i h)
   rest-is false = rw (zero-add r) (mod-eq-of-lt h)
@@ -47,7 +47,7 @@ module _ (w i : ℕ) where
   upto true = rw (as-bits true, bits-below w i 1 1 (one-bit true), one-mul (2 ^ i))
   upto false = rw (as-bits false, bits-below w i 1 0 (one-bit false), zero-mul (2 ^ i))
 
-  -- Bit i is the new one.
+  -- Where bit i of a number is replaced, bit i is the new one.
   pub bit-made : (v : Bool) → bit (with-bit w i v) i ≡ v
   bit-made v =
       sym (bit-of-remainder (with-bit w i v) (i + 1) i (omega arith))
@@ -68,7 +68,7 @@ module _ (w i : ℕ) where
       ∙ ap (λ (x : ℕ). bit x (j - (i + 1))) (above v)
       ∙ bit-of-quotient w (i + 1) (j - (i + 1)))
 
-  -- Every other bit stays.
+  -- Where bit i of a number is replaced, every other bit stays.
   pub bit-kept : (v : Bool) (j : ℕ) → j ≢ i → bit (with-bit w i v) j ≡ bit w j
   bit-kept v j n = ⊎-elim (lower-bit v j) (λ l. upper-bit v j (omega (arith, l, n))) (less-or-not j i)
 
@@ -77,6 +77,6 @@ module _ (w i : ℕ) where
   unfolding with-bit
   bit-as-it-is = sym (split-at-bit w i)
 
-  -- A number of k bits stays one.
+  -- A number of k bits, one of which is replaced, stays one of k bits.
   pub bit-fits : (k : ℕ) (v : Bool) → w < 2 ^ k → i < k → with-bit w i v < 2 ^ k
   bit-fits k v h l = rw (as-bits v) (bits-fit w i 1 (cond v 1 0) (one-bit v) k h (omega arith))

@@ -30,13 +30,13 @@ module _ {m m′ : List ℕ} {a : BitAddress} {n v : ℕ} {r : Put} (p : PutIn m
 
   -- a putting in that is done
   module _ (z : r .number ≡ 0) where
-    -- Done, it counts one cycle for each word wholly covered, and two for each word partly covered.
+    -- Done, putting in counts one cycle for each word wholly covered, and two for each word partly covered.
     pub counts-cycles : r .cycles ≡ put-cycles a n
     counts-cycles =
         ap (λ (s : Put). s .cycles)
         (p .answer ∙ put-done m a n (sym (ap (λ (s : Put). s .number) (p .answer) ∙ put-number m a n) ∙ z))
 
-    -- Done, of the memory after it bit address + i is the value's bit i for each bit of the field, and every other bit is as it was.
+    -- Done, putting in makes memory bit address + i the value's bit i for each bit of the field, and leaves every other bit.
     pub leaves-each-bit :
         ((i : ℕ) → i < n → memory-bit m′ (address (a .0 + i)) ≡ bit v i)
         × ((b : BitAddress) → (Covers a n b → ⊥) → memory-bit m′ b ≡ memory-bit m b)
@@ -46,7 +46,7 @@ module _ {m m′ : List ℕ} {a : BitAddress} {n v : ℕ} {r : Put} (p : PutIn m
 pub put-back : {m m′ : List ℕ} {a : BitAddress} {n : ℕ} {r : Put} → PutIn m a n (taken m a n .value) r m′ → m′ ≡ m
 put-back {m} {m′} {a} {n} p = p .memory ∙ put-after-taken m a n
 
--- Two values that are the same modulo 2^size leave the same answer and the same memory.
+-- Two values that are the same modulo 2^size, put in, give the same answer and leave the same memory.
 pub put-alike-modulo : {m m′ m″ : List ℕ} {a : BitAddress} {n v w : ℕ} {r s : Put} → PutIn m a n v r m′ → PutIn m a n w s m″ →
     v % 2 ^ n ≡ w % 2 ^ n → (r ≡ s) × (m′ ≡ m″)
 put-alike-modulo {m} {m′} {m″} {a} {n} {v} {w} p q e = (

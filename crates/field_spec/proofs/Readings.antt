@@ -31,7 +31,7 @@ module _ (m : List ℕ) (b : BitAddress) (w o : ℕ) (e : b .0 ≡ w * 16 + o) (
       let r : b .0 % 16 ≡ o = omega arith in
       rw (q, r)
 
-  -- Making it v makes that bit of that word v.
+  -- Making memory bit 16 w + o a value makes bit o of word w that value.
   pub set-bit-in : (v : Bool) → set-memory-bit m b v ≡ set m w (with-bit (getD m w 0) o v)
   unfolding set-memory-bit
   set-bit-in v =
@@ -47,7 +47,7 @@ module _ (m : List ℕ) (b : BitAddress) where
       let w : ℕ = getD m (b .0 / 16) 0 in
       rw (getD-set-same m (b .0 / 16) (with-bit w (b .0 % 16) v) 0 h) (bit-made w (b .0 % 16) v)
 
-  -- No other bit changes.
+  -- Making a memory bit what is asked changes no other bit.
   pub kept : (v : Bool) (c : BitAddress) → c .0 ≢ b .0 → memory-bit (set-memory-bit m b v) c ≡ memory-bit m c
   unfolding memory-bit set-memory-bit
   kept v c d =
@@ -122,7 +122,7 @@ unfolding with-field
 put-length m a zero v = refl
 put-length m a (suc n) v = set-length (with-field m a n v) (bits-after a n) _ ∙ put-length m a n v
 
--- Where its word is in memory, memory bit address + i becomes the value's bit i.
+-- Putting in makes memory bit address + i the value's bit i, where its word is in memory.
 pub put-bit : (m : List ℕ) (a : BitAddress) (n v i : ℕ) → i < n → word-at (address (a .0 + i)) .0 < length m
     → memory-bit (with-field m a n v) (address (a .0 + i)) ≡ bit v i
 unfolding with-field
@@ -134,7 +134,7 @@ put-bit m a (suc n) v i l h =
     ∙ put-bit m a n v i (omega (arith, d)) h)
     (same-or-not i n)
 
--- No bit outside the field changes.
+-- Putting in changes no bit outside the field.
 pub put-elsewhere : (m : List ℕ) (a : BitAddress) (n v : ℕ) (b : BitAddress) → (Covers a n b → ⊥)
     → memory-bit (with-field m a n v) b ≡ memory-bit m b
 unfolding with-field
@@ -158,7 +158,7 @@ set-words m b v h i =
     (λ n. rw (getD-set-other m w i x 0 n) (h i))
     (same-or-not i w)
 
--- Putting in leaves words of sixteen bits, and as many as there were (`put-length`).
+-- Putting in leaves a memory of sixteen-bit words one of sixteen-bit words.
 pub put-words : (m : List ℕ) (a : BitAddress) (n v : ℕ) → AreWords m → AreWords (with-field m a n v)
 unfolding with-field
 put-words m a zero v h = h

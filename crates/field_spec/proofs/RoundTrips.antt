@@ -21,11 +21,11 @@ use Rattle.field_spec.proofs.Answered.{taken-done, signed-done, memory-
 
 -- ---- of the definitions
 
--- What was put in is taken out, modulo 2^n.
+-- What was put in is taken out, modulo 2^n, if the field's last word is in memory.
 pub take-put : (m : List ℕ) (a : BitAddress) (n v : ℕ) → last-word a n .0 < length m → field-at (with-field m a n v) a n ≡ v % 2 ^ n
 take-put m a n v l = field-from-bits (with-field m a n v) a n v (λ i h. put-bit m a n v i h (omega (arith, h, l)))
 
--- Two values with the same n low bits leave the same memory.
+-- Two values with the same n low bits, put in as a field of n bits, leave the same memory.
 pub put-alike : (m : List ℕ) (a : BitAddress) (n v u : ℕ) → ((i : ℕ) → i < n → bit v i ≡ bit u i)
     → with-field m a n v ≡ with-field m a n u
 unfolding with-field
@@ -50,7 +50,7 @@ module _ (m : List ℕ) (a : BitAddress) (n : ℕ) where
       let p = put-length m a n v in
       rw (memory-done m a n e v, taken-done (with-field m a n v) a n (rw p e), take-put m a n v (none-applies _ _ _ e .there))
 
-  -- Taken out as signed, it is the signed reading of that.
+  -- What was put in, and accepted, and is then taken out as signed, is the signed reading of the value modulo 2^size.
   pub signed-after-put : (v : ℕ) → refusal (length m) a n ≡ 0
       → taken-signed (put-memory m a n v) a n ≡ record { number = 0; value = signed n (v % 2 ^ n); cycles = take-cycles a n }
   signed-after-put v e =

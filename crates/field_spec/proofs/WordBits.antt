@@ -30,19 +30,19 @@ module _ (w o n b : ℕ) (h : b < 2 ^ n) where
   unfolding with-bits
   as-two = add-assoc _ _ _
 
-  -- What lies above the new bits stays.
+  -- Where n bits of a number are replaced from bit o on, what lies above them stays.
   pub bits-above : with-bits w o n b / 2 ^ (o + n) ≡ w / 2 ^ (o + n)
   bits-above = rw as-two (high (w / 2 ^ (o + n)) (o + n) below-top)
 
-  -- Below bit o + n lie the new bits, and below these the o low bits, which stay.
+  -- Where n bits of a number are replaced from bit o on, below bit o + n lie the new ones, and below these the o low bits, which stay.
   pub bits-below : with-bits w o n b % 2 ^ (o + n) ≡ b * 2 ^ o + w % 2 ^ o
   bits-below = rw as-two (low (w / 2 ^ (o + n)) (o + n) below-top)
 
-  -- The new bits fit in o + n bits.
+  -- A number of n bits, laid from bit o on, fits in o + n bits.
   pub new-fit : b * 2 ^ o < 2 ^ (o + n)
   new-fit = omega (arith, below-top)
 
-  -- A number of k bits stays one.
+  -- A number of k bits, some of which are replaced, stays one of k bits.
   pub bits-fit : (k : ℕ) → w < 2 ^ k → o + n ≤ k → with-bits w o n b < 2 ^ k
   bits-fit k l m =
       let e : k ≡ k - (o + n) + (o + n) = omega arith in

@@ -28,28 +28,36 @@ use Rattle.port_spec.proofs.Outcome as outcome
 use Rattle.port_spec.proofs.Outcome.Laws as outcome′
 
 -- ---- machine values
+-- the machine value of a register record
 abbrev pub registers-val : Registers → Val
 registers-val = Struct.val registers.the-type registers′.the-laws
 
+-- the machine value of an access
 abbrev pub access-val : Access → Val
 access-val = Enum.val access.the-type access′.the-laws
 
+-- the machine value of an answer
 abbrev pub answer-val : Answer → Val
 answer-val = Struct.val answer.the-type answer′.the-laws
 
+-- the machine value of an outcome
 abbrev pub outcome-val : Outcome → Val
 outcome-val = Struct.val outcome.the-type outcome′.the-laws
 
 -- ---- a machine value and the value that it stands for
+-- the machine value v stands for the register record r
 abbrev pub IsRegisters : Registers → Val → Type 0
 IsRegisters r v = Is registers.the-row r (v ∷ [])
 
+-- the machine value v stands for the access a
 abbrev pub IsAccess : Access → Val → Type 0
 IsAccess a v = Is access.the-row a (v ∷ [])
 
+-- the machine value v stands for the answer x
 abbrev pub IsAnswer : Answer → Val → Type 0
 IsAnswer x v = Is answer.the-row x (v ∷ [])
 
+-- the machine value v stands for the outcome o
 abbrev pub IsOutcome : Outcome → Val → Type 0
 IsOutcome o v = Is outcome.the-row o (v ∷ [])
 

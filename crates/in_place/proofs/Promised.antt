@@ -99,7 +99,7 @@ pub in-place-says : {M : Type 1} (𝓤 : URA M) (H : Heap 𝓤) (A : Atoms 𝓤)
     (λ s. fact 𝓤 (AccessedInPlace (a .0 .now) (a .1 .0 .now) (a .1 .1 .0) x (s .0 .now) (s .1 .0 .now)))
 in-place-says 𝓤 H A at-mem run κs a x = refl
 
--- That contract asks nothing of the caller.
+-- The contract that `host_access_in_place` is proved to meet asks nothing of the caller.
 pub in-place-asks-nothing : {M : Type 1} (𝓤 : URA M) (H : Heap 𝓤) (A : Atoms 𝓤) (at-mem : Memory → SProp 𝓤) (run : Routine → Fun 𝓤)
     (κs : Lfts 2) (a : Args in-place.signature κs) → in-place.spec 𝓤 H A at-mem run κs a .requires tt ≡ emp 𝓤
 in-place-asks-nothing 𝓤 H A at-mem run κs a = refl

@@ -16,11 +16,11 @@ use Rattle.input.proofs.records.places_lent.Kinds as places-lent-kinds
 use Rattle.input.proofs.records.places_lent.Reads as places-lent
 
 module _ {b : List ℕ} {held : ℕ} {r : Filled} {b′ : List ℕ} (p : FilledBehind b held r b′) where
-  -- The bytes that are held stay, and the buffer is as long as it was.
+  -- A read leaves the bytes that are held, and the buffer as long as it was.
   pub held-bytes-stay : (take held b′ ≡ take held b) × (length b′ ≡ length b)
   held-bytes-stay = (p .first, p .as-long)
 
-  -- With room for a byte more, there is then at least what was held, and no more than the buffer has.
+  -- With room for a byte more, there is after a read at least what was held, and no more than the buffer has.
   pub more-fits : held < length b → (held ≤ r .all) × (r .all ≤ length b)
   more-fits h = (p .behind, p .within h)
 
@@ -28,7 +28,7 @@ module _ {b : List ℕ} {held : ℕ} {r : Filled} {b′ : List ℕ} (p : FilledB
   pub failed-brings-nothing : r .failed ≡ true → r .all ≡ held
   failed-brings-nothing = p .failed-none
 
-  -- Without that room no byte changes, there is no more than was held, and it has failed: it does not look like the input's end.
+  -- Without room for a byte more, a read changes no byte, brings nothing, and has failed: it does not look like the input's end.
   pub no-room-no-end : length b ≤ held → (b′ ≡ b) × (r .all ≡ held) × (r .failed ≡ true)
   no-room-no-end h =
       let e = p .no-room h in

@@ -15,14 +15,14 @@ pub head-length : (number w : ℕ) → length (number-text number w) ≡ 6
 unfolding number-text
 head-length number w = refl
 
--- Its mark takes at most 8 bytes.
+-- The mark of an answer takes at most 8 bytes.
 pub mark-length : (shown hollow : Bool) → length (mark-text shown hollow) ≤ 8
 unfolding mark-text
 mark-length true true = omega arith
 mark-length true false = omega arith
 mark-length false hollow = omega arith
 
--- Its cycle takes at most 6 bytes.
+-- The cycle of an answer takes at most 6 bytes.
 pub cycle-length : (x : Cycle) → length (cycle-text x) ≤ 6
 unfolding cycle-text
 cycle-length None = omega arith

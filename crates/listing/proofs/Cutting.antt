@@ -64,7 +64,7 @@ behind-all t n x (b ∷ v) = ap (λ (y : Listing). listing y v) (behind-next t n
 
 -- ---- how far a listing has come in a text
 
--- The lines that were answered, and behind them the line begun.
+-- the text t is lines that were answered, so many bytes of them, and behind them the line begun
 pub record Place (t : List ℕ) (used : ℕ) (begun : List ℕ) : Type 0 where
   pub lines : List ℕ
   pub size : length lines ≡ used
@@ -186,7 +186,7 @@ comes x u (b ∷ t) c = subst (Come (listing (next x b) t)) (append-assoc u (b �
 pub come : (s : Machine) (t : List ℕ) → Come (listing (start s) t) t
 come s t = comes (start s) [] t (begins s)
 
--- What is begun is what lies behind the bytes used.
+-- Unless a bad line ended the listing of a text, what it has begun of a line is what lies behind the bytes used.
 pub begun-is : (s : Machine) (t : List ℕ) → listing (start s) t .ended ≡ false →
     drop (listing (start s) t .used) t ≡ listing (start s) t .begun
 begun-is s t e =

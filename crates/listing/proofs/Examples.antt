@@ -111,7 +111,7 @@ unfolding
     closes fetches bare low-parts host-low bit takes-low takes-high are-lanes lay fetch-at store-at
 second-listing = refl
 
--- "empty input prints nothing"
+-- An empty listing prints nothing: "empty input prints nothing".
 pub empty-listing : (s : Machine) → printed s [] ≡ []
 unfolding listing
 empty-listing s = refl

@@ -20,7 +20,7 @@ pub feed-first : (b : ℕ) (rest : List ℕ) → eqb b 10 ≡ true → has-feed 
 unfolding has-feed
 feed-first b rest e = rw e refl
 
--- A text whose first byte is none has one exactly if the rest has.
+-- A text whose first byte is no line feed has one exactly if the rest has.
 pub feed-later : (b : ℕ) (rest : List ℕ) → eqb b 10 ≡ false → has-feed (b ∷ rest) ≡ has-feed rest
 unfolding has-feed
 feed-later b rest e = rw e refl

@@ -28,6 +28,6 @@ taken-is n l = go (less-or-not n (length l))
 pub fits : (room : ℕ) → 10 * fitting room ≤ 3 * (room - 9)
 fits room = omega arith
 
--- Three bytes more would need more room than that, and not surely have it.
+-- Three bytes more than are listed of a piece would need more room than there is, at 10 bytes for each 3 and 9 for `bad line`.
 pub three-more : (room : ℕ) → 3 * (room - 9) < 10 * (fitting room + 3)
 three-more room = omega arith

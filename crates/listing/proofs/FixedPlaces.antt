@@ -19,7 +19,7 @@ pub record Head (letter : ℕ) (t : List ℕ) : Type 0 where
   pub then : byte t 3 ≡ 32
   pub lanes : is-decimal (byte t 4) ≡ true
 
--- A text that passes the test for such a beginning has it.
+-- A text that passes the test for a line's first five bytes has them: the letter, a space, a decimal digit, a space, a decimal digit.
 pub head-is : (letter : ℕ) (t : List ℕ) → headed letter t ≡ true → Head letter t
 unfolding headed
 head-is letter t e =
@@ -39,7 +39,7 @@ head-is letter t e =
       lanes = s .1;
     }
 
--- the next five bytes of a text: a space and four hex digits
+-- bytes 5 to 9 of a text: a space and four hex digits
 pub record Tail (t : List ℕ) : Type 0 where
   pub space : byte t 5 ≡ 32
   pub d6 : is-hex (byte t 6) ≡ true
@@ -47,7 +47,7 @@ pub record Tail (t : List ℕ) : Type 0 where
   pub d8 : is-hex (byte t 8) ≡ true
   pub d9 : is-hex (byte t 9) ≡ true
 
--- A text that passes the test for these five has them.
+-- A text that passes the test for a space and four hex digits at bytes 5 to 9 has them there.
 pub tail-is : (t : List ℕ) → tailed t ≡ true → Tail t
 unfolding tailed
 tail-is t e =
@@ -66,7 +66,7 @@ second-way : (a b : Bool) → cond a false b ≡ true → (a ≡ false) × (b �
 second-way true b e = (sym e, cc)
 second-way false b e = (refl, e)
 
--- a text that begins with a good read: 6 bytes or more, `R` and the rest of such a beginning, and a line feed at place 5
+-- a text that begins with a good read: 6 bytes or more, the first five of a line (`Head`) with `R`, and a line feed at place 5
 pub record ReadLine (t : List ℕ) : Type 0 where
   pub long : 6 ≤ length t
   pub feed : byte t 5 ≡ 10
@@ -86,7 +86,8 @@ read-line t e =
       head = head-is 82 t (q .1);
     }
 
--- a text that begins with a good write: 11 bytes or more, `W` and the rest of such a beginning, the next five, and a line feed at place 10
+-- a text that begins with a good write: 11 bytes or more, the first five of a line (`Head`) with `W`, the next five (`Tail`), and a line
+-- feed at place 10
 pub record WriteLine (t : List ℕ) : Type 0 where
   pub long : 11 ≤ length t
   pub feed : byte t 10 ≡ 10

@@ -12,7 +12,7 @@ use Rattle.listing.specs.Listing.{Listing, start, listing}
 use Rattle.listing.specs.Pieces.{at-end, printed, No-feed}
 use Rattle.listing.proofs.LineByLine.{whole-bad, never-ends, never-good}
 
--- A line of another shape prints `bad line`, and nothing follows, whatever stands behind it.
+-- A line of another shape than a read's or a write's prints `bad line`, and nothing follows, whatever stands behind it.
 pub other-shape : (s : Machine) (u v : List ℕ) → No-feed u → line-of u ≡ bad → printed s (u ++ 10 ∷ v) ≡ bad-line
 other-shape s u v h e = ap at-end (whole-bad s [] 0 u v h e)
 
@@ -24,7 +24,7 @@ last-line s b u h = go (less-or-not 31 (length (b ∷ u)))
     go (inl k) = ap at-end (never-good s [] 0 (b ∷ u) h k)
     go (inr k) = ap at-end (never-ends s [] 0 (b ∷ u) h k)
 
--- Such a line is not carried out: the port and its memory stay.
+-- A line without its line feed is not carried out: the port and its memory stay.
 pub not-carried-out : (s : Machine) (u : List ℕ) → No-feed u → listing (start s) u .machine ≡ s
 not-carried-out s u h = go (less-or-not 31 (length u))
   where

@@ -140,6 +140,8 @@ pub record GoodFront (t : List ℕ) (a : Access) (n : ℕ) : Type 0 where
   pub says : line-of line ≡ good a
   pub size : n ≡ length line + 1
 
+-- what the line that the text t begins with means: a good one is its bytes, the line feed and what follows; a bad one stops any listing;
+-- one that may go on has no line feed and at most 31 bytes
 abbrev pub Fronts : List ℕ → Front → Type 0
 Fronts t (Good a n) = GoodFront t a n
 Fronts t Bad = (s : Machine) (text : List ℕ) (used : ℕ) → listing (between s text used) t ≡ stopped (between s text used)

@@ -62,14 +62,14 @@ module _ {r : Registers} {m input out : List ℕ} {o : Listed} {m′ out′ : Li
   ended-is : o .ended ≡ piece-listing r m input out .ended
   ended-is = ap (λ (y : Listed). y .ended) (k .outcome)
 
-  -- The first bytes of the output, as many as it says it wrote, are the text that the bytes which fit print.
+  -- The first bytes of the output, as many as a piece says it wrote, are the text that the bytes which fit print.
   pub writes-the-text : take (o .wrote) out′ ≡ piece-listing r m input out .text
   writes-the-text =
       ap (λ (n : ℕ). take n out′) wrote-is ∙
       ap (take (length (piece-listing r m input out .text))) (k .output) ∙
       take-append-seam (piece-listing r m input out .text) _
 
-  -- Every other place of the output stays.
+  -- Every place of the output behind what a piece says it wrote stays.
   pub keeps-the-rest : drop (o .wrote) out′ ≡ drop (o .wrote) out
   keeps-the-rest =
       ap (λ (n : ℕ). drop n out′) wrote-is ∙
@@ -89,7 +89,7 @@ module _ {r : Registers} {m input out : List ℕ} {o : Listed} {m′ out′ : Li
       let n = come (machine r m) (take (fitting (length out)) input) .most in
       omega (arith, n, used-is, length-take (fitting (length out)) input)
 
-  -- The bytes used are whole good lines: listed alone they are all used, no line is begun, and none is bad.
+  -- The bytes that a piece uses are whole good lines: listed alone they are all used, no line is begun, and none is bad.
   pub uses-whole-lines :
       let y = listing (start (machine r m)) (take (o .used) input) in (y .used ≡ o .used) × (y .begun ≡ []) × (y .ended ≡ false)
   uses-whole-lines =
@@ -97,7 +97,7 @@ module _ {r : Registers} {m input out : List ℕ} {o : Listed} {m′ out′ : Li
       (let e = lines-alone r m input out in
       (ap (λ (y : Listing). y .used) e, ap (λ (y : Listing). y .begun) e, ap (λ (y : Listing). y .ended) e))
 
-  -- The registers and the memory are left as these lines leave them.
+  -- The registers and the memory are left as the lines that a piece uses leave them.
   pub leaves-the-port : machine (o .registers) m′ ≡ listing (start (machine r m)) (take (o .used) input) .machine
   leaves-the-port =
       ap (λ (y : Listed). machine (y .registers) m′) (k .outcome) ∙
@@ -120,13 +120,13 @@ module _ {r : Registers} {m input out : List ℕ} {o : Listed} {m′ out′ : Li
       ap (λ (y : Listing). y .text) (lines-alone r m input out))) ∙
       ap (λ (c : Bool). lines-text ++ cond c bad-line []) (sym ended-is)
 
-  -- Where no bad line ended it, the text is what the bytes used print.
+  -- Where no bad line ended a piece, its text is what the bytes used print.
   pub prints-the-lines : o .ended ≡ false → take (o .wrote) out′ ≡ printed (machine r m) (take (o .used) input)
   prints-the-lines e =
       text-is ∙ ap (λ (c : Bool). lines-text ++ cond c bad-line []) e ∙
       ap (λ (l : List ℕ). lines-text ++ left-over l) (sym (uses-whole-lines .1))
 
-  -- Where a bad line ended it, the text is what the bytes used print, and then `bad line`.
+  -- Where a bad line ended a piece, its text is what the bytes used print, and then `bad line`.
   pub prints-the-lines-and-bad-line : o .ended ≡ true → take (o .wrote) out′ ≡ printed (machine r m) (take (o .used) input) ++ bad-line
   prints-the-lines-and-bad-line e =
       text-is ∙ ap (λ (c : Bool). lines-text ++ cond c bad-line []) e ∙
@@ -134,7 +134,8 @@ module _ {r : Registers} {m input out : List ℕ} {o : Listed} {m′ out′ : Li
       ap (λ (l : List ℕ). (lines-text ++ left-over l) ++ bad-line) (sym (uses-whole-lines .1))
 
   -- ---- and the whole input
-  -- Where no bad line ended it, the listing of the whole input is that of the bytes that are left, from what it leaves, behind its text.
+  -- Where no bad line ended a piece, the listing of the whole input is that of the bytes that are left, from what the piece leaves, behind
+  -- its text.
   pub goes-on-from-there : o .ended ≡ false →
       listing (start (machine r m)) input ≡
       behind (take (o .wrote) out′) (o .used) (listing (start (machine (o .registers) m′)) (drop (o .used) input))
@@ -151,7 +152,8 @@ module _ {r : Registers} {m input out : List ℕ} {o : Listed} {m′ out′ : Li
       ap (λ (l : List ℕ). behind (take (o .wrote) out′) (o .used) (listing (start (machine (o .registers) m′)) (l ++ v)))
       (uses-whole-lines .1)
 
-  -- Where one did, the text is what the whole input prints, and the port is left as the whole input leaves it.
+  -- Where a bad line ended a piece, its text is what the whole input prints, the port is left as the whole input leaves it, and the bad
+  -- line ends that listing too.
   pub ends-there : o .ended ≡ true →
       (printed (machine r m) input ≡ take (o .wrote) out′) × (listing (start (machine r m)) input .machine ≡ machine (o .registers) m′)
       × (listing (start (machine r m)) input .ended ≡ true)

@@ -21,10 +21,12 @@ use Rattle.listing.proofs.AnswerTexts.{answer-length}
 use Rattle.listing.proofs.Laying.{with-more, put-length}
 use Rattle.listing.proofs.LineByLine.{within, between, GoodFront, Fronts, fronts, whole-good, never-ends, good-size}
 
+-- the port with registers r and memory m
 abbrev pub machine : Registers → List ℕ → Machine
 machine r m = record { registers = r; memory = m }
 
--- The whole input's listing is that of the rest, from here; the answers so far lie at the output's beginning.
+-- between two turns: the listing of the whole input is that of the rest, from registers r and memory m; the answers so far lie at the
+-- output's beginning
 pub record Kept (r₀ : Registers) (m₀ input out₀ m out : List ℕ) (r : Registers) (used wrote : ℕ) : Type 0 where
   pub text : List ℕ
   pub come : listing (start (machine r₀ m₀)) input ≡ listing (between (machine r m) text used) (drop used input)
@@ -35,7 +37,7 @@ pub record Kept (r₀ : Registers) (m₀ input out₀ m out : List ℕ) (r : Reg
   pub size : length m ≡ length m₀
   pub room : length out ≡ length out₀
 
--- All this holds at the start, with nothing used and nothing written (`Kept`).
+-- At the start nothing is used and nothing written, and the listing of the whole input is that of the rest (`Kept`).
 pub at-start : (r : Registers) (m input out : List ℕ) → Kept r m input out m out r 0 0
 at-start r m input out =
     record {
@@ -64,17 +66,17 @@ module _ {r₀ r : Registers} {m₀ input out₀ m out : List ℕ} {used wrote :
       let here = length-drop used input in
       (omega (arith, short .0, g .size), omega (arith, all, here, g .size, k .most, short .0))
 
-  -- The answer to a good line has room.
+  -- The answer to a good line has room in the output.
   pub room-for-answer : {a : Access} {n : ℕ} → front-line (drop used input) ≡ Good a n → wrote + 20 ≤ length out
   room-for-answer e =
       let lies = good-lies e in
       omega (arith, lies .0, lies .1, k .few, k .end, k .room, enough)
 
-  -- So has `bad line`, where a byte of the input is left.
+  -- Where a byte of the input is left, `bad line` has room in the output.
   pub room-for-bad : used < length input → wrote + 9 ≤ length out
   room-for-bad h = omega (arith, h, k .few, k .end, k .room, enough)
 
-  -- After a good line all this holds again.
+  -- After a good line the listing of the whole input is that of the rest again, and its answer lies behind those before it (`Kept`).
   pub turned : {a : Access} {n : ℕ} {o : Answered} {m′ out′ : List ℕ} → front-line (drop used input) ≡ Good a n →
       AnsweredLine r m a out wrote o m′ out′ → length m′ ≡ length m →
       Kept r₀ m₀ input out₀ m′ out′ (o .registers) (used + n) (o .wrote)

@@ -137,15 +137,16 @@ module _ {s t u : Machine} (a : BitAddress) (n : ℕ) {xs ys : List Answer}
         ap (λ (z : Machine). z .registers .pointer .0) e ∙ w .pointer,
       )
 
-  -- Past the end of memory, behind the words that are there, such reads hand out FFFFh, hollow, up to word 2^28, where the pointer comes
-  -- round.
+  -- Calls that load the pointer and read on past the end of memory, by words or by bytes, with a memory that is not refused and INCR set:
+  -- behind the words that are there they hand out FFFFh, hollow, up to word 2^28, where the pointer comes round.
   pub calls-then-hollow : (before after : ℕ) → n ≡ before + after → word-at a .0 + before ≡ length (s .memory) → word-at a .0 + n ≤ 2 ^ 28 →
       map given ys ≡ map held-word (table (s .memory) a before) ++ replicate after filler
   calls-then-hollow before after e h q =
       ap (map given) (answered .0 ∙ ap (λ (j : ℕ). answers (loaded s a) (reading j)) e) ∙
       then-hollow s k i a before after h (omega (arith, e))
 
-  -- Begun past the end of memory, such reads hand out nothing but FFFFh, hollow, up to word 2^28.
+  -- Calls that load the pointer past the end of memory and read, by words or by bytes, with a memory that is not refused and INCR set, hand
+  -- out nothing but FFFFh, hollow, up to word 2^28.
   pub calls-only-hollow : a .0 < 2 ^ 32 → length (s .memory) ≤ word-at a .0 → word-at a .0 + n ≤ 2 ^ 28 → map given ys ≡ replicate n filler
   calls-only-hollow b h q = ap (map given) (answered .0) ∙ only-hollow s k i a n b h q
 
@@ -174,6 +175,6 @@ module _ {m : List ℕ} {l : List Deed} {lanes : ℕ} {s t : Machine} {x : Answe
   pub call-says-its-story : Says x lanes (as-content (story (woken m) l unset))
   call-says-its-story = rw there (since-reset m l lanes done-so)
 
-  -- A word that such a read hands out as held came out of memory, or was written by the host or the processor.
+  -- From reset on, a word that a read of HSTDATA hands out as held came out of memory, or was written by the host or the processor.
   pub held-word-came : x .hollow ≡ false → Came (story (woken m) l unset)
   held-word-came e = held-came m l lanes done-so (sym (ap (λ (y : Answer). y .hollow) there) ∙ e)

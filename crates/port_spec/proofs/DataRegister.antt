@@ -25,33 +25,34 @@ module _ (r : Registers) (m : List ℕ) where
   c = r .control
 
   module _ (lanes : ℕ) (n : access r m (Read 2 lanes) .answer .number ≡ 0) where
-    -- "If the closing byte is selected, then: with INCR 1 the pointer gains 16; then a fetch": the step comes first, and HSTCTL stays.
+    -- A read of HSTDATA that is done: "If the closing byte is selected, then: with INCR 1 the pointer gains 16; then a fetch". The step
+    -- comes first, and HSTCTL stays.
     pub read-fetches : closes c lanes ≡ true → access r m (Read 2 lanes) .registers ≡ standing m c (ahead r)
     unfolding begin-access read-due
     read-fetches e = left-by r m (Read 2 lanes) n ∙ rw e (fetch-leaves r m (incr c))
 
-    -- A read without the closing byte changes no register.
+    -- A read of HSTDATA without the closing byte changes no register.
     pub read-open : closes c lanes ≡ false → access r m (Read 2 lanes) .registers ≡ r
     unfolding begin-access read-due carried
     read-open e = left-by r m (Read 2 lanes) n ∙ rw e
 
   module _ (lanes w : ℕ) (n : access r m (Write 2 lanes w) .answer .number ≡ 0) where
-    -- With the closing byte, "the whole of HSTDATA is stored at the pointer": with the written bytes in it, and at the pointer as it stood
-    -- before any step.
+    -- A write of HSTDATA that is done, with the closing byte: "the whole of HSTDATA is stored at the pointer", with the written bytes in
+    -- it, and at the pointer as it stood before any step.
     pub write-stores : closes c lanes ≡ true →
         access-memory r m (Write 2 lanes w) ≡ store-at m (word-at (r .pointer)) (replaced lanes (r .latch) w)
     unfolding begin-access write-due written memory-after
     write-stores e = as-done-memory r m (Write 2 lanes w) n ∙ rw e
 
-    -- "the hollow mark clears, then with INCW 1 the pointer gains 16", wherever the pointer was: the registers after that store
-    -- have HSTDATA as written, held, and the pointer stepped where INCW is set.
+    -- After a write of HSTDATA that is done, with the closing byte, "the hollow mark clears, then with INCW 1 the pointer gains 16",
+    -- wherever the pointer was: HSTDATA is as written, held, and the pointer stepped where INCW is set.
     pub write-steps : closes c lanes ≡ true →
         access r m (Write 2 lanes w) .registers ≡ after-storing r (replaced lanes (r .latch) w) (incw c)
     unfolding begin-access write-due written
     write-steps e = left-by r m (Write 2 lanes w) n ∙
         rw e (store-leaves (with-latch r (replaced lanes (r .latch) w) (r .hollow)) m (incw c))
 
-    -- A byte that does not close the word is laid into HSTDATA; the mark and the other registers stay.
+    -- A write of HSTDATA that is done, without the closing byte, lays its byte into HSTDATA; the mark and the other registers stay.
     pub write-open : closes c lanes ≡ false →
         access r m (Write 2 lanes w) .registers ≡ with-latch r (replaced lanes (r .latch) w) (r .hollow)
     unfolding begin-access write-due written carried
@@ -73,7 +74,7 @@ module _ (r : Registers) (m : List ℕ) where
       access r m (Read 2 lanes) .registers ≡ standing m c (address 0)
   read-wraps lanes n e i p = read-fetches lanes n e ∙ rw (i, p)
 
-  -- So goes the step of a write, after its store: from FFFFFFF0h to 0.
+  -- "The pointer gains 16 modulo 2^32: after FFFFFFF0h comes 0": so goes the step of a write, after its store.
   pub write-wraps : (lanes w : ℕ) → access r m (Write 2 lanes w) .answer .number ≡ 0 → closes c lanes ≡ true → incw c ≡ true →
       r .pointer ≡ address 0xfffffff0 →
       access r m (Write 2 lanes w) .registers .pointer ≡ address 0

@@ -104,6 +104,6 @@ module _ (s : Machine) (k : Memory (s .memory)) where
     pub reads-hand : (a : BitAddress) → a .0 < 2 ^ 32 → (n : ℕ) → answers (loaded s a) (reading n) ≡ handed (s .memory) a n
     reads-hand a h n = rw (loads a h) (reads-answer n a)
 
-    -- The registers then stand n words on; memory and the control register stay.
+    -- With INCR set and the pointer loaded anywhere, n reads leave the registers standing n words on; memory and the control register stay.
     pub reads-leave : (a : BitAddress) → a .0 < 2 ^ 32 → (n : ℕ) → ends (loaded s a) (reading n) ≡ stands s (on-by n a)
     reads-leave a h n = rw (loads a h) (reads-end n a)

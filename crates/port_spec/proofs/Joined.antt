@@ -13,13 +13,13 @@ use Rattle.port_spec.specs.declared.Access.the-variants.{Read}
 use Rattle.port_spec.proofs.DataRegister.{read-keeps-memory}
 
 -- ---- any accesses
--- The second part goes on from where the first ended.
+-- Of a run of accesses in two parts the second goes on from where the first ended.
 pub ends-join : (s : Machine) (xs ys : List Sixteen) → ends s (xs ++ ys) ≡ ends (ends s xs) ys
 unfolding ends
 ends-join s [] ys = refl
 ends-join s (x ∷ xs) ys = ends-join (after s (on 3 x)) xs ys
 
--- The answers of the second part come after those of the first.
+-- Of a run of accesses in two parts the answers of the second come after those of the first.
 pub answers-join : (s : Machine) (xs ys : List Sixteen) → answers s (xs ++ ys) ≡ answers s xs ++ answers (ends s xs) ys
 unfolding answers ends
 answers-join s [] ys = refl

@@ -71,7 +71,7 @@ module _ (m : List ℕ) (q r : Registers) (e : word-at (q .pointer) ≡ word-at 
         next = one-word s (q .pointer) (r .pointer) e;
       }
 
-  -- Every cycle from two such pointers leaves the same memory.
+  -- Two pointers into one word, with HSTDATA alike: every cycle leaves the same memory.
   pub memory-by-word : (d : Due) → memory-after q d m ≡ memory-after r d m
   unfolding memory-after
   memory-by-word Nothing = refl

@@ -34,10 +34,11 @@ use Rattle.port_spec.proofs.Taken.{either-done}
 
 -- ---- the cycle
 
--- HSTDATA after a fetch of word n, and after a store
+-- HSTDATA after a fetch of word n: hollow where memory does not have it
 abbrev pub found : List ℕ → WordNumber → Content
 found m n = record { word = fetch-at m n .word; hollow = not (in-memory m n) }
 
+-- HSTDATA after a store: the word that it has, held
 abbrev pub kept : Registers → Content
 kept r = record { word = r .latch; hollow = false }
 

@@ -124,7 +124,8 @@ miss-leaves r m a w e =
     ap (λ (o : Outcome). content (o .registers)) (as-done r m a n) ∙ leaves r m a .data-left ∙
     rw (t .0, w, fetched-beyond m (word-used r a) (t .1), t .1)
 
--- After such a miss the next read, on whatever lanes and with whatever memory, hands out the filler's bytes and says that they are hollow.
+-- After a fetch that missed memory the next read of HSTDATA, on whatever lanes and with whatever memory, hands out the filler's bytes and
+-- says that they are hollow.
 pub read-after-miss : (r : Registers) (m : List ℕ) (a : Access) → writes-data a ≡ false → access r m a .answer .cycle ≡ Empty →
     (m′ : List ℕ) (lanes : ℕ) → access (access r m a .registers) m′ (Read 2 lanes) .answer .number ≡ 0 →
     Says (access (access r m a .registers) m′ (Read 2 lanes) .answer) lanes hollow-filler

@@ -56,7 +56,7 @@ module _ (r : Registers) (m : List ℕ) (a : Access) where
   pub numbered : AccessWhen (length m) (register-of a) (lanes-of a) (access r m a .answer .number)
   numbered = rw (number-is r m a) (when (length m) (register-of a) (lanes-of a))
 
-  -- With another number than 0 the word is 0, the mark false, the cycle none, and registers and memory stay as they stood.
+  -- An access with another number than 0 answers word 0, mark false and cycle none, and leaves registers and memory as they stood.
   pub refuses : access r m a .answer .number ≢ 0 → Refused r m a
   refuses n =
       let e : number-for m a ≢ 0 = λ q. n (number-is r m a ∙ q) in

@@ -42,11 +42,12 @@ module _ (r : Registers) (m : List ℕ) where
         go true false d e = refl
         go false u d e = refl
 
-    -- Any other write of registers 0, 1 and 3, where the byte or the register is not the one, starts no cycle.
+    -- A write of register 0, 1 or 3 without the closing byte, or of one that does not fetch, starts no cycle.
     pub load-has-no-cycle : (closes c lanes && fetches c k) ≡ false → access r m (Write k lanes w) .answer .cycle ≡ None
     load-has-no-cycle e = uncalled-cycle r m (Write k lanes w) (load-calls-none e)
 
-    -- Any such other write leaves the registers as written, and no more.
+    -- A write of register 0, 1 or 3 that is done, without the closing byte or of one that does not fetch, leaves the registers as written,
+    -- and no more.
     pub load-open : (closes c lanes && fetches c k) ≡ false → access r m (Write k lanes w) .registers ≡ written r k lanes w
     unfolding begin-access carried
     load-open e = left-by r m (Write k lanes w) n ∙ rw (load-calls-none e)

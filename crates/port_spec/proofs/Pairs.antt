@@ -32,9 +32,11 @@ pub record Paired (b b₁ b₂ : Begun) : Type 0 where
   pub due : b₂ .due ≡ b .due
   pub registers : b₂ .registers ≡ b .registers
 
+-- the first of the two byte accesses of a sixteen-bit access, before any cycle
 abbrev pub first-of : Registers → Sixteen → Begun
 first-of r a = begin-access r (on (first-lane (r .control)) a)
 
+-- the second of the two byte accesses of a sixteen-bit access, on the registers that the first left, before any cycle
 abbrev pub last-of : Registers → Sixteen → Begun
 last-of r a = begin-access (first-of r a .registers) (on (last-lane (r .control)) a)
 
@@ -115,7 +117,8 @@ module _ (r : Registers) where
     registers = e;
   }
 
-  -- The two byte accesses of any sixteen-bit access are paired so, before any cycle.
+  -- Before any cycle the two byte accesses of a sixteen-bit access answer, call for a cycle and leave the registers as the whole one
+  -- (`Paired`).
   pub begin-pair : (a : Sixteen) → Paired (begin-access r (on 3 a)) (first-of r a) (last-of r a)
   unfolding begin-access write-due written half-written
   begin-pair (load k) = read-pair r k

@@ -90,7 +90,8 @@ module _ {r : Registers} {m : List ℕ} {lanes : ℕ} {o : Outcome} {m′ : List
       let q = rule r m lanes (done-there k z) in
       rw (k .outcome) (record { word = q .word; hollow = q .hollow })
 
-  -- With the closing byte, "with INCR 1 the pointer gains 16; then a fetch": the registers stand at the word ahead.
+  -- A read of HSTDATA that is done, with the closing byte: "with INCR 1 the pointer gains 16; then a fetch"; the registers stand at the
+  -- word ahead.
   pub read-then-fetches : closes (r .control) lanes ≡ true → o .registers ≡ standing m (r .control) (ahead r)
   read-then-fetches e = ap (λ (x : Outcome). x .registers) (k .outcome) ∙ read-fetches r m lanes (done-there k z) e
 
@@ -113,14 +114,16 @@ module _ {r : Registers} {m : List ℕ} {register lanes w : ℕ} {o : Outcome} {
     pub write-leaves-memory : m′ ≡ m
     write-leaves-memory = k .memory ∙ load-keeps-memory r m register lanes w (ne-eqb register 2 d) (done-there k z)
 
-    -- The closing byte of the half that fetches: "memory is fetched at the new pointer. This fetch doesn't increment, whatever INCR says".
+    -- A write that is done, with the closing byte, of the half that fetches: "memory is fetched at the new pointer. This fetch doesn't
+    -- increment, whatever INCR says".
     pub load-then-fetches : closes (r .control) lanes ≡ true → fetches (r .control) register ≡ true →
         o .registers ≡ standing m (written r register lanes w .control) (written r register lanes w .pointer)
     load-then-fetches e f =
         ap (λ (x : Outcome). x .registers) (k .outcome) ∙
         load-fetches r m register lanes w (ne-eqb register 2 d) (done-there k z) e f
 
-    -- Any other write of a register but HSTDATA replaces the selected bytes of its register, and no more.
+    -- A write of a register but HSTDATA that is done, without the closing byte or of one that does not fetch, replaces the selected bytes
+    -- of its register, and no more.
     pub write-replaces : (closes (r .control) lanes && fetches (r .control) register) ≡ false → o .registers ≡ written r register lanes w
     write-replaces e =
         ap (λ (x : Outcome). x .registers) (k .outcome) ∙
@@ -135,21 +138,21 @@ write-of-control {r} {m} {lanes} {w} k z =
 -- a write of HSTDATA that is done
 module _ {r : Registers} {m : List ℕ} {lanes w : ℕ} {o : Outcome} {m′ : List ℕ} (k : Accessed r m (Write 2 lanes w) o m′)
     (z : o .answer .number ≡ 0) where
-  -- A write of HSTDATA with the closing byte: "the whole of HSTDATA is stored at the pointer", as it stood before any step.
+  -- A write of HSTDATA that is done, with the closing byte: "the whole of HSTDATA is stored at the pointer", as it stood before any step.
   pub write-then-stores : closes (r .control) lanes ≡ true → m′ ≡ store-at m (word-at (r .pointer)) (replaced lanes (r .latch) w)
   write-then-stores e = k .memory ∙ write-stores r m lanes w (done-there k z) e
 
-  -- After that store "the hollow mark clears, then with INCW 1 the pointer gains 16".
+  -- After a write of HSTDATA that is done, with the closing byte, "the hollow mark clears, then with INCW 1 the pointer gains 16".
   pub write-then-steps : closes (r .control) lanes ≡ true → o .registers ≡ after-storing r (replaced lanes (r .latch) w) (incw (r .control))
   write-then-steps e = ap (λ (x : Outcome). x .registers) (k .outcome) ∙ write-steps r m lanes w (done-there k z) e
 
-  -- Without the closing byte the byte is laid into HSTDATA; the mark and the other registers stay.
+  -- A write of HSTDATA that is done, without the closing byte, lays its byte into HSTDATA; the mark and the other registers stay.
   pub write-stays-open : closes (r .control) lanes ≡ false → o .registers ≡ with-latch r (replaced lanes (r .latch) w) (r .hollow)
   write-stays-open e = ap (λ (x : Outcome). x .registers) (k .outcome) ∙ write-open r m lanes w (done-there k z) e
 
 -- ---- a cycle that is due, done by itself
 module _ {r : Registers} {m : List ℕ} {c : Carried} {m′ : List ℕ} where
-  -- Where none is due, nothing changes, and none is marked.
+  -- Where no cycle is due, nothing changes, and none is marked.
   pub no-cycle-done : Cycled r Nothing m c m′ → (c .registers ≡ r) × (c .cycle ≡ None) × (m′ ≡ m)
   unfolding carried memory-after
   no-cycle-done k = rw (k .outcome, k .memory) (refl, refl, refl)

@@ -54,8 +54,9 @@ module _ {S : Type 0} (call : Call S) (control : S → ℕ) (tells : S → Acces
         last .1 ∙ ap (λ (z : S). leaves z l) (first .1) ∙ p .end ∙ sym (whole .1),
       )
 
-  -- Under the same conditions any sequence of sixteen-bit accesses ends alike, done by byte calls and by word calls: each pair of answers
-  -- adds up to the word's (`AddUp`), and they end in the same state.
+  -- If each call has one outcome, and each sixteen-bit access done as two byte calls ends like the whole one in every state where `Holds`,
+  -- which calls keep, then so does any sequence of them: each pair of answers adds up to the word's (`AddUp`), and byte calls and word
+  -- calls end in the same state.
   pub sequences-alike : {s t u : S} {l : List Sixteen} {xs : List Answer} {ps : List (Answer × Answer)} → Holds s →
       ByWords call s l xs t → ByBytes call control s l ps u → AllAddUp ps xs × (u ≡ t)
   sequences-alike h no-word no-byte = (no-pair, refl)

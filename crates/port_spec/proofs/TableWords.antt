@@ -28,7 +28,7 @@ module _ (m : List ℕ) where
   unfolding hand fetch-at
   hollow-here a h = rw (le-ltb (word-at a .0) (length m) h)
 
-  -- The cycle is marked empty where memory has no word one on.
+  -- The cycle of a read is marked empty where memory has no word one on.
   pub ahead-empty : (a : BitAddress) → length m ≤ word-at (step a) .0 → hand m a .cycle ≡ Empty
   unfolding hand cycle-of
   ahead-empty a h = rw (le-ltb (word-at (step a) .0) (length m) h)

@@ -85,7 +85,7 @@ module _ (r : Registers) (m : List ℕ) (a : Access) where
       either-done r m a (λ (o : Outcome). FitWidths (o .registers))
       (carried-fits (begin-access r a .registers) (begin-access r a .due) m (begun-fits r a f) h) (λ n. f)
 
-  -- Such an access leaves a memory of 16-bit words.
+  -- An access to registers of 32 and 16 bits, with a memory of 16-bit words, leaves a memory of 16-bit words.
   pub access-memory-fits : FitWidths r → AreWords m → AreWords (access-memory r m a)
   unfolding access-memory
   access-memory-fits f h = go (eqb (number-for m a) 0)

@@ -10,12 +10,12 @@ use lib.Seq.{slice, length-slice, length-take-le, take-suc, drop-cons, append-sn
 use lib.Seq.{take-at}
 use Rattle.portlist.specs.Turning.{moved}
 
--- the first i bytes moved
+-- a buffer when the first i of its bytes between two places are moved to its front
 abbrev pub part-moved : List ℕ → ℕ → ℕ → ℕ → List ℕ
 part-moved s from to i = take i (slice from to s) ++ drop i s
 
 module _ (s : List ℕ) (from to : ℕ) (h : from ≤ to) (k : to ≤ length s) where
-  -- There are as many bytes to move as lie between the two places.
+  -- The bytes of a buffer between two places are as many as these are apart.
   pub count : length (slice from to s) ≡ to - from
   count = length-slice from to s k
 
@@ -30,7 +30,7 @@ module _ (s : List ℕ) (from to : ℕ) (h : from ≤ to) (k : to ≤ length s) 
       ap (λ (n : ℕ). getD s n 0) (add-comm i from) ∙
       sym (getD-drop from (take to s) i 0 ∙ getD-take to s (from + i) 0 (omega (arith, m, h)))
 
-  -- The next byte, set at its place in front, is moved.
+  -- Where the first i bytes between two places of a buffer are moved to its front, the next, set at its place there, is moved too.
   pub one-moved : (i : ℕ) → i < to - from →
       set (part-moved s from to i) i (getD (part-moved s from to i) (from + i) 0) ≡ part-moved s from to (i + 1)
   one-moved i m =
@@ -48,10 +48,10 @@ module _ (s : List ℕ) (from to : ℕ) (h : from ≤ to) (k : to ≤ length s) 
       set-at p (getD s i 0) (drop (suc i) s) (getD sl i 0) i front ∙
       sym next
 
-  -- At the end all are moved.
+  -- Where as many bytes are moved to a buffer's front as lie between two places, all of these are moved.
   pub all-moved : part-moved s from to (to - from) ≡ moved s from to
   all-moved = ap (λ (l : List ℕ). l ++ drop (to - from) s) (take-all (to - from) (slice from to s) (omega (arith, count)))
 
-  -- The bytes that were moved are the front then.
+  -- The bytes between two places of a buffer that were moved to its front are its front.
   pub front-moved : take (to - from) (moved s from to) ≡ slice from to s
   front-moved = take-at (slice from to s) (drop (to - from) s) (to - from) count

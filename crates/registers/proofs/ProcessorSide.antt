@@ -31,12 +31,12 @@ served k h = record { listed = inl refl; done = omega arith; unlisted = omega ar
 away : (k : ℕ) → 4 < k → Numbered k 2
 away k h = record { listed = inr refl; done = omega arith; unlisted = omega arith }
 
--- what a read of register k by the processor answers: such a number, and with another than 0 word 0
+-- what a read of register k by the processor answers: the number for k (`Numbered`), and with another than 0 word 0
 pub record ReadSays (k : ℕ) (x : ProcessorRead) : Type 0 where
   pub number : Numbered k (x .number)
   pub refused : x .number ≢ 0 → x .word ≡ 0
 
--- what a write of register k by the processor answers: such a number, and with another than 0 the registers as they stood
+-- what a write of register k by the processor answers: the number for k (`Numbered`), and with another than 0 the registers as they stood
 pub record WriteSays (r : Registers) (k : ℕ) (x : ProcessorWrite) : Type 0 where
   pub number : Numbered k (x .number)
   pub refused : x .number ≢ 0 → x .registers ≡ r
@@ -101,8 +101,8 @@ module _ (r : Registers) where
       high-control = refl;
     }
 
--- "It never starts a cycle or moves the pointer": it is lent no memory, and a write of any register but the pointer's own halves
--- leaves the pointer.
+-- "It never starts a cycle or moves the pointer": the processor's side is lent no memory, and a write by it of any register but the
+-- pointer's own halves leaves the pointer.
 pub pointer-stays : (r : Registers) (k w : ℕ) → 1 < k → processor-writes r k w .registers .pointer ≡ r .pointer
 unfolding processor-writes processor-written
 pointer-stays r k w h = rw (le-ltb k 2 (omega arith)) (go (ltb 4 k) (eqb k 2) (eqb k 3) _ _ _ refl refl refl)

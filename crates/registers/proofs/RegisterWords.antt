@@ -29,7 +29,7 @@ read-as r = record { low = refl; high = refl; data-register = refl; control = re
 pub low-of-halves : (l h : ℕ) → l < 65536 → low-half (halves l h) ≡ l
 low-of-halves l h p = omega arith
 
--- Its high half is the second.
+-- The high half of a pointer made of two halves is the second.
 pub high-of-halves : (l h : ℕ) → l < 65536 → h < 65536 → high-half (halves l h) ≡ h
 high-of-halves l h p q = omega arith
 
@@ -62,7 +62,7 @@ pub record OneWritten (r : Registers) (lanes w : ℕ) : Type 0 where
   pub data-register : written r 2 lanes w ≡ with-latch r (replaced lanes (r .latch) w) (r .hollow)
   pub control : written r 3 lanes w ≡ with-control r (control-laid host-low lanes (r .control) w)
 
--- Every write of one of the four changes its own register alone; that of HSTDATA leaves the mark.
+-- Every write of one of the four registers changes that register alone; the one of HSTDATA leaves the hollow mark.
 pub one-written : (r : Registers) (lanes w : ℕ) → OneWritten r lanes w
 unfolding written
 one-written r lanes w = record { low = refl; high = refl; data-register = refl; control = refl }

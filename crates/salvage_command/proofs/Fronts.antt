@@ -52,11 +52,11 @@ module _ (from n : ℕ) (piece by : List ℕ) (h : from + n ≤ length piece) wh
     by-front : take n by′ ≡ part
     by-front = ap (λ (k : ℕ). take k by′) (sym as-long) ∙ copied part _ by′ e
 
-    -- The first copy fills the front of the others.
+    -- n bytes of a piece that are copied to the front of another buffer are n there.
     pub as-many : n ≡ length (take n by′)
     as-many = sym (ap length by-front ∙ as-long)
 
-    -- The second copy brings these bytes to the front of the piece.
+    -- n bytes of a piece that are copied to the front of another buffer, and from there to the front of the piece, are its first n.
     pub moved : {piece′ : List ℕ} → piece′ ≡ take (length (take n by′)) (take n by′) ++ drop (length (take n by′)) piece →
         take n piece′ ≡ take n (drop from piece)
     moved {piece′} f =

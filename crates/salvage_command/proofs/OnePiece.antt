@@ -48,6 +48,7 @@ module _ (p : Progress) (x : List ℕ) where
       sym (ap length held-first) ∙ length-take-le (held-count (refusal-read x) (length (rest x))) (rest x) (omega (arith, few))
 
 -- ---- a piece that is salvaged
+-- the progress of a salvage: how many records are kept, the bytes held, how many bytes are left, and what stopped it
 abbrev pub by-parts : ℕ → List ℕ → ℕ → ℕ → Salvage·Progress
 by-parts kept held gone stop = record { kept = kept; held = held; gone = gone; stop = stop }
 
@@ -82,14 +83,14 @@ module _ (p : Progress) (piece sound : List ℕ) (all : ℕ) (ready : Ready p pi
   stop-is : o .stop ≡ refusal-read x
   stop-is = ap (λ (a : Salvaged). a .stop) report
 
-  -- No more is left than there is.
+  -- Of the bytes at hand no more are left than there are.
   pub left-within : o .left ≤ all
   left-within = omega (arith, left-is, all-long, parts-long p x)
 
   written-long : all - o .left ≡ length (run x)
   written-long = omega (arith, left-is, all-long, parts-long p x)
 
-  -- No more records are kept than there are bytes.
+  -- Of the bytes at hand no more records are kept than there are bytes.
   pub kept-within : o .kept ≤ all
   kept-within = let n = no-more-than-bytes (divides x .good) in omega (arith, n, kept-is, all-long, parts-long p x)
 
@@ -114,8 +115,8 @@ module _ (p : Progress) (piece sound : List ℕ) (all : ℕ) (ready : Ready p pi
           ∙ ap (λ (n : ℕ). take n (rest x)) held-is
           ∙ held-first p x
 
-      -- Where no bad record has stopped it for good, a turn takes the bytes at hand as the pieces of `salvage_spec` are taken: records
-      -- kept, bytes left and held, what stopped it, and what is written.
+      -- Where no bad record has stopped the salvage for good, a turn takes the bytes at hand as the pieces of `salvage_spec` are taken:
+      -- records kept, bytes left and held, what stopped it, and what is written.
       pub salvaged : may-go-on (p .stop) ≡ true →
           Took p x
           (record {

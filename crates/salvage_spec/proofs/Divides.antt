@@ -31,7 +31,7 @@ read-so s es t u n e q (next-bad b) =
     let x = reads-bad s t u es n e q b in
     record { entries = x .entries; place = x .place; refusal = x .refusal }
 
--- the parts are those that salvage finds
+-- the entries es, the run t, the rest u and the refusal n are those that salvage finds in the string s
 pub record Found (s : List ℕ) (es : List Entry) (t u : List ℕ) (n : ℕ) : Type 0 where
   pub entries : entries-read s ≡ es
   pub kept : run s ≡ t
@@ -81,7 +81,7 @@ run-length s =
     let d = divides s in
     sym (read-so s (entries-read s) (run s) (rest s) (refusal-read s) (d .all) (d .good) (d .behind) .place)
 
--- A string divides into good records and such a rest in one way only.
+-- A string divides into good records and a rest, which is nothing or begins with a bad record, in one way only.
 pub one-division : {s : List ℕ} {es fs : List Entry} {t u v w : List ℕ} {n k : ℕ} → Divides s es t u n → Divides s fs v w k →
     (es ≡ fs) × (t ≡ v) × (u ≡ w) × (n ≡ k)
 one-division d e =

@@ -37,13 +37,13 @@ go-on (v ∷ vs) s p a k =
           append-assoc (run s) (piece-written p v) (pieces-written (piece-taken p v) vs);
     }
 
--- A piece more is taken as the last one.
+-- Pieces and one more are taken as the pieces, and then that one.
 pub taken-on : (p : Progress) (vs : List (List ℕ)) (v : List ℕ) → pieces-taken p (vs ++ (v ∷ [])) ≡ piece-taken (pieces-taken p vs) v
 unfolding pieces-taken
 taken-on p [] v = refl
 taken-on p (w ∷ vs) v = taken-on (piece-taken p w) vs v
 
--- What is written of a piece more is behind what was written.
+-- What is written of pieces and one more is what is written of the pieces, and behind it what is written of that one.
 pub written-on : (p : Progress) (vs : List (List ℕ)) (v : List ℕ) →
     pieces-written p (vs ++ (v ∷ [])) ≡ pieces-written p vs ++ piece-written (pieces-taken p vs) v
 unfolding pieces-taken pieces-written

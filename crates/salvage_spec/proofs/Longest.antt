@@ -18,7 +18,7 @@ use Rattle.salvage_spec.specs.Salvage.{run, rest}
 use Rattle.salvage_spec.proofs.Divides.{Found, found, divides}
 
 -- ---- fronts
--- Each good record has a byte at least.
+-- Good records are no more than their bytes.
 pub no-more-than-bytes : {t : List ℕ} {es : List Entry} → Sound t es → length es ≤ length t
 no-more-than-bytes nothing = omega arith
 no-more-than-bytes (and-more {r} {s} g q) =
@@ -67,15 +67,15 @@ rest-empty none-left z = refl
 rest-empty (next-bad {u} {n} b) z = absurd (bad-record-number u n b z)
 
 module _ (s : List ℕ) where
-  -- The next record behind the run, if any, is bad, with the refusal that stopped it.
+  -- The next record behind the run, if any, is bad, with the refusal that stopped the salvage.
   pub next-is-bad : rest s ≢ [] → BadRecord (rest s) (refusal-read s)
   next-is-bad = rest-bad (divides s .behind)
 
-  -- If something stopped it, there is such a bad record, with that refusal.
+  -- If a refusal stopped the salvage, the next record behind the run is bad, with that refusal.
   pub stopped-is-bad : refusal-read s ≢ 0 → BadRecord (rest s) (refusal-read s)
   stopped-is-bad = rest-stopped (divides s .behind)
 
-  -- Nothing is left exactly if nothing stopped it.
+  -- Nothing is left of a string exactly if no refusal stopped the salvage.
   pub left-exactly : rest s ≡ [] ↔ (refusal-read s ≡ 0)
   left-exactly =
       let d = divides s in (
@@ -83,14 +83,14 @@ module _ (s : List ℕ) where
         rest-empty (d .behind),
       )
 
-  -- Where something stopped it, the reader refuses the whole string with that refusal, whatever room its lists have, and names the place
-  -- where the run ends.
+  -- If a refusal stopped the salvage, the reader refuses the whole string with it, whatever room its lists have, and names the place where
+  -- the run ends.
   pub stopped-as-read : (room : ℕ) → refusal-read s ≢ 0 → read-answer s room ≡ format.answer (refusal-read s) 0 (length (run s))
   stopped-as-read room d =
       let x = divides s in
       reads-exactly s room (format.answer (refusal-read s) 0 (length (run s))) .1
       (format.ReadAs.bad-record (x .all) (x .good) (stopped-is-bad d))
 
-  -- Of the rest alone nothing is kept, and the reader says the same, at its first byte.
+  -- Of the rest alone nothing is kept, all of it is left, and the same refusal stops the salvage.
   pub rest-alone : Found (rest s) [] [] (rest s) (refusal-read s)
   rest-alone = found (record { all = refl; good = nothing; behind = divides s .behind })

@@ -45,8 +45,8 @@ module _ {s out : List ℕ} {o : Salvaged} {out′ : List ℕ} (p : SalvagedTran
       zeros (plain.SalvagedAs.done x h) d = absurd (d refl)
       zeros (plain.SalvagedAs.too-small x h) d = refl
 
-  -- With 0, the string divides into good records and a rest as is reported; the records stand in the first bytes, and the later ones are as
-  -- they were.
+  -- Where salvage answers 0, the string divides into good records and a rest as is reported; the records stand in the first bytes, and the
+  -- later ones are as they were.
   pub salvage-done : o .number ≡ 0 → SalvagedAll s out o out′
   unfolding bytes-after
   salvage-done z = finish salvage-answers z

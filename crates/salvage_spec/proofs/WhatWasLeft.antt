@@ -44,12 +44,12 @@ module _ {s out : List ℕ} {o : Salvaged} {out′ : List ℕ} (p : SalvagedTran
       ∙ ap (λ (n : ℕ). format.answer n 0 (length (run s))) (found .refusal)
       ∙ ap (format.answer (o .stop) 0) (ap length (found .kept) ∙ kept-length p z)
 
-  -- Of what was left alone, if anything, the reader says the same, at its first byte.
+  -- The reader refuses what was left alone, if anything, with the refusal that is reported, at its first byte.
   pub reader-says-there : {l l′ : Lists} {a : Transcribed} → ReadTranscript (drop (length s - o .left) s) l a l′ → o .left ≢ 0 →
       a ≡ format.answer (o .stop) 0 0
   reader-says-there q d = reader-exactly q (format.answer (o .stop) 0 0) .1 (format.ReadAs.bad-record refl nothing (next-record-bad d))
 
-  -- Nothing is left exactly if nothing stopped it.
+  -- Of a salvage that is done, nothing is left exactly if no refusal is reported.
   pub left-by-stop : o .left ≡ 0 ↔ (o .stop ≡ 0)
   left-by-stop = (
     λ e. sym (found .refusal) ∙ left-exactly s .0 (found .left ∙ no-bytes (all .left) (sym (all .bytes-left) ∙ e)),
@@ -60,7 +60,7 @@ module _ {s out : List ℕ} {o : Salvaged} {out′ : List ℕ} (p : SalvagedTran
       no-bytes [] e = refl
       no-bytes (b ∷ l) e = absurd (omega arith)
 
-  -- Nothing is left exactly if the string is sound.
+  -- Of a salvage that is done, nothing is left exactly if the string is sound.
   pub left-by-soundness : o .left ≡ 0 ↔ ((es : List Entry) × Sound s es)
   left-by-soundness = (
     λ e. (entries-read s, sound-exactly s (entries-read s) .1 (found .refusal ∙ left-by-stop .0 e, refl)),

@@ -56,7 +56,7 @@ module _ {s out : List ℕ} {o : Salvaged} {out′ : List ℕ} (p : SalvagedTran
   pub done : SalvagedAll s out o out′
   done = salvage-done p z
 
-  -- The parts that it reports are those that salvage finds.
+  -- The parts that a salvage which is done reports are those that salvage finds.
   pub parts : Found s (done .entries) (done .kept) (done .left) (o .stop)
   parts = found (done .divides)
 
@@ -77,7 +77,7 @@ module _ {s out : List ℕ} {o : Salvaged} {out′ : List ℕ} (p : SalvagedTran
       ∙ drop-append-seam (done .kept) (done .left)
 
   -- ---- what was written
-  -- The first of the lent bytes, as many as were not left, are the string's.
+  -- The first of the bytes lent to a salvage that is done, as many as were not left, are the string's.
   pub first-written : take (length s - o .left) out′ ≡ take (length s - o .left) s
   first-written =
       is-kept
@@ -85,11 +85,11 @@ module _ {s out : List ℕ} {o : Salvaged} {out′ : List ℕ} (p : SalvagedTran
       ∙ ap (take (length (done .kept))) (sym (done .divides .all))
       ∙ ap (λ (n : ℕ). take n s) kept-length
 
-  -- The later of the lent bytes are as they were.
+  -- The bytes lent to a salvage that is done, behind those that it wrote, are as they were.
   pub later-stay : drop (length s - o .left) out′ ≡ drop (length s - o .left) out
   later-stay = subst (λ (n : ℕ). drop n out′ ≡ drop n out) kept-length (done .later)
 
-  -- What was written is the front of the string.
+  -- What a salvage that is done wrote is the front of the string.
   pub front : s ≡ written s o out′ ++ drop (length s - o .left) s
   front =
       done .divides .all ∙ ap (λ (l : List ℕ). l ++ done .left) (sym is-kept) ∙ ap (λ (l : List ℕ). written s o out′ ++ l) (sym is-left)
@@ -102,7 +102,7 @@ module _ {s out : List ℕ} {o : Salvaged} {out′ : List ℕ} (p : SalvagedTran
     ap length (parts .entries) ∙ sym (done .count),
   )
 
-  -- The writer makes the same bytes of the records that were kept.
+  -- What a salvage that is done wrote is what the writer makes of the records that were kept.
   pub as-the-writer : AreBytes s → written s o out′ ≡ transcript-of (entries-read s)
   as-the-writer b =
       let parted : AreBytes (written s o out′ ++ drop (length s - o .left) s) = λ i. rw (sym front) (b i) in

@@ -47,7 +47,7 @@ pub record Letters : Type 0 where
   pub all-known : which known 256 ≡
       65 ∷ 66 ∷ 67 ∷ 68 ∷ 70 ∷ 71 ∷ 72 ∷ 73 ∷ 74 ∷ 75 ∷ 76 ∷ 77 ∷ 78 ∷ 79 ∷ 80 ∷ 81 ∷ 82 ∷ 83 ∷ 84 ∷ 87 ∷ 90 ∷ []
 
--- Which bytes are letters, and of what calls: these, and no others.
+-- Which of the 256 bytes are letters, and of what calls: those that `Letters` lists, and no others.
 pub letters : Letters
 unfolding
     in-place-letter host-letter processor-letter field-letter bus-letter block-letter setting-letter whole-letter
@@ -82,8 +82,8 @@ unfolding
     host-letter in-place-letter processor-letter field-letter bus-letter block-letter setting-letter is-decimal value-of
 says-its-call = refl
 
--- That line, changed in one byte or in its length, is bad: an unknown letter, a comma for a space, a lower-case digit, another byte at its
--- end, a byte less, a byte more.
+-- One line that says a call, changed in one byte or in its length, is bad: with an unknown letter, a comma for a space, a lower-case digit,
+-- another byte at its end, a byte less, a byte more.
 pub others-are-bad :
     (line-in (set line 0 88) ≡ Bad)
     × (line-in (set line 10 44) ≡ Bad)
@@ -135,7 +135,7 @@ answer =
     67 ∷ 48 ∷ 48 ∷ 32 ∷ 49 ∷ 32 ∷ 48 ∷ 57 ∷ 10 ∷
     []
 
--- "a line of exactly 47 bytes for each call": it fills a place of 47 bytes, whatever stood there, and leaves one of 46 or 48.
+-- "a line of exactly 47 bytes for each call": an answer's line fills a place of 47 bytes, whatever stood there, and leaves one of 46 or 48.
 pub prints-its-answer :
     ((l : List ℕ) → length l ≡ 47 → with-line l 87 done ≡ answer)
     × (with-line (replicate 46 0) 87 done ≡ replicate 46 0)

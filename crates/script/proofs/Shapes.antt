@@ -28,7 +28,7 @@ numbered : (s : List ℕ) (at : ℕ) → has-number s at ≡ true → digits-fro
 unfolding has-number
 numbered s at e = both-true (eqb (getD s at 0) 0x20) (digits-from s (at + 1) 8) e .1
 
--- Every line that is a call has this length and these digits.
+-- Every line that is a call has 38 bytes, and eight digits at the places of each of its four numbers.
 pub shape-of : (s : List ℕ) → is-call s ≡ true → Shape s
 unfolding is-call shaped
 shape-of s e =

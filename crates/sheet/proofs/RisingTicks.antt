@@ -27,7 +27,7 @@ at-most-one [] h = refl
 at-most-one (t ∷ []) h = refl
 at-most-one (t ∷ u ∷ rest) h = absurd (omega arith)
 
--- From the last place on they rise.
+-- From the last place on ticks rise.
 pub rising-last : (ticks : List ℕ) (j : ℕ) → length ticks ≤ j + 1 → rising (drop j ticks) ≡ true
 rising-last ticks j h = at-most-one (drop j ticks) (simp length-drop (omega arith))
 

@@ -32,7 +32,7 @@ pub record InOrder : Type 0 where
   pub begun-by-one : refusal-before 32768 1 (time 12 3 14) 29 0x1000 ≡ 0
   pub begun-by-two : refusal-before 32768 2 (time 12 3 14) 32 0x1000 ≡ 0
 
--- In numbers: 1, 45, 40, 41 and 46 come in this order.
+-- The refusals before the port is touched, 1, 45, 40, 41 and 46, come in this order, in numbers.
 pub in-order : InOrder
 unfolding refusal-before unknown-rule out-of-range strokes-of bit
 in-order =

@@ -19,12 +19,12 @@ module _ (s : Machine) (a : BitAddress) (n : ℕ) where
   unfolding table-read
   told-alike = rw (ends-alike s (loading (s .registers .control) a), answers-alike _ _)
 
-  -- By bytes, the reader makes the same accesses, each of them in its way.
+  -- A reader whose accesses are each done as two byte accesses makes the same accesses.
   pub made-alike : made by-bytes s a n ≡ made whole s a n
   unfolding made
   made-alike = rw told-alike
 
-  -- Done by bytes, these accesses leave the same registers and memory.
+  -- A reader whose accesses are each done as two byte accesses leaves the same registers and memory.
   pub moves-alike : by-bytes .ended s (made by-bytes s a n) ≡ whole .ended s (made whole s a n)
   moves-alike = rw made-alike (ends-alike s (made whole s a n))
 

@@ -60,7 +60,7 @@ pub record Sheets : Type 0 where
   pub quarter-once : sheet-of whole (on (3 ∷ 10 ∷ 14 ∷ 20 ∷ [])) (address 0) 1 quarter-past-one 4 ≡
       refused-sheet 43 (record { pointer = address 0x10; latch = 10; control = 0x1000; hollow = false })
 
--- The eight sheets come out so, by computation: one table among them passes by rule 2 and not by rule 1.
+-- Eight sheets come out as `Sheets` says, by computation: one table among them passes by rule 2 and not by rule 1.
 pub eight-sheets : Sheets
 unfolding
     bit takes-low takes-high are-lanes lay fetch-at bare closes fetches register-word half-written written stepped cycle-of after-fetch

@@ -48,7 +48,8 @@ module _ (m : List ℕ) (k : length m ≤ 32768) where
       let next = next-word b (omega arith) in
       rw (held-first b (omega arith)) (all-held n (step b) (rw next (omega arith)))
 
-  -- Some of these answers is hollow, if one of their words does not lie in memory, and the first lies there or just past its end.
+  -- Some of the answers that hand memory out from b on is hollow, if one of their words does not lie in memory, and the first lies there or
+  -- just past its end.
   pub some-hollow : (n : ℕ) (b : BitAddress) → word-at b .0 ≤ length m → length m < word-at b .0 + n → any-hollow (handed m b n) ≡ true
   unfolding any-hollow handed
   some-hollow zero b l h = absurd (omega arith)
@@ -59,7 +60,7 @@ module _ (m : List ℕ) (k : length m ≤ 32768) where
       (λ x. rw (hollow-first b x))
       (less-or-not (word-at b .0) (length m))
 
-  -- If all their words lie in memory, these answers hand out the words of the table.
+  -- The answers that hand memory out from b on hand out the words of the table there, if all these lie in memory.
   pub words-handed : (n : ℕ) (b : BitAddress) → Lies m b n → words-in (handed m b n) ≡ table m b n
   unfolding handed
   words-handed zero b h = refl

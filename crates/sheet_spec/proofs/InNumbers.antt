@@ -80,6 +80,7 @@ module _ (s : Machine) (a : BitAddress) (words : (k : ℕ) → getD (s .memory) 
   pub passes-by-one : passes-by 1 ↔ Table (h + q + m)
   passes-by-one = exactly 1 (inl refl) (h + q + m) (by-rule-one (time h q m))
 
-  -- By rule 2 it passes exactly if all this holds with a table of hours + 2 times quarters + minutes strokes.
+  -- By rule 2 a sheet passes exactly if memory, hours, quarters, minutes, list and INCR are not refused, and at word a div 16 lies a whole
+  -- and rising table of hours + 2 times quarters + minutes strokes, all this written out in numbers (`Good`).
   pub passes-by-two : passes-by 2 ↔ Table (h + 2 * q + m)
   passes-by-two = exactly 2 (inr refl) (h + 2 * q + m) (by-rule-two (time h q m))

@@ -55,7 +55,7 @@ module _ (s : Machine) (k : Memory (s .memory)) (i : incr (s .registers .control
   pub found-rising : Rises (s .memory) a n → rising ticks ≡ true
   found-rising r = ⊎-elim (λ e. e) (λ e. absurd (not-both r (they-fall e))) (either-way (rising ticks))
 
-  -- They are found not to rise if one does not lie after the one before it.
+  -- The ticks of a table that lies in memory are found not to rise if one does not lie after the one before it.
   pub found-falling : Falls (s .memory) a n → rising ticks ≡ false
   found-falling f = ⊎-elim (λ e. absurd (not-both (they-rise e) f)) (λ e. e) (either-way (rising ticks))
 

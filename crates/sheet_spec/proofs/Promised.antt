@@ -77,21 +77,23 @@ module _ {r : Registers} {m : List ℕ} {a : BitAddress} {rule : ℕ} {t : TimeS
 
   -- such a call on what can be passed in
   module _ (p : Passed-in (machine r m) a) (b : Begins (machine r m) rule t (length l)) where
-    -- With a count word that lies beyond memory or says another number, such a call leaves the port one word on.
+    -- A call that is not refused before the port is touched, with a count word that lies beyond memory or says another number, leaves the
+    -- port one word on.
     pub stops-at-the-count :
         (length m ≤ word-at a .0) ⊎ ((word-at a .0 < length m) × (count-word m a ≢ strokes-of rule t)) →
         o .registers ≡ standing m (r .control) (on-by 1 a)
     stops-at-the-count h =
         ap (λ (x : Sheet). x .registers) (k .outcome) ∙ count-read (machine r m) a p rule t (length l) b h .0
 
-    -- With the right count, such a call leaves the port just past the table, whatever the ticks are.
+    -- A call that is not refused before the port is touched, with the right count, leaves the port just past the table, whatever the ticks
+    -- are.
     pub stops-past-the-table : word-at a .0 < length m → count-word m a ≡ strokes-of rule t →
         o .registers ≡ standing m (r .control) (on-by (suc (strokes-of rule t)) a)
     stops-past-the-table h e =
         ap (λ (x : Sheet). x .registers) (k .outcome) ∙ ticks-read (machine r m) a p rule t (length l) b h e .0
 
-    -- Of a table that lies in memory with the right count and whose ticks rise, such a call passes, and leaves the list in tempo
-    -- (`InTempo`).
+    -- A call that is not refused before the port is touched, of a table that lies in memory with the right count and whose ticks rise,
+    -- passes, and leaves the list in tempo (`InTempo`).
     pub passing-call : Complete m a (strokes-of rule t) → Rises m a (strokes-of rule t) →
         (o .number ≡ 0) × ((d : Float) → InTempo (machine r m) a rule t l l′ d)
     passing-call c x = (

@@ -15,12 +15,12 @@ pub by-rule-one : (t : TimeStruck) → strokes-of 1 t ≡ t .hours + t .quarters
 unfolding strokes-of
 by-rule-one t = refl
 
--- By rule 2 they are its hours, twice its quarters and its minutes, added up.
+-- By rule 2 the strokes of a time are its hours, twice its quarters and its minutes, added up.
 pub by-rule-two : (t : TimeStruck) → strokes-of 2 t ≡ t .hours + 2 * t .quarters + t .minutes
 unfolding strokes-of
 by-rule-two t = refl
 
--- What holds of both sums holds of the strokes by any rule.
+-- What holds of the strokes by rule 1 and by rule 2, as sums, holds of the strokes by any rule.
 pub of-both : (P : ℕ → Type 0) (rule : ℕ) (t : TimeStruck) →
     P (t .hours + t .quarters + t .minutes) → P (t .hours + 2 * t .quarters + t .minutes) → P (strokes-of rule t)
 unfolding strokes-of
@@ -69,7 +69,8 @@ pub record FewestAndMost : Type 0 where
   pub most-by-one : strokes-of 1 (time 12 3 14) ≡ 29
   pub most-by-two : strokes-of 2 (time 12 3 14) ≡ 32
 
--- Both ends are reached: 1:00 is in range and has one stroke by any rule, and so is 12:59, which has 29 by rule 1 and 32 by rule 2.
+-- The fewest strokes and the most are reached: 1:00 is in range and has one stroke by any rule, and 12:59 is in range and has 29 by rule 1
+-- and 32 by rule 2.
 pub fewest-and-most : FewestAndMost
 unfolding strokes-of
 fewest-and-most =

@@ -75,6 +75,6 @@ module _ (st : Stream) {o : Streamed} where
   pub end-refused : st .ended ≡ true → o ≡ streamed 25 0 0 st → o ≡ end-answer st
   end-refused z e = e ∙ sym (ends-by st z)
 
-  -- The end of any other stream ends it, with the refusal of its part, or 0.
+  -- The end of a stream that goes on ends it, with the refusal of its part, or 0.
   pub end-taken : st .ended ≡ false → o ≡ end-answered st → o ≡ end-answer st
   end-taken z e = e ∙ sym (ends-by st z)

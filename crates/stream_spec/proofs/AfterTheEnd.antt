@@ -73,6 +73,6 @@ delivery-after z p = one-delivery p (comes-exactly .1 (ended-before z))
 pub end-after : (st : Stream) {o : Streamed} → st .ended ≡ true → o ≡ end-answer st → o ≡ answer 25 0 0 st
 end-after st z p = p ∙ sym (ends-exactly st .1 (already-ended z))
 
--- A fresh start goes on.
+-- A fresh stream has not ended.
 pub fresh-goes-on : fresh-stream .ended ≡ false
 fresh-goes-on = refl

@@ -162,7 +162,8 @@ module _ {t u : List ℕ} {st : Stream} (a : OpenAt t u st) (s : List ℕ) where
         subst (OpenAt (t ++ v) w) (sym (stands-for-more z ∙ ap stands-for same))
         (opened (t ++ v) w (a .entries ++ es) (sound-joined (a .good) (d .good)) b)
 
-    -- If nothing is refused, the stream is open behind the records that were handed out, and has what there is of the next one.
+    -- If a delivery to an open stream is not refused, the stream is open behind the records that were handed out, and has what there is of
+    -- the next one.
     pub goes-on-open : o .number ≡ 0 → (v : List ℕ) × (w : List ℕ) × Divides u s v w (handed o l′) × OpenAt (t ++ v) w (o .stream)
     goes-on-open z =
         by-row (answers-exactly (o .number) (handed o l′) (o .place) .0 (record { number = refl; entries = refl; place-told = refl })) z

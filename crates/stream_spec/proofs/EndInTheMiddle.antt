@@ -18,7 +18,7 @@ use Rattle.stream_spec.proofs.OffTheLine.{hands-out, final-refusal}
 use Rattle.stream_spec.proofs.Told.{handed-none}
 
 -- ---- after an end, or after a bad record
--- an answer that is refused because the stream has ended
+-- answers that are all refused with 25 because the stream st has ended, and leave it
 abbrev pub Refused25 : Stream → List Streamed → Type 0
 Refused25 st [] = Unit
 Refused25 st (o ∷ os) = (o ≡ answer 25 0 0 st) × Refused25 st os
@@ -122,8 +122,8 @@ module _ (ds : List Deed) {st : Stream} (p : Did fresh-stream ds st) where
   pub calls-hand-out : handed-by ds ≡ entries-read (joined (before-the-end ds))
   calls-hand-out = let x = parted ds p in x .handed ∙ hands-out (x .took)
 
-  -- If an end is among the calls, the final refusal with its place is the reader's on the bytes that were joined before the first end,
-  -- whatever calls follow that.
+  -- From a fresh start, if an end is among the calls, the final refusal with its place is the reader's on the bytes that were joined before
+  -- the first end, whatever calls follow that.
   pub calls-final-refusal : HasEnd ds → verdict-of (answers-by ds) ≡ read-verdict (joined (before-the-end ds))
   calls-final-refusal h =
       let x = ended-there ds p h in

@@ -21,13 +21,15 @@ use Rattle.stream_spec.proofs.Outcomes.{told-good, told-bad}
 use Rattle.stream_spec.proofs.Resumed.{behind, resumes, good-if-open, bad-if-ended}
 use Rattle.stream_spec.proofs.Told.{handed-none, handed-all, early-kept, verdict, or-else, early-verdict}
 
--- the reading of the bytes w, the stream that stands for them, and the refusal of a bad record among them, before any end
+-- the reading of the bytes w from a fresh start
 abbrev pub read : List ℕ → Reading
 read w = feeds start w
 
+-- the stream that stands for the bytes w
 abbrev pub stands-for : List ℕ → Stream
 stands-for w = standing (read w)
 
+-- the refusal of a bad record among the bytes w, with its place, before any end
 abbrev pub so-far : List ℕ → Verdict
 so-far w = verdict (read w .refusal) (read w .from)
 

@@ -74,10 +74,13 @@ unfolding verdict-of
 told-alone st n (inl z) = subst (Told st) (sym z) refl
 told-alone st n (inr z) = subst (Told st) (sym z) refl
 
+-- the refusal of a bad record in the reading r or, where there is none, what the end of its stream tells is the refusal of the string that
+-- ends with r
 abbrev pub Tells : Reading → Type 0
 Tells r = or-else (verdict (r .refusal) (r .from)) (verdict-of (end-answer (standing r) ∷ [])) ≡ verdict (ended r) (r .from)
 
--- If no bad record was told before, the end tells what the reader of request (ii) says of a string that ends here.
+-- Of any reading, the refusal of a bad record or, where none was told, what the end tells is what the reader of request (ii) says of the
+-- string that ends there.
 pub end-tells : (r : Reading) → Tells r
 end-tells r = ⊎-elim good bad (same-or-not (r .refusal) 0)
   where

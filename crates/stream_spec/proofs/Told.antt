@@ -32,14 +32,16 @@ pub early-kept : (n : ℕ) → EarlyRefusal n → sent-back n ≡ false
 early-kept n (inl z) = ap sent-back z
 early-kept n (inr h) = rw (ne-eqb n 24 (λ q. omega (arith, h .1)), ne-eqb n 26 (λ q. omega (arith, h .1)))
 
--- a verdict, and the next one where there is none
+-- the verdict with number n, at the place `from`, or 0 where n is 0
 abbrev pub verdict : ℕ → ℕ → Verdict
 verdict n from = record { number = n; place = place-of n from }
 
+-- the verdict v or, where its number is 0, the later one
 abbrev pub or-else : Verdict → Verdict → Verdict
 or-else v later = cond (eqb (v .number) 0) later v
 
--- The refusal of a bad record, with its place, is the verdict; where there is none, that of the later answers is.
+-- The verdict of the answer to a reading and of later ones is the reading's own refusal, with its place, or where it has none that of the
+-- later ones.
 pub early-verdict : (r : Reading) → EarlyRefusal (r .refusal) → (later : List Streamed) →
     verdict-of (answered r ∷ later) ≡ or-else (verdict (r .refusal) (r .from)) (verdict-of later)
 unfolding verdict-of

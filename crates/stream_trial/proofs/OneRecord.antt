@@ -53,17 +53,17 @@ delivered {st} {b} {s} {l} {k} {r} {n} {w} {o} {part} e y t =
 
 -- ---- a record, whichever of the three it is
 module _ {st : Stream} {b : List ℕ} {l : Lists} {o : Streamed} {l′ : Lists} where
-  -- A fresh start leaves the lists.
+  -- A record of a fresh start is carried out by a stream that begins at the record's number, with answer 0, and the lists as they were.
   pub by-start : is-start b ≡ true → o ≡ streamed 0 0 0 (started-at (number b)) → l′ ≡ l → CarriedOut st b l o l′
   unfolding answer-from lists-from
   by-start s a x = record { answer = rw s a; lists = rw s x }
 
-  -- A delivery carries its record out.
+  -- A record of a delivery is carried out by that delivery.
   pub by-delivery : is-start b ≡ false → delivers b ≡ true → Delivered st b l o l′ → CarriedOut st b l o l′
   unfolding answer-from lists-from
   by-delivery s d x = record { answer = rw (s, d) (x .answer); lists = rw (s, d) (x .lists) }
 
-  -- The end leaves the lists.
+  -- A record of the end is carried out by what the end answers, with the lists as they were.
   pub by-end : is-start b ≡ false → delivers b ≡ false → o ≡ end-answer st → l′ ≡ l → CarriedOut st b l o l′
   unfolding answer-from lists-from
   by-end s d a x = record { answer = rw (s, d) a; lists = rw (s, d) x }

@@ -15,7 +15,7 @@ pub each-rounded : even-time 1 2 7 5 ≡ fin false 4128299658422955 (negsuc 50)
 unfolding even-time add mul div ofInt
 each-rounded = refl
 
--- 11 / 6 rounded once, at the end, is another double, the one before it.
+-- 11 / 6 rounded once, at the end, is another double than 1 + 5 / 6 with quotient and sum each rounded: the one before it.
 pub rounded-at-the-end : round binary64 false 11 6 ≡ fin false 8256599316845909 (negsuc 51)
 unfolding round
 rounded-at-the-end = refl

@@ -14,6 +14,7 @@ use Rattle.tempo_spec.specs.Tempo.{double, quotient}
 use Rattle.tempo_spec.proofs.Operations.{div-rounded, finite-between, sum-grows}
 use Rattle.tempo_spec.proofs.WholeNumbers.{double-rounded, tick-whole, product-whole}
 
+-- span times k over gaps, rounded once to a double
 abbrev pub rounded : ℕ → ℕ → ℕ → Float
 rounded span k gaps = round binary64 false (span * k) gaps
 
@@ -33,7 +34,7 @@ module _ (span gaps : ℕ) (tick : span < 65536) (count : gaps < 65536) (above :
         (product-whole span k tick (lt-of-le-of-lt inside count)) (tick-whole gaps count) above
         ∙ rw (mul-one (span * k), mul-one gaps)
 
-    -- Where it comes out even, the quotient is the double of that whole number.
+    -- Where span times k over gaps comes out even, the quotient is the double of that whole number.
     pub quotient-even : (q : ℕ) → span * k ≡ q * gaps → quotient span k gaps ≡ double q
     quotient-even q e =
         quotient-rounded

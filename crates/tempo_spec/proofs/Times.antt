@@ -25,7 +25,7 @@ module _ (first last strokes : ℕ) where
       let times = even-times first last strokes n in
       sym (getD-take n (times ++ rest) k d h) ∙ ap (λ (l : List Float). getD l k d) (take-at times rest n (times-length n))
 
-  -- Place k has the time of stroke k.
+  -- Place k of the times has the time of stroke k.
   pub time-at : (n k : ℕ) (d : Float) → k < n → getD (even-times first last strokes n) k d ≡ even-time first last strokes k
   unfolding even-times
   time-at zero k d h = absurd (omega arith)
@@ -47,7 +47,7 @@ module _ (first last strokes : ℕ) where
       → getD (even-times first last strokes n ++ drop n l) k d ≡ even-time first last strokes k
   filled-place n k l d h = in-front n k (drop n l) d h ∙ time-at n k d h
 
-  -- The later places of such a list stay.
+  -- In a list whose first n places have their times, the later places stay.
   pub later-stays : (n k : ℕ) (l : List Float) (d : Float) → n ≤ k → getD (even-times first last strokes n ++ drop n l) k d ≡ getD l k d
   later-stays n k l d h =
       let times = even-times first last strokes n in
@@ -56,7 +56,7 @@ module _ (first last strokes : ℕ) where
       sym (getD-drop n (times ++ drop n l) (k - n) d)
       ∙ ap (λ (rest : List Float). getD rest (k - n) d) (drop-at times (drop n l) n (times-length n)) ∙ getD-drop n l (k - n) d)
 
-  -- If place m of such a list takes its time, the first m + 1 places have theirs.
+  -- If place m of a list whose first m places have their times takes its own, the first m + 1 have theirs.
   pub times-more : (m : ℕ) (l : List Float) → m < length l
       → set (even-times first last strokes m ++ drop m l) m (even-time first last strokes m)
       ≡ even-times first last strokes (m + 1) ++ drop (m + 1) l
@@ -76,11 +76,11 @@ module _ (first last strokes : ℕ) where
       → getD (with-times first last strokes l) k d ≡ even-time first last strokes k
   struck-place k l d h = filled-place strokes k l d h
 
-  -- The later places of that list stay.
+  -- The later places of the list that takes the times of all strokes stay.
   pub rest-stays : (k : ℕ) (l : List Float) (d : Float) → strokes ≤ k → getD (with-times first last strokes l) k d ≡ getD l k d
   rest-stays k l d h = later-stays strokes k l d h
 
-  -- That list has as many places as before, if there was one for each stroke.
+  -- The list that takes the times of all strokes has as many places as before, if there was one for each stroke.
   pub struck-length : (l : List Float) → strokes ≤ length l → length (with-times first last strokes l) ≡ length l
   struck-length l h =
       length-append (even-times first last strokes strokes) (drop strokes l)

@@ -43,7 +43,7 @@ module _ (a b : ℕ) (h : a < 65536) (k : b < 65536) where
       mul-rounded binary64 (double a) (double b) a 1 b 1 (zero-lt-suc 0) (zero-lt-suc 0) (tick-whole a h) (tick-whole b k)
       ∙ sym (double-rounded (a * b))
 
-  -- That product is exactly the numbers' product: nothing is rounded away.
+  -- The product of the doubles of two numbers of sixteen bits is exactly the numbers' product: nothing is rounded away.
   pub product-whole : Exactly (mul binary64 (double a) (double b)) (a * b)
   product-whole = rw product-exact (double-whole (a * b) (le-trans (mul-le-mul (le-of-lt h) (le-of-lt k)) (lit≤ tt)))
 

@@ -18,11 +18,13 @@ use Rattle.transcript.specs.WriterParts.{judged}
 use Rattle.transcript.specs.declared.JudgedEntry.{JudgedEntry}
 use Rattle.transcript.specs.declared.writing.Judged.{Judged}
 
+-- what judging finds: a number, the index of the entry that has it, and how many bytes are wanted
 abbrev pub found : ℕ → ℕ → ℕ → Judged
 found number place wanted = record { number = number; place = place; wanted = wanted }
 
 -- ---- what is said of one entry
 
+-- what is said of one entry: its number, and how many bytes its record has
 abbrev pub said : ℕ → ℕ → JudgedEntry
 said number size = record { number = number; size = size }
 
@@ -68,8 +70,8 @@ pub record Passed (k wanted : ℕ) (es : List Entry) : Type 0 where
   pub wants : judged k wanted es .wanted ≡ wanted + length (transcript-of es)
   pub answer : (a : Transcribed) → first-bad k es a ≡ a
 
--- Where none is found to be bad, all entries are good, the bytes of their records are counted to the last, and the writer answers what it
--- does where none is bad.
+-- Where no entry is found to be bad, all are good, the bytes of their records are counted to the last, and the writer answers what it does
+-- where none is bad.
 pub passed : (k wanted : ℕ) (es : List Entry) → judged k wanted es .number ≡ 0 → Passed k wanted es
 unfolding judged transcript-of first-bad
 passed k wanted [] z = record { good = tt; wants = sym (add-zero wanted); answer = λ a. refl }
@@ -90,7 +92,7 @@ passed k wanted (e ∷ rest) z =
     (λ d. absurd (d (rw (bad-one k wanted e rest d) at z)))
     (same-or-not (entry-refusal e) 0)
 
--- Where one is found to be bad, the writer's answer is its number and its index.
+-- Where an entry is found to be bad, the writer's answer is its number and its index.
 pub barred : (k wanted : ℕ) (es : List Entry) → let o = judged k wanted es in o .number ≢ 0 →
     (a : Transcribed) → first-bad k es a ≡ refused (o .number) (o .place)
 unfolding judged first-bad

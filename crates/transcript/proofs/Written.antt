@@ -49,18 +49,18 @@ module _ (l : Lists) (out : List ℕ) {o : Judged} (e : o ≡ judged 0 0 (entrie
     unfolding write-answer
     answer-is = all .answer (accepted-if-fits (length text) (length out))
 
-    -- Where none is bad and the records want more bytes than there are, the writer is refused with 24, and the bytes stay.
+    -- Where no entry is bad and the records want more bytes than there are, the writer is refused with 24, and the bytes stay.
     pub too-small : length out < o .wanted → WroteTranscript l out (refused 24 0) out
     too-small h =
         left-as-it-was l out 24 0 (λ z. omega (arith, z)) (sym (answer-is ∙ rw (lt-ltb (length out) (length text) (rw wanted-is at h))))
 
     -- They fit.
     module _ (h : o .wanted ≤ length out) where
-      -- Where none is bad and the records fit, they can be written: all entries are good, and their transcript fits.
+      -- Where no entry is bad and the records fit, they can be written: all entries are good, and their transcript fits.
       pub can-write : Writable l (size l) out
       can-write = record { good = all .good; fits = omega (arith, wanted-is) }
 
-      -- Where none is bad, the records fit and their transcript is put into the first bytes, the writer is done.
+      -- Where no entry is bad, the records fit and their transcript is put into the first bytes, the writer is done.
       pub written : {out′ : List ℕ} → out′ ≡ over text out → WroteTranscript l out (accepted (o .wanted)) out′
       unfolding bytes-after
       written {out′} w =

@@ -12,11 +12,11 @@ use Rattle.transcript_exchange.proofs.Promised.{bytes-fit, lines-fit}
 use Rattle.transcript_command.specs.Ways.{TurnedTo, lines-turned, bytes-turned}
 
 module _ {t : List ℕ} {l : Lists} {out : List ℕ} {o : Turned} {l′ : Lists} {out′ : List ℕ} where
-  -- Turning lines into bytes leaves what the way that is named so does.
+  -- Turning lines into bytes leaves what turning leaves where `bytes` is named.
   pub to-bytes : {b : Bool} → b ≡ true → ToBytes t l out o l′ out′ → TurnedTo b t l out o l′ out′
   to-bytes e x = rw e (lines-turned x)
 
-  -- Turning bytes into lines leaves what the other way does.
+  -- Turning bytes into lines leaves what turning leaves where `lines` is named.
   pub to-lines : {b : Bool} → b ≡ false → ToLines t l out o l′ out′ → TurnedTo b t l out o l′ out′
   to-lines e x = rw e (bytes-turned x)
 

@@ -48,7 +48,7 @@ refused-not-done o x d =
     either true = refl
     either false = refl
 
--- An answer that means that it is turned refuses nothing.
+-- An answer that means that an input is turned refuses nothing.
 pub none-refused : (o : Transcribed) (x : Turned) (k : ℕ) → by-answer o x ≡ Done k → (o .number ≡ 0) × (x ≡ Done k)
 none-refused o x k e =
     ⊎-elim
@@ -112,7 +112,7 @@ read-all s room (plain.ReadAs.done {es} q h) z =
 read-all s room (plain.ReadAs.too-small q h) z = absurd (omega arith)
 read-all s room (plain.ReadAs.bad-record {es} {t} {u} {n} e q b) z = absurd (bad-record-number u n b z)
 
--- What fits has its bytes, and room for them.
+-- Where what has n bytes is found to fit a room, and k are counted, n is k, and no more than the room.
 pub fitted : (n room k : ℕ) → done-if-fits n room ≡ Done k → (n ≡ k) × (n ≤ room)
 fitted n room k e =
     ⊎-elim

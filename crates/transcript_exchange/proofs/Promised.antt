@@ -90,8 +90,8 @@ module _ {t : List ℕ} {l l′ : Lists} {out out′ : List ℕ} {o : Turned} (p
   turned-bytes e (plain.BytesAs.no-record xs ys x h is g b) z = absurd (omega (arith, z, entry-range b .0))
   turned-bytes e (plain.BytesAs.no-room x h g k) z = absurd (omega (arith, z))
 
-  -- With 0 the text is good lines of good entries; these stand in the lists' first places, their transcript in the output's first bytes,
-  -- and all else stays.
+  -- Where `lines_to_bytes` answers 0, the text is good lines of good entries; these stand in the lists' first places, their transcript in
+  -- the output's first bytes, and all else stays.
   pub to-bytes-done : turned-numbers o .number ≡ 0 →
       (es : List Entry) × LinesOf t es × AllGood es × Filled es (transcript-of es) l out (turned-numbers o) l′ out′
   to-bytes-done z =
@@ -155,8 +155,8 @@ module _ {s : List ℕ} {l l′ : Lists} {out out′ : List ℕ} {o : Turned} (p
   turned-lines e (plain.LinesAs.no-places q h) z = absurd (omega (arith, z))
   turned-lines e (plain.LinesAs.no-room q h k) z = absurd (omega (arith, z))
 
-  -- With 0 the string is good records; their entries stand in the lists' first places, the lines of these in the output's first bytes, and
-  -- all else stays.
+  -- Where `bytes_to_lines` answers 0, the string is good records; their entries stand in the lists' first places, the lines of these in the
+  -- output's first bytes, and all else stays.
   pub to-lines-done : turned-numbers o .number ≡ 0 →
       (es : List Entry) × Sound s es × Filled es (text-of es) l out (turned-numbers o) l′ out′
   to-lines-done z =

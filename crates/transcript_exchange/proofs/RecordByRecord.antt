@@ -85,7 +85,7 @@ module _ {s : List ℕ} {room : ℕ} {p : Part} {left i : ℕ} (k : Measured s r
             come = omega (arith, k .come, got-more, fits);
           }
 
-      -- Where the line of such a record does not fit what is left, the lines do not fit.
+      -- Where the line of a record that is whole and good does not fit what is left, the lines do not fit.
       pub measured-out : left < size → TooMany ≡ done-if-fits (bytes (entries-read s)) room
       measured-out short =
           let next = counted (k .reads) more w in

@@ -27,7 +27,7 @@ module _ (es : List Entry) (h : AllHaveLines es) (room : ℕ) where
       take-answers (text-of es ++ left) room (BadLine (length es)) .1
       (record { left = left; good = record { entries = es; is = refl; says = h; count = refl }; some = some; bad = none })
 
-  -- A line of another shape behind good ones is a bad line, whatever follows it.
+  -- A line of another shape than a read's or a write's, behind good ones, is a bad line, whatever follows it.
   pub other-shape : (u v : List ℕ) → No-feed u → line-of u ≡ bad → take-answer (text-of es ++ (u ++ 10 ∷ v)) room ≡ BadLine (length es)
   other-shape u v plain shape =
       let front : front-line (u ++ 10 ∷ v) ≡ Bad = whole-line u v plain ∙ ap (with-length (length u + 1)) shape in

@@ -29,22 +29,22 @@ lines = 87 ∷ 32 ∷ 50 ∷ 32 ∷ 51 ∷ 32 ∷ 49 ∷ 50 ∷ 51 ∷ 52 ∷ 10
 abbrev cut : List ℕ
 cut = 87 ∷ 32 ∷ 50 ∷ 32 ∷ 51 ∷ 32 ∷ 49 ∷ 50 ∷ 51 ∷ 52 ∷ 10 ∷ 82 ∷ 32 ∷ 50 ∷ 32 ∷ 51 ∷ []
 
--- The two entries are put as these two lines.
+-- A write of 1234h to register 2 on both lanes, and a read of it, are put as the lines `W 2 3 1234` and `R 2 3`.
 pub two-put : text-of two ≡ lines
 unfolding lines-of access-of digit-for
 two-put = refl
 
--- The two lines are taken as these two entries, and nothing is left.
+-- The lines `W 2 3 1234` and `R 2 3` are taken as a write of 1234h to register 2 on both lanes, and a read of it, and nothing is left.
 pub two-taken : taking lines ≡ record { entries = two; left = [] }
 unfolding takes front-line has-feed before-feed line-of headed tailed is-decimal value-of
 two-taken = refl
 
--- Two places are enough, and one is not; "a last one without its line feed" is bad, and one good line stands before it.
+-- Two places are enough for two lines, and one is not; "a last one without its line feed" is bad, and one good line stands before it.
 pub taken-answers : (take-answer lines 2 ≡ Taken 2) × (take-answer lines 1 ≡ NoPlaces) × (take-answer cut 2 ≡ BadLine 1)
 unfolding take-answer takes front-line has-feed before-feed line-of headed tailed is-decimal value-of
 taken-answers = (refl, refl, refl)
 
--- Seventeen bytes are enough, and sixteen are not.
+-- Seventeen bytes are enough for the lines `W 2 3 1234` and `R 2 3`, and sixteen are not.
 pub put-answered : (put-answer two 17 ≡ Written 17) × (put-answer two 16 ≡ NoBytes)
 unfolding put-answer first-unsayable unsayable no-record lines-of access-of
 put-answered = (refl, refl)

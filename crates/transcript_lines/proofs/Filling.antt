@@ -32,7 +32,7 @@ module _ {t : List ℕ} {l₀ l : Lists} {used i : ℕ} (k : Filled t l₀ l use
   has-places : length got ≤ size l₀
   has-places = omega (arith, among (k .come), room)
 
-  -- The lists are as long as they were.
+  -- The lists that are being filled are as long as they were.
   pub still-long : SameLengths l₀ l
   still-long = subst (SameLengths l₀) (sym (k .lists)) (lengths-stay got l₀ has-places)
 

@@ -14,7 +14,7 @@ use Rattle.listing.proofs.GoodLines.{says-it, only-it, no-feed-in}
 use Rattle.listing.proofs.FrontLine.{whole-line}
 use Rattle.listing.proofs.LineByLine.{Fronts, fronts}
 
--- with its line feed
+-- the line of an access with its line feed
 abbrev pub whole : Access → List ℕ
 whole a = line-text a ++ (10 ∷ [])
 

@@ -62,11 +62,12 @@ module _ {t : List ℕ} {l l′ : Lists} {o : LinesTaken} (p : TookLines t l o l
       go (BadLine n) e d = (refl, e)
       go NoPlaces e d = (refl, e)
 
-  -- Where all lines are taken, the entries stand in the lists.
+  -- Where `take_lines` takes all lines, their entries stand in the lists' first places.
   pub lists-filled : {n : ℕ} → o ≡ Taken n → l′ ≡ with-entries (taking t .entries) l
   lists-filled e = lists-left ∙ ap (λ (x : LinesTaken). cond (is-taken x) (with-entries (taking t .entries) l) l) e
 
-  -- With 0 the text is lines of entries, which are counted and stand in the lists' first places; the later ones are as they were.
+  -- Where `take_lines` answers 0, the text is lines of entries, which are counted and stand in the lists' first places; the later ones are
+  -- as they were.
   pub take-done : taken-numbers o .number ≡ 0 → TookAll t l (taken-numbers o) l′
   take-done = go o refl
     where
@@ -135,12 +136,12 @@ module _ {l : Lists} {out out′ : List ℕ} {o : LinesPut} (p : PutLines l out 
       go (Unsayable k) e d = (refl, e)
       go NoBytes e d = (refl, e)
 
-  -- Where a line says each entry, the lines stand in the text.
+  -- Where `put_lines` writes all lines, they stand in the text's first bytes.
   pub text-filled : {n : ℕ} → o ≡ Written n → out′ ≡ over (text-of entries) out
   text-filled e = text-left ∙ ap (λ (x : LinesPut). cond (is-written x) (over (text-of entries) out) out) e
 
-  -- With 0 a line can say each entry; the bytes of the lines are counted, these stand in the first bytes, and the later ones are as they
-  -- were.
+  -- Where `put_lines` answers 0, a line can say each entry; the bytes of the lines are counted, these stand in the first bytes, and the
+  -- later ones are as they were.
   pub put-done : put-numbers o .number ≡ 0 → PutAll l out (put-numbers o) out′
   put-done = go o refl
     where

@@ -19,7 +19,7 @@ use Rattle.transcript_lines.specs.Putting.{first-unsayable, written-if-f
 use Rattle.transcript_lines.specs.declared.LinesPut.{LinesPut}
 use Rattle.transcript_lines.specs.declared.LinesPut.the-variants.{Written, Unsayable, NoBytes}
 
--- what an answer says of a list and of the room for its lines, by its case
+-- what an answer of `put_lines` says of a list and of the room for its lines, by its case
 abbrev pub PutMeans : List Entry → ℕ → LinesPut → Type 0
 PutMeans es room (Written n) = AllHaveLines es × (n ≡ length (text-of es)) × (n ≤ room)
 PutMeans es room (Unsayable k) = FirstUnsayable es k
@@ -89,8 +89,8 @@ is-so es room = go (all-or-first es) (less-or-not room (length (text-of es)))
     go (inl h) (inr fits) = so (Written (length (text-of es))) (h, refl, fits)
     go (inr (k, h)) m = so (Unsayable k) h
 
--- Each case of the answer is given exactly if it is so: a line can say each entry and the lines fit, they do not fit, or no line can say an
--- entry, the first such one having this index (`PutMeans`).
+-- Each case of what `put_lines` answers is given exactly if it is so: a line can say each entry and the lines fit, they do not fit, or no
+-- line can say an entry, the first such one having this index (`PutMeans`).
 pub put-answers : (es : List Entry) (room : ℕ) (o : LinesPut) → put-answer es room ≡ o ↔ PutMeans es room o
 put-answers es room o = (λ e. subst (PutMeans es room) e (is-so es room), answered es room o)
 
@@ -106,12 +106,12 @@ put-says es room _ (plain.PutAs.done s h) = ap put-numbers (put-answers es room 
 put-says es room _ (plain.PutAs.no-bytes s h) = ap put-numbers (put-answers es room NoBytes .1 (s, h))
 put-says es room _ (plain.PutAs.no-line {k} f) = ap put-numbers (put-answers es room (Unsayable k) .1 f)
 
--- The numbers of the answer are a exactly if a's row of `PutAs` holds.
+-- The numbers of what `put_lines` answers are a exactly if a's row of `PutAs` holds.
 pub puts-exactly : (es : List Entry) (room : ℕ) (a : Transcribed) → put-numbers (put-answer es room) ≡ a ↔ PutAs es room a
 puts-exactly es room a =
     (λ e. subst (PutAs es room) e (put-as es room (put-answer es room) (is-so es room)), put-says es room a)
 
--- The number of the answer is 0, 22 or 24.
+-- The number of an answer of `put_lines` is 0, 22 or 24.
 pub put-number : (o : LinesPut) → let n = put-numbers o .number in (n ≡ 0) ⊎ ((n ≡ 22) ⊎ (n ≡ 24))
 put-number (Written n) = inl refl
 put-number (Unsayable k) = inr (inl refl)

@@ -47,7 +47,7 @@ module _ (t : List ℕ) (l : Lists) {room : ℕ} {o : LinesTaken} (r : room ≡ 
         let all = ap (λ (x : Taking). length (x .entries)) (then-taken (m .0) nothing-there) in
         omega (arith, all, m .0 .count, m .1)
 
-    -- Where it is done and these entries take the lists' first places, what it leaves is as its contract says.
+    -- Where `take_lines` is done and the entries of the lines take the lists' first places, what it leaves is as its contract says.
     pub done-take : {l′ : Lists} → l′ ≡ with-entries (taking t .entries) l → TookLines t l o l′
     unfolding lists-after
     done-take p = record { answer = take-is; lists = rw (sym take-is, ap is-taken e) p }
@@ -78,7 +78,7 @@ module _ (l : Lists) (out : List ℕ) {done o : LinesPut} (f : done ≡ written-
         let m = put-answers (entries-in l) (length out) (Written n) .0 (sym put-is ∙ e) in
         (m .0, omega (arith, m .1, m .2))
 
-    -- Where it is done and these lines take the first bytes, what it leaves is as its contract says.
+    -- Where `put_lines` is done and the lines take the first bytes, what it leaves is as its contract says.
     pub done-put : {out′ : List ℕ} → out′ ≡ over (text-of (entries-in l)) out → PutLines l out o out′
     unfolding text-after
     done-put p = record { answer = put-is; text = rw (sym put-is, ap is-written e) p }

@@ -62,7 +62,8 @@ sayable-when e = (to, from)
         )
         refl
 
--- No line can say an entry exactly if it has not all this.
+-- No line can say an entry exactly if it is not so that its kind is 0 or 1, its register and its lanes have one digit, and its word 16
+-- bits, and is 0 for a read.
 pub unsayable-when : (e : Entry) → unsayable e ≡ true ↔ (HasLine e → ⊥)
 unsayable-when e = (λ h s. true≢false (sym h ∙ sayable-when e .1 s), go (either-way (unsayable e)))
   where

@@ -20,7 +20,7 @@ use Rattle.transcript_lines.specs.declared.LinesTaken.{LinesTaken}
 use Rattle.transcript_lines.specs.declared.LinesTaken.the-variants.{Taken, BadLine, NoPlaces}
 use Rattle.transcript_lines.proofs.TakenLines.{nothing-there, text-taken, only-taken}
 
--- what an answer says of a text and of the places for its entries, by its case
+-- what an answer of `take_lines` says of a text and of the places for its entries, by its case
 abbrev pub TakeMeans : List ℕ → ℕ → LinesTaken → Type 0
 TakeMeans t room (Taken n) = LinesThen t n [] × (n ≤ room)
 TakeMeans t room (BadLine n) = BadLineAt t n
@@ -85,8 +85,8 @@ is-so t room =
           bad = text-taken t .stops;
         })
 
--- Each case of the answer is given exactly if it is so: all lines are good and have places, all are good and there are too many, or a line
--- is bad, behind so many good ones (`TakeMeans`).
+-- Each case of what `take_lines` answers is given exactly if it is so: all lines are good and have places, all are good and there are too
+-- many, or a line is bad, behind so many good ones (`TakeMeans`).
 pub take-answers : (t : List ℕ) (room : ℕ) (o : LinesTaken) → take-answer t room ≡ o ↔ TakeMeans t room o
 take-answers t room o = (λ e. subst (TakeMeans t room) e (is-so t room), answered t room o)
 
@@ -101,12 +101,12 @@ took-says t room _ (plain.TookAs.done {n} g h) = ap taken-numbers (take-answers 
 took-says t room _ (plain.TookAs.no-places {n} g h) = ap taken-numbers (take-answers t room NoPlaces .1 (n, g, h))
 took-says t room _ (plain.TookAs.bad-line {n} b) = ap taken-numbers (take-answers t room (BadLine n) .1 b)
 
--- The numbers of the answer are a exactly if a's row of `TookAs` holds.
+-- The numbers of what `take_lines` answers are a exactly if a's row of `TookAs` holds.
 pub takes-exactly : (t : List ℕ) (room : ℕ) (a : Transcribed) → taken-numbers (take-answer t room) ≡ a ↔ TookAs t room a
 takes-exactly t room a =
     (λ e. subst (TookAs t room) e (took-as t room (take-answer t room) (is-so t room)), took-says t room a)
 
--- The number of the answer is 0, 24 or 27.
+-- The number of an answer of `take_lines` is 0, 24 or 27.
 pub take-number : (o : LinesTaken) → let n = taken-numbers o .number in (n ≡ 0) ⊎ ((n ≡ 24) ⊎ (n ≡ 27))
 take-number (Taken n) = inl refl
 take-number (BadLine n) = inr (inr refl)

@@ -20,7 +20,7 @@ use Rattle.transcript_lines.proofs.Sayable.{entry-said, said-entry}
 use Rattle.transcript_lines.proofs.FirstLine.{whole, good-front, begins}
 use Rattle.transcript_lines.proofs.LineAfterLine.{good-taken, is-good, nothing-taken}
 
--- so many entries before what else is taken
+-- the entries es before what else is taken
 abbrev pub behind : List Entry → Taking → Taking
 behind es x = record { entries = es ++ x .entries; left = x .left }
 

@@ -63,7 +63,7 @@ took-entries {t} {l} {l′} {n} p =
     let count : length (taking t .entries) ≡ n = ap (λ (x : Taking). length (x .entries)) all ∙ m .0 .count in
     (m .1, ap (λ (k : Lists). entries-in (first-places n k)) (lists-filled p refl) ∙ first-entries (taking t .entries) l count)
 
--- Lines can say these entries, and their lines are the text.
+-- Lines can say the entries in the first places of the lists that `take_lines` filled, and their lines are the text.
 pub took-text : {t : List ℕ} {l l′ : Lists} {n : ℕ} → TookLines t l (Taken n) l′ →
     AllHaveLines (entries-in (first-places n l′)) × (text-of (entries-in (first-places n l′)) ≡ t)
 took-text {t} {l} {l′} {n} p =

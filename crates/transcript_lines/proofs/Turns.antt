@@ -41,6 +41,7 @@ pub record Come (t : List ℕ) (used lines : ℕ) : Type 0 where
   pub few : lines ≤ used
   pub most : used ≤ length t
 
+-- At the start no line is taken, and what is taken of the whole text is what is taken of the rest (`Come`).
 unfoldable pub at-start : (t : List ℕ) → Come t 0 0
 at-start t = record { got = []; come = refl; count = refl; few = omega arith; most = omega arith }
 
@@ -64,7 +65,8 @@ module _ {t : List ℕ} {used lines : ℕ} (k : Come t used lines) where
         let here = length-drop used t in
         (b .some, omega (arith, b .some, b .all, here))
 
-    -- After it all this holds again.
+    -- After a good line one more is taken, with its bytes: what is taken of the whole text is the entries so far, and then what is taken of
+    -- the rest (`Come`).
     unfoldable pub one-more : {a : Access} {n : ℕ} → x ≡ Good a n → Come t (used + n) (lines + 1)
     one-more {a} {n} e =
         let lies = good-lies e in

@@ -20,16 +20,16 @@ pub record Counting (p₀ : Part) (s : List ℕ) (p : Part) (entries place i : �
   pub count : entries ≡ length got
   pub few : entries ≤ i
 
--- Before the first byte.
+-- Before the first byte nothing is read on from the part p₀, and no entry is counted (`Counting`).
 abbrev pub begun : (p₀ : Part) (s : List ℕ) → Counting p₀ s p₀ 0 0 0
 begun p₀ s = record { got = []; here = none-yet (at [] 0 0 p₀ 0) s; count = refl; few = omega arith }
 
 module _ {p₀ : Part} {s : List ℕ} {p : Part} {entries place i : ℕ} (k : Counting p₀ s p entries place i) (more : i < length s) where
-  -- The record goes on.
+  -- Where a byte more lets the record go on, it is read, and no entry is counted (`Counting`).
   abbrev pub goes-on : {q : Part} → byte-taken p (getD s i 0) ≡ Goes q → Counting p₀ s q entries place (i + 1)
   goes-on e = record { got = k .got; here = one-more (k .here) more e; count = k .count; few = omega arith }
 
-  -- It is whole and good.
+  -- Where a byte more makes the record whole and good, its entry is counted, and the next record begins behind it (`Counting`).
   abbrev pub counted : {e : Entry} → byte-taken p (getD s i 0) ≡ Whole e → Counting p₀ s fresh (entries + 1) (i + 1) (i + 1)
   counted {e} w =
       record {

@@ -22,8 +22,8 @@ pub record Finds : Type 0 where
       scanned-on (Head (record { begun = true; padded = true; value = 0 })) (0x1D ∷ 0x1E ∷ []) ≡
       record { entries = 0; place = 0; next = 1; part = fresh; refusal = 21 }
 
--- In these strings this is found: records of one byte and of three are counted, and a bad one or one that is cut off has its place and its
--- refusal; in strings that go on with a record, nothing is read behind a bad one.
+-- In short strings, by computation: records of one byte and of three are counted, and a bad one or one that is cut off has its place and
+-- its refusal; in strings that go on with a record, nothing is read behind a bad one.
 pub finds : Finds
 unfolding with-group head-read word-read byte-taken feed feeds
 finds = record { nothing = refl; all-good = refl; bad = refl; cut-off = refl; goes-on = refl; bad-from-before = refl }

@@ -34,15 +34,15 @@ module _ (l : Lists) where
   pub kinds-in : map (λ (e : Entry). e .kind) (entries-in l) ≡ take (size l) (l .kinds)
   kinds-in = column-is l (λ (e : Entry). e .kind) (l .kinds) (λ i. refl) 0 (size l) (omega arith)
 
-  -- Their registers are the first places of their list, as many as the shortest of the four has.
+  -- The registers of the entries that four lists hold are the first places of their list, as many as the shortest of the four has.
   pub registers-in : map (λ (e : Entry). e .register) (entries-in l) ≡ take (size l) (l .registers)
   registers-in = column-is l (λ (e : Entry). e .register) (l .registers) (λ i. refl) 0 (size l) (omega arith)
 
-  -- Their lanes are the first places of their list, as many as the shortest of the four has.
+  -- The lanes of the entries that four lists hold are the first places of their list, as many as the shortest of the four has.
   pub lanes-in : map (λ (e : Entry). e .lanes) (entries-in l) ≡ take (size l) (l .lanes)
   lanes-in = column-is l (λ (e : Entry). e .lanes) (l .lanes) (λ i. refl) 0 (size l) (omega arith)
 
-  -- Their words are the first places of their list, as many as the shortest of the four has.
+  -- The words of the entries that four lists hold are the first places of their list, as many as the shortest of the four has.
   pub words-in : map (λ (e : Entry). e .word) (entries-in l) ≡ take (size l) (l .words)
   words-in = column-is l (λ (e : Entry). e .word) (l .words) (λ i. refl) 0 (size l) (omega arith)
 

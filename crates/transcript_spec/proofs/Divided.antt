@@ -62,7 +62,7 @@ entry-head v w h =
     let c : v ≡ v % 2 + 2 * (v / 2) = omega arith in
     omega arith
 
--- A number that spells at most 31, with no leading zero group, spells the head of the entry that this is.
+-- Bytes that spell a number of at most 31, with no leading zero group, spell the head of the entry that this number and a word say.
 pub says-head : (h : List ℕ) (w : ℕ) → Spelled h → Unpadded h → value-of h ≤ 31 → Spells h (head-of (entry-said (value-of h) w))
 says-head h w p d l = record { spelled = p; unpadded = d; value = sym (entry-head (value-of h) w l) }
 

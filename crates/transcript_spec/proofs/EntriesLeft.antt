@@ -9,14 +9,15 @@ use Rattle.transcript_spec.specs.Lists.{Lists, entry-at, entries-from}
 use Rattle.transcript_spec.specs.declared.Entry.{Entry}
 
 module _ (l : Lists) where
+  -- of the first n entries that four lists hold, those from place i on
   abbrev pub left : ℕ → ℕ → List Entry
   left n i = entries-from l i (n - i)
 
-  -- At first all of them are left.
+  -- From place 0 on all of n entries are left.
   pub all-left : (n : ℕ) → left n 0 ≡ entries-from l 0 n
   all-left n = ap (entries-from l 0) (sub-zero n)
 
-  -- As long as there are any, entry i is the first of those that are left from place i on, and the next place's are behind it.
+  -- As long as entries are left from place i on, entry i is the first of them, and those from the next place on are behind it.
   pub next-left : (n i : ℕ) → i < n → left n i ≡ entry-at l i ∷ left n (i + 1)
   unfolding entries-from
   next-left n i h =

@@ -25,12 +25,12 @@ pub two-groups : (v : ℕ) → 128 ≤ v → v < 16384 → groups v ≡ (128 + v
 unfolding groups
 two-groups v l h = rw (le-ltb v 128 l, lt-ltb v 16384 h)
 
--- A number from 16,384 on is three groups.
+-- What `groups` makes of a number from 16,384 on is three groups.
 pub three-groups : (v : ℕ) → 16384 ≤ v → groups v ≡ (128 + v / 16384) ∷ (128 + v / 128 % 128) ∷ (v % 128) ∷ []
 unfolding groups
 three-groups v l = let k : 128 ≤ v = omega arith in rw (le-ltb v 128 k, le-ltb v 16384 l)
 
--- A number has at most three groups.
+-- What `groups` makes of a number has at most three groups.
 pub few-groups : (v : ℕ) → length (groups v) ≤ 3
 few-groups v =
     ⊎-elim

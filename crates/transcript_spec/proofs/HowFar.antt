@@ -72,7 +72,7 @@ goes-further r (b ∷ s) =
 
 -- ---- refusals
 
--- it is none, or 21, 22 or 23
+-- a refusal that can come before a string's end: none, or 21, 22 or 23
 abbrev pub EarlyRefusal : ℕ → Type 0
 EarlyRefusal n = (n ≡ 0) ⊎ ((21 ≤ n) × (n ≤ 23))
 

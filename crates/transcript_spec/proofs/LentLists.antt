@@ -6,10 +6,11 @@ use borrow.Rule.Slice.PartMut.{putMid}
 use Rattle.words.proofs.Lent.{lent-is, back-is}
 use Rattle.transcript_spec.specs.Lists.{Lists, lists, lent-lists, lists-back}
 
--- what code lends, so many places of each list, and the lists when these come back as `part`
+-- what code lends of four lists: their first places, so many of each
 abbrev pub parts : ℕ → ℕ → ℕ → ℕ → Lists → Lists
 parts k r n w l = lists (take (k - 0) (l .kinds)) (take (r - 0) (l .registers)) (take (n - 0) (l .lanes)) (take (w - 0) (l .words))
 
+-- four lists whose first places, so many of each, come back as `part`
 abbrev pub put-back : ℕ → ℕ → ℕ → ℕ → Lists → Lists → Lists
 put-back k r n w l part =
     lists (putMid 0 (k - 0) (l .kinds) (part .kinds)) (putMid 0 (r - 0) (l .registers) (part .registers))
@@ -29,7 +30,7 @@ module _ {k₀ r₀ n₀ w₀ : ℕ} {l : Lists} {k r n w : ℕ} (y : Lends k₀
       lists (lent-is k₀ k (l .kinds) (y .of-kinds) i) (lent-is r₀ r (l .registers) (y .of-registers) i)
       (lent-is n₀ n (l .lanes) (y .of-lanes) i) (lent-is w₀ w (l .words) (y .of-words) i)
 
-  -- What comes back takes these places of each list, and the others stay.
+  -- What comes back takes the first places of each list, as many as were asked for, or all where there are fewer, and the others stay.
   pub parts-back : (part : Lists) → put-back k r n w l part ≡ lists-back k₀ r₀ n₀ w₀ l part
   parts-back part i =
       lists (back-is k₀ k (l .kinds) (y .of-kinds) (part .kinds) i) (back-is r₀ r (l .registers) (y .of-registers) (part .registers) i)

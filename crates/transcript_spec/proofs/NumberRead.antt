@@ -31,7 +31,7 @@ pub first-byte-pads : (b : ℕ) (s : List ℕ) → grown-by none (b ∷ s) .padd
 unfolding grown-by
 first-byte-pads b s = kept-mark (grown none b) s refl
 
--- A number with a byte is begun.
+-- A number that is begun stays so with some bytes more.
 pub is-begun : (n : Number) (s : List ℕ) → n .begun ≡ true → grown-by n s .begun ≡ true
 unfolding grown-by
 is-begun n [] e = e

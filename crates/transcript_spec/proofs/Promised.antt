@@ -54,8 +54,8 @@ module _ {l : Lists} {out out′ : List ℕ} {o : Transcribed} (p : WroteTranscr
       counts (plain.Written.too-small g h) d = refl
       counts (plain.Written.bad-entry xs ys q g b) d = refl
 
-  -- With 0, all entries are good; the writer counts the bytes of their transcript, which fit, and leaves it in the first bytes, and the
-  -- later ones as they were.
+  -- Where the writer answers 0, all entries are good; it counts the bytes of their transcript, which fit, and leaves it in the first bytes,
+  -- and the later ones as they were.
   pub writer-done : o .number ≡ 0 → WroteAll l out o out′
   unfolding bytes-after
   writer-done z = finish writer-answers z
@@ -105,8 +105,8 @@ module _ {s : List ℕ} {l l′ : Lists} {o : Transcribed} (p : ReadTranscript s
       counts (plain.ReadAs.too-small q h) d = refl
       counts (plain.ReadAs.bad-record e q b) d = refl
 
-  -- With 0, the string is good records; the reader counts their entries, which fit, and leaves these in the lists' first places, and the
-  -- later ones as they were.
+  -- Where the reader answers 0, the string is good records; it counts their entries, which fit, and leaves these in the lists' first
+  -- places, and the later ones as they were.
   pub reader-done : o .number ≡ 0 → ReadAll s l o l′
   unfolding lists-after
   reader-done z = finish reader-answers z

@@ -78,7 +78,7 @@ module _ {r₀ r : Reading} {s : List ℕ} {i : ℕ} (here : Reached r₀ s i r)
   unfolding feeds
   at-end h = here .come ∙ ap (feeds r) (drop-of-length-le s h)
 
-  -- After a bad record too the reading is what the whole string makes.
+  -- After a bad record the reading is what the whole string makes.
   pub at-refusal : r .refusal ≢ 0 → feeds r₀ s ≡ r
   at-refusal h = here .come ∙ stays-refused r (drop i s) h
 

@@ -25,7 +25,7 @@ module _ (e : Entry) where
   pub length-of-write : e .kind ≡ 1 → length (record-of e) ≡ length (groups (head-of e)) + length (groups (e .word))
   length-of-write h = ap length (of-write h) ∙ length-append (groups (head-of e)) (groups (e .word))
 
-  -- The record of any other entry is the groups of its head.
+  -- The record of an entry that is no write is the groups of its head.
   pub of-other : e .kind ≢ 1 → record-of e ≡ groups (head-of e)
   unfolding record-of
   of-other h = rw (ne-eqb (e .kind) 1 h) (append-nil (groups (head-of e)))

@@ -159,8 +159,8 @@ module _ (first : List ℕ) (b : ℕ) (c : Continued first) where
         (λ l. (_, plain.WordAs.goes-on (continued-more first b c l)))
         (less-or-not b 128)
 
-    -- Of a word and one byte more, behind the head h, they are these exactly if their row of `WordAs` holds: the word goes on, it is bad,
-    -- or it is good, and its write whole.
+    -- Of a word and one byte more, behind the head h, the numbers of what `take_byte` answers are these exactly if their row of `WordAs`
+    -- holds: the word goes on, it is bad, or it is good, and its write whole.
     pub word-exactly : {x : Step} → x ≡ word-step → (a : StepNumbers) → step-numbers x ≡ a ↔ WordAs h s a
     word-exactly p a = (
       λ e. subst (WordAs h s) (sym (word-says (some-word .0) (some-word .1)) ∙ ap step-numbers (sym p) ∙ e) (some-word .1),

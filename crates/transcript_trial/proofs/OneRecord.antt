@@ -18,12 +18,12 @@ use Rattle.transcript_trial.specs.CarriedOut.{answer-from, string-from, 
 
 -- ---- a call
 module _ {reader : Bool} {s : List ℕ} {l : Lists} {o : Transcribed} where
-  -- The reader leaves the string.
+  -- A call of the reader is carried out by a reading of the string into the lists, which leaves the string.
   pub by-reader : {l′ : Lists} → reader ≡ true → ReadTranscript s l o l′ → Called reader s l o s l′
   unfolding called-answer called-string called-lists
   by-reader e r = record { answer = rw e (r .answer); string = rw e; lists = rw e (r .lists) }
 
-  -- The writer leaves the lists.
+  -- A call of the writer is carried out by a writing of the lists into the string, which leaves the lists.
   pub by-writer : {s′ : List ℕ} → reader ≡ false → WroteTranscript l s o s′ → Called reader s l o s′ l
   unfolding called-answer called-string called-lists
   by-writer e w = record { answer = rw e (w .answer); string = rw e (w .bytes); lists = rw e }

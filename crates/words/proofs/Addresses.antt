@@ -26,7 +26,7 @@ step-next a h = omega arith
 pub step-of-word : (a : BitAddress) → word-at (step a) .0 ≡ (word-at a .0 + 1) % 2 ^ 28
 step-of-word a = omega arith
 
--- After FFFFFFF0h comes 0.
+-- The step goes from FFFFFFF0h to 0.
 pub step-wraps : step (address 0xfffffff0) ≡ address 0
 step-wraps = refl
 

@@ -35,7 +35,7 @@ unfolding bit
 split-at-bit w i =
     sym (split w i) ∙ digit (w / 2 ^ i) (2 ^ i) (w % 2 ^ i) ∙ rw (shr-shr w i 1, pow-add 2 i 1)
 
--- The bits from k up are those of the quotient by 2^k.
+-- The bits of a number from k up are those of its quotient by 2^k.
 pub bit-of-quotient : (w k i : ℕ) → bit (w / 2 ^ k) i ≡ bit w (k + i)
 unfolding bit
 bit-of-quotient w k i = rw (shr-shr w k i)
@@ -44,7 +44,7 @@ remainder-by : (w j i : ℕ) → bit (w % 2 ^ (j + 1 + i)) i ≡ bit w i
 unfolding bit
 remainder-by w j i = rw (field w (j + 1) i, mod-mod-pow (w / 2 ^ i) j 1)
 
--- The bits below k are those of the remainder by 2^k.
+-- The bits of a number below k are those of its remainder by 2^k.
 pub bit-of-remainder : (w k i : ℕ) → i < k → bit (w % 2 ^ k) i ≡ bit w i
 bit-of-remainder w k i h =
     subst (λ (n : ℕ). bit (w % 2 ^ n) i ≡ bit w i) (omega arith) (remainder-by w (k - suc i) i)
@@ -64,10 +64,10 @@ same-bits (suc k) x y e =
     let lower : x % 2 ^ k ≡ y % 2 ^ k = same-bits k x y (λ i l. e i (omega arith)) in
     rw (← add-one k) (one-bit-more x k ∙ (λ j. cond (e k (omega arith) j) (2 ^ k) 0 + lower j) ∙ sym (one-bit-more y k))
 
--- The bits of the low byte are the lower eight.
+-- The bits of a word's low byte are its lower eight.
 pub bit-of-low : (w i : ℕ) → i < 8 → bit (lo w) i ≡ bit w i
 bit-of-low w i h = bit-of-remainder w 8 i h
 
--- The bits of the high byte are the upper eight.
+-- The bits of a word's high byte are its upper eight.
 pub bit-of-high : (w i : ℕ) → i < 8 → bit (hi w) i ≡ bit w (8 + i)
 bit-of-high w i h = bit-of-remainder (w / 256) 8 i h ∙ bit-of-quotient w 8 i

@@ -16,7 +16,7 @@ pub both-true : (s t : Bool) → s && t ≡ true → (s ≡ true) × (t ≡ true
 both-true true t e = (refl, e)
 both-true false t e = (e, cc)
 
--- If neither of two tests holds, each is false.
+-- If "one or the other" of two tests is false, each is false.
 pub both-false : (s t : Bool) → s || t ≡ false → (s ≡ false) × (t ≡ false)
 both-false false t e = (refl, e)
 both-false true t e = (e, cc)
@@ -27,7 +27,7 @@ same-test true t f g = sym (f refl)
 same-test false true f g = g refl
 same-test false false f g = refl
 
--- Two tests are one exactly if the library's test of that holds.
+-- Two tests are one exactly if the library's test of whether they are comes out true.
 pub come-out-alike : (s t : Bool) → Bool·beq s t ≡ true ↔ s ≡ t
 come-out-alike true true = (λ _. refl, λ _. refl)
 come-out-alike true false = (λ e. absurd (false≢true e), λ e. absurd (true≢false e))

@@ -53,7 +53,7 @@ lanes-unnamed n e =
 pub low-of : (l h : ℕ) → l < 256 → lo (l + 256 * h) ≡ l
 low-of l h p = omega arith
 
--- The high byte is the second.
+-- The high byte of a word made of two bytes is the second.
 pub high-of : (l h : ℕ) → l < 256 → h < 256 → hi (l + 256 * h) ≡ h
 high-of l h p q = omega arith
 
@@ -97,7 +97,7 @@ replaced-low lanes old new = laid-low lanes old (lo new) (hi new) (omega arith) 
 pub replaced-high : (lanes old new : ℕ) → hi (replaced lanes old new) ≡ cond (takes-high lanes) (hi new) (hi old)
 replaced-high lanes old new = laid-high lanes old (lo new) (hi new) (omega arith) (omega arith)
 
--- A write leaves a word.
+-- What a write leaves of a word has 16 bits.
 pub replaced-word : (lanes old new : ℕ) → replaced lanes old new < 65536
 replaced-word lanes old new = laid-word lanes old (lo new) (hi new) (omega arith) (omega arith)
 

@@ -8,20 +8,20 @@ use lib.ListN.{length, take, drop, length-take}
 use borrow.Rule.Slice.PartMut.{putMid, post-is, put-same}
 use Rattle.words.specs.Lent.{lent, given-back}
 
--- The first n places are n, if the list has so many.
+-- The first n places of a list, lent, are n, if it has so many.
 pub first-length : (n : ℕ) (l : List ℕ) → n ≤ length l → length (take (n - 0) l) ≡ n
 first-length n l h = simp length-take (omega arith)
 
 -- up to the smaller of two numbers
 module _ {A : Type 0} (k n : ℕ) (l : List A) (e : n ≡ min k (length l)) where
-  -- Up to the smaller of k and the list's length, what is lent is `lent k`.
+  -- What is lent of a list up to the smaller of k and its length is `lent k` of it.
   pub lent-is : take (n - 0) l ≡ lent k l
   lent-is = ap (λ (j : ℕ). take j l) (sub-zero n ∙ e)
 
-  -- When that part comes back as ys, the whole is `given-back k` of it.
+  -- When the places of a list up to the smaller of k and its length come back as ys, it is `given-back k` of the list and ys.
   pub back-is : (ys : List A) → putMid 0 (n - 0) l ys ≡ given-back k l ys
   back-is ys = ap (λ (r : List A). ys ++ r) (post-is 0 n l (omega arith) ∙ ap (λ (j : ℕ). drop j l) e)
 
--- A whole whose part comes back as it was is as it was.
+-- A list whose first places come back as they were is as it was.
 pub unchanged : {A : Type 0} (n : ℕ) (l ys : List A) → ys ≡ take (n - 0) l → putMid 0 (n - 0) l ys ≡ l
 unchanged n l ys e = ap (putMid 0 (n - 0) l) e ∙ put-same 0 (n - 0) l

@@ -56,11 +56,11 @@ module _ {m : List ℕ} {n : WordNumber} {w : ℕ} {inside : Bool} {m′ : List 
   pub store-says-inside : inside ≡ true ↔ n .0 < length m
   store-says-inside = (λ e. in-memory-when m n .0 (sym (k .fell) ∙ e), λ h. k .fell ∙ in-memory-when m n .1 h)
 
-  -- Inside, the word is found in its place.
+  -- After a store inside memory the word is found in its place.
   pub store-lays-the-word : inside ≡ true → getD m′ (n .0) 0 ≡ w
   store-lays-the-word e = ap (λ (x : List ℕ). getD x (n .0) 0) (k .memory) ∙ stored-here m n w (sym (k .fell) ∙ e)
 
-  -- Every other word stays, and the memory is as long as it was.
+  -- A store leaves every other word, and the memory as long as it was.
   pub store-keeps-the-rest : ((j : ℕ) → j ≢ n .0 → getD m′ j 0 ≡ getD m j 0) × (length m′ ≡ length m)
   store-keeps-the-rest =
       (λ j d. ap (λ (x : List ℕ). getD x j 0) (k .memory) ∙ stored-elsewhere m n w j d, ap length (k .memory) ∙ stored-length m n w)
