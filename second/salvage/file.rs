@@ -1,5 +1,6 @@
-//! A long damaged transcript, made from a seed for a run of the program `salvage`: a sound run, then
-//! one kind of damage, early, in the middle or late, or none at all (document 02, request (xii)).
+//! A long damaged transcript, made from a seed for a run of the program `salvage`: a sound run,
+//! then one kind of damage, early, in the middle or late, or none at all (document 02, request
+//! (xii)).
 
 use crate::scripts::random::Random;
 use crate::transcript::accesses::good;
@@ -17,18 +18,18 @@ pub fn file(seed: u64, length: u64) -> Vec<u8> {
     let length = length as usize;
     let place = place(&random, length);
     let rest = length - place;
-    let unpadded = 0x81 + random.below(127) as u8;
+    let not_zero_led = 0x81 + random.below(127) as u8;
     let mut file = sound(&random, place);
     file.extend(match seed % 10 {
         0 => sound(&random, rest),
-        1 => struck(&random, rest),
+        1 => spoiled(&random, rest),
         2 => without_word(&random, rest),
         3 => bad(&random),
         4 => vec![random.below(8) as u8],
         5 => noise(&random, rest),
-        6 => endless(&random, unpadded, rest),
+        6 => endless(&random, not_zero_led, rest),
         7 => endless(&random, MORE, rest),
-        8 => ended(&random, unpadded, rest),
+        8 => ended(&random, not_zero_led, rest),
         _ => ended(&random, MORE, rest),
     });
     let more = length.saturating_sub(file.len());
@@ -57,7 +58,7 @@ fn sound(random: &Random, length: usize) -> Vec<u8> {
 }
 
 /// Good records that a line fault or a few have spoiled, or have turned into others.
-fn struck(random: &Random, length: usize) -> Vec<u8> {
+fn spoiled(random: &Random, length: usize) -> Vec<u8> {
     let mut bytes = sound(random, length);
     for _ in 0..1 + random.below(3) {
         damage(random, &mut bytes);

@@ -2,12 +2,11 @@
 
 pub mod examples;
 pub mod file;
-pub mod good_run;
 pub mod program;
 pub mod run;
 pub mod script;
 
-use crate::salvage::good_run::GoodRun;
+use crate::transcript::good_run::GoodRun;
 
 /// What a call answers: number 0, how many records it kept, how many bytes it left and the refusal
 /// that stopped it, 0 if none did; or number 24, and zeros.
@@ -34,7 +33,7 @@ pub fn salvage(damaged: &[u8], room: &mut [u8]) -> Answer {
     room[..good.len()].copy_from_slice(good);
     Answer {
         number: 0,
-        kept: run.records.len(),
+        kept: run.accesses.len(),
         left: left.len(),
         stop: run.stop,
     }

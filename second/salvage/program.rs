@@ -13,6 +13,7 @@ pub fn salvaged(damaged: &[u8]) -> (Vec<u8>, String) {
     (room, line(answer))
 }
 
+/// The line that tells what was kept, left and bad; its wording is ours.
 fn line(answer: Answer) -> String {
     let (kept, left, stop) = (answer.kept, answer.left, answer.stop);
     let why = match stop {

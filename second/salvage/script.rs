@@ -2,10 +2,10 @@
 //! document 02, request (ii), at the start, amid good records and at the end, with room for the run
 //! or too little.
 
-use crate::salvage::good_run::GoodRun;
 use crate::salvage::run::{Record, BYTES, RECORD};
 use crate::scripts::random::Random;
 use crate::scripts::records::{self, Call};
+use crate::transcript::good_run::GoodRun;
 use crate::transcript::rooms::{lent, room};
 use crate::transcript::strings::{cut, damage, stopped, ByteString};
 

@@ -45,7 +45,8 @@ pub fn before(random: &Random, pieces: &[Vec<u8>]) -> u32 {
         .iter()
         .map(|piece| piece.len() as u64)
         .sum();
-    // The stream is one byte or two too long for the last of those deliveries, or just not.
+    // With the last of those deliveries the stream reaches the limit, or passes it by a byte or
+    // two.
     let limit = MOST + random.pick(&[0, 0, 0, 0, 1, 1, 2]);
     let any = u64::from(random.bits());
     let before = match random.below(16) {

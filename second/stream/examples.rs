@@ -238,8 +238,9 @@ pub fn run() -> Result<usize, &'static str> {
         }
         count += 1;
     }
-    match joined::holds() {
-        true => Ok(count + 1),
-        false => Err("however the bytes are cut"),
+    if joined::holds() {
+        Ok(count + 1)
+    } else {
+        Err("however the bytes are cut")
     }
 }

@@ -2,6 +2,7 @@
 //! is one, judged as in request (ii) of document 02.
 
 use crate::stream::Stream;
+use crate::transcript::good_run::GoodRun;
 use crate::transcript::list::Access;
 use crate::transcript::reader::record;
 
@@ -19,33 +20,25 @@ pub struct Found {
 impl Found {
     /// Judges the record that is being read, and those behind it, as if there were no cut.
     pub fn new(stream: &Stream, delivery: &[u8]) -> Found {
-        let mut found = Found {
-            accesses: Vec::new(),
-            stop: 0,
-            from: stream.from,
-            part: [&stream.part, delivery].concat(),
-        };
-        while !found.part.is_empty() && found.stop == 0 {
-            match record(&found.part) {
-                Ok((access, length)) => {
-                    found.accesses.push(access);
-                    found.from += length as u64;
-                    found.part.drain(..length);
-                }
-                Err(number) => found.stop = number,
-            }
-        }
-        match found.stop {
+        let bytes = [&stream.part, delivery].concat();
+        let run = GoodRun::of(&bytes);
+        let rest = &bytes[run.end..];
+        let (stop, part) = match run.stop {
             // "A number cut off is refused only when the sender says that nothing follows."
-            20 => found.stop = 0,
-            _ => found.part.truncate(read_of_bad(&found.part)),
+            20 => (0, rest),
+            stop => (stop, &rest[..read_of_bad(rest)]),
+        };
+        Found {
+            accesses: run.accesses,
+            stop,
+            from: stream.from + run.end as u64,
+            part: part.to_vec(),
         }
-        found
     }
 }
 
 /// How many bytes of a bad record are read: up to the one with which it is judged to be bad, before
-/// which it is only cut off. None behind it is read.
+/// which it is only cut off. None behind it counts as read (ours).
 fn read_of_bad(bytes: &[u8]) -> usize {
     let bad = |length: &usize| matches!(record(&bytes[..*length]), Err(21..));
     (1..bytes.len()).find(bad).unwrap_or(bytes.len())

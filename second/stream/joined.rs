@@ -1,6 +1,7 @@
-//! The sentence on which request (vii) rests, tried on random strings: however the bytes are cut,
-//! the accesses handed out are the good records before the first bad one in the joined bytes, and
-//! the final refusal with its place is that of request (ii) on them, 24 aside.
+//! The sentence on which request (vii) rests, tried on random strings: "However the bytes are cut,
+//! empty deliveries among them, the accesses handed out are the good records before the first bad
+//! one in the joined bytes, and the final refusal with its place in the whole stream is that of
+//! (ii) on them, 24 aside."
 
 use crate::scripts::random::Random;
 use crate::stream::cuts::pieces;

@@ -16,7 +16,7 @@ use crate::transcript::list::List;
 /// The most bytes that a stream may have.
 pub const MOST: u64 = 4_294_967_295;
 
-/// What a call answers: its number; how many entries it handed out, under 21 to 23 too; and, under
+/// What a call answers: its number; how many accesses it handed out, under 21 to 23 too; and, under
 /// 20 to 23, where in the whole stream the bad record begins. All else is 0.
 pub struct Answer {
     pub number: u8,
@@ -25,7 +25,7 @@ pub struct Answer {
 }
 
 impl Answer {
-    pub fn of(number: u8) -> Answer {
+    fn of(number: u8) -> Answer {
         Answer {
             number,
             count: 0,
@@ -47,7 +47,8 @@ pub struct Stream {
 }
 
 impl Stream {
-    /// A stream freshly started, after that many bytes of whole good records.
+    /// A stream freshly started. So that a script comes near the limit, that many bytes of whole
+    /// good records count as read (ours; the request starts at 0).
     pub fn new(before: u32) -> Stream {
         Stream {
             ended: false,
@@ -63,18 +64,16 @@ impl Stream {
         Answer::of(0)
     }
 
-    /// Reads a delivery. Refused with 25, 26 or 24, in this order, it changes nothing. Else the good
-    /// records that it finishes take the list's first places, and the stream goes on behind them or
-    /// ends at a bad one.
+    /// Reads a delivery. Refused with 25, 26 or 24, in this order, it changes nothing. Else the
+    /// good records that it finishes take the list's first places, and the stream goes on behind
+    /// them or ends at a bad one.
     pub fn deliver(&mut self, delivery: &[u8], list: &mut List) -> Answer {
         let found = Found::new(self, delivery);
-        let room = list.length();
-        let tests = [
+        if let Err(number) = none_of(&[
             (self.ended, 25),
             (self.taken + delivery.len() as u64 > MOST, 26),
-            (found.accesses.len() > room, 24),
-        ];
-        if let Err(number) = none_of(&tests) {
+            (found.accesses.len() > list.length(), 24),
+        ]) {
             return Answer::of(number);
         }
         list.lay(&found.accesses);

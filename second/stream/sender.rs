@@ -126,7 +126,7 @@ impl Sender {
 
     /// As many of the bytes as bring the stream to the limit, and perhaps none or one more; or the
     /// same again; or none.
-    pub fn send_less(&mut self, bytes: &[u8]) {
+    fn send_less(&mut self, bytes: &[u8]) {
         let left = (MOST - self.stream.taken) as usize;
         match self.below(6) {
             0 => {}

@@ -3,10 +3,9 @@
 
 /// Set on a byte that isn't a number's last.
 pub const MORE: u8 = 0x80;
-/// The value that stands for all from it on: they are too large anyway, and none wraps.
-const VAST: u128 = u64::MAX as u128;
 
-/// The one encoding of a number, without a leading zero group; 0 is one group.
+/// The one encoding of a number, without a leading zero group; 0 is one group. Scripts encode
+/// numbers of more than 64 bits too.
 pub fn encoded(number: u128) -> Vec<u8> {
     let mut bytes = vec![(number % 128) as u8];
     let mut rest = number / 128;
@@ -19,7 +18,8 @@ pub fn encoded(number: u128) -> Vec<u8> {
 
 /// A number as it stands at the start of some bytes, whole or cut off.
 pub struct Number {
-    pub value: u128,
+    /// The largest that there is stands for all above it, so that none wraps.
+    pub value: u64,
     /// How many bytes it takes.
     pub length: usize,
     /// Whether its last byte is there.
@@ -32,7 +32,10 @@ impl Number {
     pub fn read(bytes: &[u8]) -> Number {
         let end = bytes.iter().position(|byte| byte & MORE == 0);
         let length = end.map_or(bytes.len(), |end| end + 1);
-        let next = |value, byte: &u8| VAST.min(value * 128 + u128::from(byte & !MORE));
+        let next = |value: u64, byte: &u8| {
+            let group = u64::from(byte & !MORE);
+            value.saturating_mul(128).saturating_add(group)
+        };
         Number {
             value: bytes[..length].iter().fold(0, next),
             length,

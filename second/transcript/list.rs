@@ -22,7 +22,7 @@ impl List {
         self.parts.map(|part| part[k])
     }
 
-    pub fn set(&mut self, k: usize, access: Access) {
+    fn set(&mut self, k: usize, access: Access) {
         for (part, value) in self.parts.iter_mut().zip(access) {
             part[k] = value;
         }

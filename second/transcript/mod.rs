@@ -3,6 +3,7 @@
 
 pub mod accesses;
 pub mod examples;
+pub mod good_run;
 pub mod groups;
 pub mod list;
 pub mod reader;

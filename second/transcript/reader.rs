@@ -2,34 +2,29 @@
 //! request (ii).
 
 use crate::refusal::none_of;
+use crate::transcript::good_run::GoodRun;
 use crate::transcript::groups::Number;
 use crate::transcript::list::{Access, List};
 use crate::transcript::Answer;
 
 /// Turns the bytes into the list, from place 0 on. The place of a bad record is its first byte.
 pub fn read(bytes: &[u8], list: &mut List) -> Answer {
-    let mut accesses = Vec::new();
-    let mut place = 0;
-    while place < bytes.len() {
-        match record(&bytes[place..]) {
-            Ok((access, length)) => {
-                accesses.push(access);
-                place += length;
-            }
-            Err(number) => return Answer::refused(number, place),
-        }
+    let run = GoodRun::of(bytes);
+    if run.stop != 0 {
+        return Answer::refused(run.stop, run.end);
     }
-    if accesses.len() > list.length() {
+    if run.accesses.len() > list.length() {
         return Answer::refused(24, 0);
     }
-    list.lay(&accesses);
-    Answer::accepted(accesses.len())
+    list.lay(&run.accesses);
+    Answer::accepted(run.accesses.len())
 }
 
 /// The access of the record at the start of the bytes, and how many bytes it takes; or the number
 /// of its refusal, "the head being judged in this order before the word is read".
 pub fn record(bytes: &[u8]) -> Result<(Access, usize), u8> {
     let (head, length) = number(bytes, 31)?;
+    // "The head is kind (0 read, 1 write) + 2 × register + 8 × lanes."
     let [kind, register, lanes] = [head % 2, head / 2 % 4, head / 8];
     if lanes == 0 {
         return Err(23);
@@ -42,8 +37,8 @@ pub fn record(bytes: &[u8]) -> Result<(Access, usize), u8> {
 }
 
 /// The value of the number at the start of the bytes, and how many bytes it takes; or its refusal.
-/// A number is judged only once its last byte is there.
-fn number(bytes: &[u8], most: u128) -> Result<(u32, usize), u8> {
+/// A number is judged only once its last byte is there (ours).
+fn number(bytes: &[u8], most: u64) -> Result<(u32, usize), u8> {
     let number = Number::read(bytes);
     none_of(&[
         (!number.whole, 20),

@@ -34,6 +34,7 @@ fn judged([kind, register, lanes, word]: Access) -> Result<(), u8> {
 
 /// A record: its head, then for a write its word, with the byte that isn't selected.
 pub fn encoded([kind, register, lanes, word]: Access) -> Vec<u8> {
+    // "The head is kind (0 read, 1 write) + 2 × register + 8 × lanes."
     let head = kind + 2 * register + 8 * lanes;
     let mut bytes = groups::encoded(head.into());
     if kind == 1 {
