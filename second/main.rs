@@ -55,12 +55,15 @@ fn usage() -> bool {
 
 /// Whether the examples hold; says so, or which doesn't.
 fn examples() -> bool {
-    let outcome = calls::examples::run()
-        .and_then(|count| Ok(count + sheet::examples::run()?))
-        .and_then(|count| Ok(count + transcript::examples::run()?))
-        .and_then(|count| Ok(count + salvage::examples::run()?))
-        .and_then(|count| Ok(count + stream::examples::run()?))
-        .and_then(|count| Ok(count + bank::examples::run()?));
+    let subjects = [
+        calls::examples::run,
+        sheet::examples::run,
+        transcript::examples::run,
+        salvage::examples::run,
+        stream::examples::run,
+        bank::examples::run,
+    ];
+    let outcome: Result<usize, _> = subjects.into_iter().map(|run| run()).sum();
     match outcome {
         Ok(count) => println!("second: {count} examples hold"),
         Err(name) => println!("second: example {name} fails"),

@@ -36,7 +36,7 @@ pub fn again(random: &Random, mut cycle: Cycle) -> Cycle {
 }
 
 /// A kind; about one in six isn't known, some of these only by their high bytes.
-pub fn kind(random: &Random) -> u32 {
+fn kind(random: &Random) -> u32 {
     let low = random.below(4);
     let high = random.pick(&[1 << 8, 1 << 16, 1 << 24, 1 << 31]);
     match random.below(18) {
@@ -55,7 +55,7 @@ fn four(random: &Random) -> u32 {
     random.pick(&[0, 15, one, 15 - one, random.below(16), random.below(16)])
 }
 
-pub fn control(random: &Random) -> u16 {
+fn control(random: &Random) -> u16 {
     let one = 1 << random.below(16);
     let fields = four(random) << 12
         | four(random) << 8
@@ -86,7 +86,7 @@ fn allowed_bit(random: &Random, mask: u32) -> u32 {
 }
 
 /// An address in the bank's range, at its ends, just outside, one allowed bit off, or anywhere.
-pub fn address(random: &Random, bank: Bank) -> u32 {
+fn address(random: &Random, bank: Bank) -> u32 {
     let Bank { compare, mask } = bank;
     let inside = compare & mask | random.bits() & !mask;
     let (first, last) = (compare & mask, compare | !mask);

@@ -1,7 +1,7 @@
 //! The decode: "A bank is selected exactly when address and compare value agree on every bit that
-//! the mask allows and [001's] control word admits the cycle's kind (ordinary, refresh or special;
-//! ordinary is always admitted) for that bank" (document 02, request (vi)). So the address must
-//! agree in refresh and special cycles too.
+//! the mask allows and that document's control word admits the cycle's kind (ordinary, refresh or
+//! special; ordinary is always admitted) for that bank" (document 02, request (vi); that document
+//! is 001). So the address must agree in refresh and special cycles too.
 
 use crate::bank::{Answer, Bank, Bridge};
 
@@ -74,16 +74,17 @@ impl Control {
         self.0 >> (8 + bank) & 1 == 1
     }
 
-    /// Whether RM, bits 7 and 6, admits a refresh at that address for a bank: 00 all at once, 01
-    /// alternate pairs, 10 one at a time, 11 none. Whose turn it is, address bits 17 and 16 tell.
-    /// 001 leaves open which pairs; banks 0 and 2 take turns with 1 and 3.
+    /// Whether RM, bits 7 and 6, admits a refresh at that address for a bank. 001: "If the memory
+    /// banks are to be refreshed alternately, the TMS34094 determines which bank is refreshed using
+    /// the values on LAD16 and LAD17." Which pairs is (ours): banks 0 and 2 take turns with 1 and
+    /// 3.
     fn in_turn(self, bank: usize, address: u32) -> bool {
         let turn = (address >> 16) as usize % 4;
         match self.0 >> 6 & 3 {
-            0b00 => true,
-            0b01 => bank % 2 == turn % 2,
-            0b10 => bank == turn,
-            _ => false,
+            0b00 => true,                 // "Refresh all banks simultaneously"
+            0b01 => bank % 2 == turn % 2, // "Refresh alternate pairs"
+            0b10 => bank == turn,         // "Refresh one bank at a time"
+            _ => false,                   // "No refresh"
         }
     }
 }

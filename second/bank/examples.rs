@@ -8,7 +8,7 @@
 
 use crate::bank::run::{answers, line, Call, Cycle, RECORD};
 use crate::bank::{Answer, Bank, BANKS};
-use crate::calls::examples::numbers;
+use crate::scripts::text::numbers;
 
 const BANK_SELECTS: &str = "
 : 001's sample map, half by half, and the ends of each range
@@ -166,7 +166,7 @@ R 3 = 0 EEEE 0 F
 W 4 5678 = 3 0 0 F
 R 3 = 0 FFFF 0 0
 R 0 = 3 0 0 0
-: a mask for 8 million bits compares bits 31 to 23
+: a mask for 1M-Byte, 8,388,608 bits, compares bits 31 to 23
 S 0: C0002000 FFFFFE00 FF800000 FF800000 1800000 FF800000 1000000 FF800000 = 0 0 0 0
 D 0 FFC00000 = 0 0 2 0
 D 0 FF800001 = 0 0 2 0

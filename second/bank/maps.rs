@@ -8,7 +8,8 @@ const fn bank(compare: u32, mask: u32) -> Bank {
     Bank { compare, mask }
 }
 
-/// 001's sample map: the registers of the palette chip, then three ranges of 8 million bits.
+/// 001's sample map: the registers of the palette chip, then three ranges of "1M-Byte", 8,388,608
+/// bits each.
 pub const SAMPLE: [Bank; BANKS] = [
     bank(0xC000_2000, 0xFFFF_FE00),
     bank(0xFF80_0000, 0xFF80_0000),

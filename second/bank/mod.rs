@@ -1,14 +1,14 @@
 //! The bank selects of a TMS34094 ISA bridge: their registers, a fresh start, and what a call on
 //! them answers (document 02, request (vi); source document 001).
 
-pub mod accesses;
-pub mod caller;
-pub mod cycles;
-pub mod decode;
+mod accesses;
+mod caller;
+mod cycles;
+mod decode;
 pub mod examples;
-pub mod maps;
-pub mod places;
-pub mod port;
+mod maps;
+mod places;
+mod port;
 pub mod run;
 pub mod script;
 
@@ -31,7 +31,7 @@ pub struct Answer {
 }
 
 impl Answer {
-    pub fn of(number: u8) -> Answer {
+    fn of(number: u8) -> Answer {
         Answer {
             number,
             ..Answer::default()

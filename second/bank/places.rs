@@ -16,26 +16,7 @@ pub enum Register {
 const LOW: u32 = 0;
 const HIGH: u32 = 16;
 
-/// 001's table. It prints 0000b twice; the second is 0001b.
-const TABLE: [(usize, Register, u32); PLACES as usize] = [
-    (0, Compare, LOW),  // 0000b BKAD0L
-    (0, Compare, HIGH), // 0001b BKAD0H
-    (1, Compare, LOW),  // 0010b BKAD1L
-    (1, Compare, HIGH), // 0011b BKAD1H
-    (2, Compare, LOW),  // 0100b BKAD2L
-    (2, Compare, HIGH), // 0101b BKAD2H
-    (3, Compare, LOW),  // 0110b BKAD3L
-    (3, Compare, HIGH), // 0111b BKAD3H
-    (0, Mask, LOW),     // 1000b BKMSK0L
-    (0, Mask, HIGH),    // 1001b BKMSK0H
-    (1, Mask, LOW),     // 1010b BKMSK1L
-    (1, Mask, HIGH),    // 1011b BKMSK1H
-    (2, Mask, LOW),     // 1100b BKMSK2L
-    (2, Mask, HIGH),    // 1101b BKMSK2H
-    (3, Mask, LOW),     // 1110b BKMSK3L
-    (3, Mask, HIGH),    // 1111b BKMSK3H
-];
-
+/// The half of a register of a bank.
 #[derive(Clone, Copy)]
 pub struct Place {
     bank: usize,
@@ -43,15 +24,38 @@ pub struct Place {
     half: u32,
 }
 
+const fn place(bank: usize, register: Register, half: u32) -> Place {
+    Place {
+        bank,
+        register,
+        half,
+    }
+}
+
+/// 001's table. It prints 0000b twice; the second is 0001b.
+const TABLE: [Place; PLACES as usize] = [
+    place(0, Compare, LOW),  // 0000b BKAD0L
+    place(0, Compare, HIGH), // 0001b BKAD0H
+    place(1, Compare, LOW),  // 0010b BKAD1L
+    place(1, Compare, HIGH), // 0011b BKAD1H
+    place(2, Compare, LOW),  // 0100b BKAD2L
+    place(2, Compare, HIGH), // 0101b BKAD2H
+    place(3, Compare, LOW),  // 0110b BKAD3L
+    place(3, Compare, HIGH), // 0111b BKAD3H
+    place(0, Mask, LOW),     // 1000b BKMSK0L
+    place(0, Mask, HIGH),    // 1001b BKMSK0H
+    place(1, Mask, LOW),     // 1010b BKMSK1L
+    place(1, Mask, HIGH),    // 1011b BKMSK1H
+    place(2, Mask, LOW),     // 1100b BKMSK2L
+    place(2, Mask, HIGH),    // 1101b BKMSK2H
+    place(3, Mask, LOW),     // 1110b BKMSK3L
+    place(3, Mask, HIGH),    // 1111b BKMSK3H
+];
+
 impl Place {
     /// The place that an index stands for.
     pub fn of(index: u32) -> Place {
-        let (bank, register, half) = TABLE[(index % PLACES) as usize];
-        Place {
-            bank,
-            register,
-            half,
-        }
+        TABLE[(index % PLACES) as usize]
     }
 
     pub fn get(self, banks: &[Bank; BANKS]) -> u16 {

@@ -4,6 +4,7 @@
 
 use crate::bank::places::{Place, PLACES};
 use crate::bank::{Answer, Bridge};
+use crate::refusal::none_of;
 
 pub enum Access {
     Read,
@@ -11,15 +12,13 @@ pub enum Access {
 }
 
 impl Bridge {
-    /// There are three lanes, as at the host port: 1, 2 and 3. Any other number is refused with 3
-    /// (document 01's table), and that test comes first. Lanes 1 and 2 are byte accesses: "30 byte
-    /// access to the port (the index stays)". A refused access changes nothing; not even an index
-    /// above 15 is brought below 16.
+    /// "3 | lanes not 1, 2 or 3" holds here too, and is tested first (ours); "30 byte access to the
+    /// port (the index stays)" is one with lanes 1 or 2. A refused access changes nothing: not even
+    /// an index above 15 is brought below 16.
     pub fn access(&mut self, lanes: u32, access: Access) -> Answer {
-        match lanes {
-            0 | 4.. => Answer::of(3),
-            1 | 2 => Answer::of(30),
-            3 => self.access_half(access),
+        match none_of(&[(!(1..=3).contains(&lanes), 3), (lanes != 3, 30)]) {
+            Err(number) => Answer::of(number),
+            Ok(()) => self.access_half(access),
         }
     }
 
@@ -31,7 +30,7 @@ impl Bridge {
             Access::Read => answer.word = place.get(&self.banks),
             Access::Write(word) => place.set(&mut self.banks, word),
         }
-        self.index = (self.index % PLACES + 1) % PLACES;
+        self.index = self.index.wrapping_add(1) % PLACES;
         answer
     }
 }

@@ -41,7 +41,7 @@ pub struct Cycle {
 }
 
 impl Call {
-    pub fn parse(record: &[u8]) -> Call {
+    fn parse(record: &[u8]) -> Call {
         let short = |at: usize| u16::from_le_bytes([record[at], record[at + 1]]);
         let long = |at: usize| u32::from(short(at + 2)) << 16 | u32::from(short(at));
         let number = long(NUMBER_AT);

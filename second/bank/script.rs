@@ -54,9 +54,10 @@ fn walk(caller: &mut Caller) {
             2 => caller.decode_any(),
             _ => {}
         }
-        match writes > caller.below(2) {
-            true => caller.write_any(3),
-            false => caller.read(3),
+        if writes > caller.below(2) {
+            caller.write_any(3);
+        } else {
+            caller.read(3);
         }
     }
 }

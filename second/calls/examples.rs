@@ -1,10 +1,11 @@
 //! Document 01's "Checked examples" K1 to K10, its "To run" cases and its listing, with values
 //! written from that paper by hand; K1, K2 and K3 on the record in place, by words, by bytes and
 //! beside accesses by value, and what is refused there; and one case of 24 bits over three words. A
-//! line is a call and the number, x and y it must answer, in hexadecimal; numbers left out are 0.
-//! Each example starts a new run.
+//! line is calls, each with the number, x and y that it must answer, in hexadecimal; numbers left
+//! out are 0. What the letters mean stands in calls/run.rs. Each example starts a new run.
 
 use crate::calls::run::Run;
+use crate::scripts::text::numbers;
 
 const EXAMPLES: &str = "
 : K1
@@ -79,15 +80,6 @@ R 0 3 = 0 0; R 1 3 = 0 0; R 3 3 = 0 8000; R 2 3 = 0 0 11
 N 3; F F 18 FFFFFFFF = 0 0 5
 T 0 10 = 0 8000 1; T 10 10 = 0 FFFF 1; T 20 10 = 0 007F 1
 ";
-
-/// Numbers in hexadecimal; those left out are 0.
-pub fn numbers<const N: usize>(text: &str) -> Option<[u32; N]> {
-    let mut numbers = [0; N];
-    for (k, digits) in text.split_whitespace().enumerate() {
-        *numbers.get_mut(k)? = u32::from_str_radix(digits, 16).ok()?;
-    }
-    Some(numbers)
-}
 
 /// Whether one call answers as written.
 fn holds(run: &mut Run, step: &str) -> bool {

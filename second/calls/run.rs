@@ -1,6 +1,44 @@
-//! A run: the state that a script of calls works on, and the calls. A script is lines of one
-//! letter and four numbers, each a space and eight upper-case hexadecimal digits; each call prints
-//! its letter, number, two values and the state after it.
+//! A run: a script of calls (document 01) carried out on one port, one bus, a room of 32,769 words
+//! and a list of 8,192, all 0 at the start. The room's first words are lent as the memory, at the
+//! start 32,768; the list's first places are lent to the block calls, at the start all. Port and
+//! bus start as reset leaves them.
+//!
+//! A script is lines of one letter and four numbers a, b, c and d, each a space and eight
+//! upper-case hexadecimal digits. Of a word, HSTDATA or HSTCTL only the low sixteen bits count;
+//! numbers that a letter doesn't take play no part. Each call answers its number (document 01,
+//! "Numbers returned") and two values, x and y; a value that isn't named is 0, and so are both if
+//! the call is refused.
+//!
+//! ```text
+//! host       R  read by value      a register, b lanes             x word, y mark and cycle
+//!            W  write by value     a register, b lanes, c word     y cycle
+//!            H  read in place      as R                            as R
+//!            K  write in place     as W                            as W
+//! processor  P  read               a register                      x word
+//!            Q  write              a register, b word
+//! field      T  take, unsigned     a bit address, b size           x value, y cycles
+//!            S  take, signed       a bit address, b size           x value modulo 2^32, y cycles
+//!            F  put                a bit address, b size, c value  y cycles
+//! bus        A  ask                a source
+//!            B  grant                                              x source
+//!            C  release
+//! block      I  read               a + 2^32 b place, c count       x hollow words handed out
+//!            O  write              a + 2^32 b place, c count       x stores that fell empty
+//! the run    D  digests                                            x of the room, y of the list
+//!            N  lend memory        a words, or all if a is more
+//!            M  fill the room      word k becomes a + b k, modulo 2^16
+//!            L  lend places        a places, or all if a is more
+//!            J  fill the list      place k becomes a + b k, modulo 2^16
+//!            G  set the registers  a pointer, b HSTDATA, c HSTCTL, d hollow if odd
+//!            Z  reset              port and bus
+//! ```
+//!
+//! Mark and cycle are one value: 16 if the answer is hollow, plus 0 for cycle none, 1 for inside, 2
+//! for empty. D takes in the whole room and the whole list, lent or not.
+//!
+//! Each call prints a line in upper-case hexadecimal digits, with single spaces: its letter, number
+//! (2 digits), x and y (8 each); then, as the call left them, the pointer (8), HSTDATA (4), HSTCTL
+//! (4), the hollow mark (1) and the sources that wait (2, bit s for source s).
 
 use crate::block;
 use crate::bus::Bus;
@@ -10,7 +48,7 @@ use crate::port::{Answer, Cycle, Port};
 use std::io::{self, Write};
 
 pub const ROOM: usize = 32_769;
-pub const LIST: usize = 8_192;
+const LIST: usize = 8_192;
 const LINE: usize = 38;
 
 pub struct Run {
@@ -23,7 +61,7 @@ pub struct Run {
 }
 
 /// What a call answers: its number, and the values x and y.
-pub type Reply = (u8, u32, u32);
+type Reply = (u8, u32, u32);
 
 impl Run {
     pub fn new() -> Run {
@@ -56,10 +94,8 @@ impl Run {
             b'B' => reply(self.bus.grant()),
             b'C' => (self.bus.release(), 0, 0),
             b'I' | b'O' => {
-                let (list, place) = (
-                    &mut self.list[..self.size],
-                    u64::from(b) << 32 | u64::from(a),
-                );
+                let list = &mut self.list[..self.size];
+                let place = u64::from(b) << 32 | u64::from(a);
                 reply(match letter {
                     b'I' => block::read(&mut self.port, memory, list, place, c),
                     _ => block::write(&mut self.port, memory, list, place, c),
@@ -146,6 +182,7 @@ fn fill(words: &mut [u16], a: u32, b: u32) {
     }
 }
 
+/// From 0, for each word: 31 times the digest so far, plus the word, modulo 2^32.
 fn digest(words: &[u16]) -> u32 {
     let turn = |h: u32, &word: &u16| h.wrapping_mul(31).wrapping_add(u32::from(word));
     words.iter().fold(0, turn)

@@ -17,7 +17,7 @@ pub fn script(seed: u64, calls: u64) -> Vec<u8> {
 }
 
 impl Maker {
-    /// A scene's accesses by the host are all by value, all in place, or now so and now so.
+    /// A scene's accesses by the host are all by value, all in place, or some of each.
     fn scene(&mut self) {
         self.in_place = self.pick(&[0, 0, 1, 2]);
         match self.below(40) {
@@ -124,7 +124,7 @@ impl Maker {
     }
 
     /// Sets HSTCTL, loads the pointer, and reads or writes a table to the end of memory, or to
-    /// the pointer's wrap, and beyond, with something between now and then.
+    /// the pointer's wrap, and beyond, with other calls among them.
     fn table(&mut self) {
         let lbl = self.pick(&[0, LBL]);
         let steps = self.pick(&[0, INCR, INCR, INCW, INCR | INCW, INCR | INCW]);

@@ -11,7 +11,8 @@ fn touched(address: u32, size: u32) -> (u64, u64) {
     (u64::from(address) / 16, last_bit / 16)
 }
 
-/// "Tested in this order". A size of 0 is refused before it matters what it touches.
+/// "Tested in this order: 11 first, then as numbered." Number 11 is the C door's alone. A size of 0
+/// is refused before it matters what it touches.
 fn judged(memory: &[u16], address: u32, size: u32) -> Result<(), u8> {
     let (first, last) = touched(address, size);
     none_of(&[
@@ -28,8 +29,9 @@ fn place(address: u32, i: u32) -> (usize, usize) {
     (bit / 16, bit % 16)
 }
 
-/// Number, value and cycles. "Taking one out gives the unsigned number, or on request the signed one:
-/// less 2^size if the top bit is set"; "one [cycle] per word touched".
+/// Number, value and cycles. "Taking one out gives the unsigned number, or on request the signed
+/// one: less 2^size if the top bit is set." "The answer counts memory cycles: taking out, one per
+/// word touched".
 pub fn take(memory: &[u16], address: u32, size: u32, signed: bool) -> (u8, i64, u32) {
     if let Err(number) = judged(memory, address, size) {
         return (number, 0, 0);
@@ -46,8 +48,9 @@ pub fn take(memory: &[u16], address: u32, size: u32, signed: bool) -> (u8, i64, 
     (0, value, (last - first + 1) as u32)
 }
 
-/// Number and cycles. "Putting one in uses the value modulo 2^size and changes no other bit"; "one
-/// [cycle] for a word wholly covered, two (read, write) for one partly covered".
+/// Number and cycles. "Putting one in uses the value modulo 2^size and changes no other bit." "The
+/// answer counts memory cycles: [..] putting in, one for a word wholly covered, two (read, write)
+/// for one partly covered".
 pub fn put(memory: &mut [u16], address: u32, size: u32, value: u32) -> (u8, u32) {
     if let Err(number) = judged(memory, address, size) {
         return (number, 0);
@@ -58,8 +61,7 @@ pub fn put(memory: &mut [u16], address: u32, size: u32, value: u32) -> (u8, u32)
         memory[word] = memory[word] & !(1 << bit) | ((value >> i & 1) as u16) << bit;
     }
     let end = u64::from(address) + u64::from(size);
-    let whole = |word: &u64| u64::from(address) <= word * 16 && word * 16 + 16 <= end;
-    let saved = (first..=last).filter(whole).count() as u64;
-    let cycles = 2 * (last - first + 1) - saved;
-    (0, cycles as u32)
+    let whole = |word: u64| u64::from(address) <= word * 16 && word * 16 + 16 <= end;
+    let cycles = |word| if whole(word) { 1 } else { 2 };
+    (0, (first..=last).map(cycles).sum())
 }

@@ -4,7 +4,6 @@
 use crate::port::{Answer, Port};
 
 /// A write has a word, a read has none.
-#[derive(Clone, Copy)]
 pub struct Access {
     pub register: u32,
     pub lanes: u32,
@@ -12,7 +11,7 @@ pub struct Access {
 }
 
 impl Access {
-    fn on(self, port: &mut Port, memory: &mut [u16]) -> Answer {
+    fn on(&self, port: &mut Port, memory: &mut [u16]) -> Answer {
         match self.word {
             None => port.read(memory, self.register, self.lanes),
             Some(word) => port.write(memory, self.register, self.lanes, word),

@@ -5,6 +5,8 @@ pub mod access;
 
 use crate::refusal::none_of;
 
+// "HSTCTL bits (004, section 10.2): MSGIN 0-2, INTIN 3, MSGOUT 4-6, INTOUT 7, NMI 8, NMIM 9, INCW
+// 11, INCR 12, LBL 13, CF 14, HLT 15." Those that no rule speaks of have no name here.
 const MSGIN: u16 = 0x0007;
 const INTIN: u16 = 0x0008;
 const MSGOUT: u16 = 0x0070;
@@ -14,16 +16,20 @@ pub const INCW: u16 = 0x0800;
 pub const INCR: u16 = 0x1000;
 pub const LBL: u16 = 0x2000;
 const HLT: u16 = 0x8000;
+
 const LOW: u16 = 0x00FF;
 const HIGH: u16 = 0xFF00;
 
-#[derive(Clone, Copy, PartialEq)]
+/// "A cycle whose word is not in the lent memory is" empty.
+#[derive(PartialEq)]
 pub enum Cycle {
     None,
     Inside,
     Empty,
 }
 
+/// "Each host answer has: number, word (0 for a write), hollow mark (false but for reads of
+/// register 2), and the cycle: none, inside or empty."
 pub struct Answer {
     pub number: u8,
     pub word: u16,
@@ -33,13 +39,17 @@ pub struct Answer {
 
 #[derive(Clone, Copy)]
 pub struct Port {
+    /// HSTADRL, its low half, and HSTADRH, its high half.
     pub pointer: u32,
+    /// HSTDATA.
     pub data: u16,
+    /// HSTCTL.
     pub control: u16,
+    /// HSTDATA's mark.
     pub hollow: bool,
 }
 
-/// The answer to a refusal, or to a write: no word and no mark.
+/// The answer to a write, or to a refusal: "A refusal returns zeros and false marks, cycle none".
 fn without_word(number: u8, cycle: Cycle) -> Answer {
     Answer {
         number,
@@ -54,7 +64,7 @@ pub fn too_long(memory: &[u16]) -> bool {
     memory.len() > 32_768
 }
 
-/// "Tested in this order".
+/// "Tested in this order: 11 first, then as numbered." Number 11 is the C door's alone.
 fn judged(memory: &[u16], register: u32, lanes: u32) -> Result<(), u8> {
     none_of(&[
         (too_long(memory), 1),
@@ -63,7 +73,7 @@ fn judged(memory: &[u16], register: u32, lanes: u32) -> Result<(), u8> {
     ])
 }
 
-/// The bits of the selected bytes.
+/// The bits of the selected bytes: "1 is the low byte, 2 the high, 3 both."
 fn selected(lanes: u32) -> u16 {
     [0, LOW, HIGH, LOW | HIGH][lanes as usize]
 }
@@ -72,13 +82,13 @@ fn replaced(old: u16, new: u16, bits: u16) -> u16 {
     (old & !bits) | (new & bits)
 }
 
-/// What a write of the high control byte leaves there: all its bits but 10, which becomes 0.
+/// What a write of the high control byte leaves there: all its bits but 10, which "is always 0".
 fn high_control(word: u16) -> u16 {
     word & HIGH & !BIT_10
 }
 
 impl Port {
-    /// "All registers 0 except HLT 1, hollow true".
+    /// "Reset: all registers 0 except HLT 1, hollow true".
     pub fn reset() -> Port {
         Port {
             pointer: 0,
@@ -111,9 +121,7 @@ impl Port {
         }
     }
 
-    /// "Writing register 0 or 1 replaces the selected bytes. If the closing byte is selected, and the
-    /// register is 1 with LBL 0, or 0 with LBL 1, memory is fetched at the new pointer. This fetch
-    /// doesn't increment". LBL counts as it stands before the access.
+    /// The closing byte and the half that fetches go by "LBL as it stands before the access".
     pub fn write(&mut self, memory: &mut [u16], register: u32, lanes: u32, word: u16) -> Answer {
         if let Err(number) = judged(memory, register, lanes) {
             return without_word(number, Cycle::None);
@@ -121,39 +129,36 @@ impl Port {
         let bits = selected(lanes);
         let closes = self.closes(bits);
         let last_half = if self.control & LBL == 0 { 1 } else { 0 };
+        let mut cycle = Cycle::None;
         match register {
-            0 | 1 => self.set_half(register, replaced(self.register(register), word, bits)),
-            2 => self.data = replaced(self.data, word, bits),
-            _ => self.write_control(word, bits),
+            // "Writing register 0 or 1 replaces the selected bytes. If the closing byte is
+            // selected, and the register is 1 with LBL 0, or 0 with LBL 1, memory is fetched at the
+            // new pointer. This fetch doesn't increment, whatever INCR says."
+            0 | 1 => {
+                self.set_half(register, replaced(self.register(register), word, bits));
+                if closes && register == last_half {
+                    cycle = self.fetch(memory);
+                }
+            }
+            // "Writing register 2 replaces the selected bytes. If the closing byte is selected: the
+            // whole of HSTDATA is stored at the pointer, the hollow mark clears, then with INCW 1
+            // the pointer gains 16."
+            2 => {
+                self.data = replaced(self.data, word, bits);
+                if closes {
+                    cycle = self.store(memory);
+                }
+            }
+            // "Writing register 3, low lane: MSGIN is replaced; INTIN becomes old OR written;
+            // INTOUT becomes old AND written; MSGOUT stays. High lane: all its bits but 10 are
+            // replaced."
+            _ => {
+                let old = self.control;
+                let low = word & MSGIN | (old | word) & INTIN | old & MSGOUT | old & word & INTOUT;
+                self.control = replaced(old, high_control(word) | low, bits);
+            }
         }
-        let cycle = match register {
-            2 if closes => self.end_of_write(memory),
-            0 | 1 if closes && register == last_half => self.fetch(memory),
-            _ => Cycle::None,
-        };
         without_word(0, cycle)
-    }
-
-    /// "The whole of HSTDATA is stored at the pointer, the hollow mark clears, then with INCW 1 the
-    /// pointer gains 16"; "an empty store is dropped".
-    fn end_of_write(&mut self, memory: &mut [u16]) -> Cycle {
-        let mut cycle = Cycle::Empty;
-        if let Some(word) = memory.get_mut(self.pointer as usize / 16) {
-            *word = self.data;
-            cycle = Cycle::Inside;
-        }
-        self.hollow = false;
-        self.step_if(INCW);
-        cycle
-    }
-
-    /// By the host: "MSGIN is replaced; INTIN becomes old OR written; INTOUT becomes old AND written;
-    /// MSGOUT stays. High lane: all its bits but 10 are replaced."
-    fn write_control(&mut self, word: u16, bits: u16) {
-        let old = self.control;
-        let intin = (old | word) & INTIN;
-        let low = (word & MSGIN) | intin | (old & MSGOUT) | (old & word & INTOUT);
-        self.control = replaced(old, high_control(word) | low, bits);
     }
 
     /// Whether the closing byte is among those bits: "the high byte when LBL is 0 and the low byte
@@ -163,17 +168,24 @@ impl Port {
         bits & closing != 0
     }
 
-    /// If that bit of HSTCTL is 1, "the pointer gains 16 modulo 2^32: after FFFFFFF0h comes 0".
+    /// A step, if that bit of HSTCTL is 1: "The pointer gains 16 modulo 2^32: after FFFFFFF0h comes
+    /// 0."
     fn step_if(&mut self, bit: u16) {
         if self.control & bit != 0 {
             self.pointer = self.pointer.wrapping_add(16);
         }
     }
 
-    /// "A fetch inside memory clears the hollow mark"; "an empty fetch puts FFFFh in HSTDATA and makes
-    /// it hollow".
+    /// The number of a cycle's word: "A pointer keeps its four low bits; a cycle uses pointer div
+    /// 16 (house)."
+    fn word_number(&self) -> usize {
+        self.pointer as usize / 16
+    }
+
+    /// "A fetch inside memory clears the hollow mark." "An empty fetch puts FFFFh in HSTDATA and
+    /// makes it" hollow.
     fn fetch(&mut self, memory: &[u16]) -> Cycle {
-        if let Some(&word) = memory.get(self.pointer as usize / 16) {
+        if let Some(&word) = memory.get(self.word_number()) {
             self.data = word;
             self.hollow = false;
             return Cycle::Inside;
@@ -181,6 +193,18 @@ impl Port {
         self.data = 0xFFFF;
         self.hollow = true;
         Cycle::Empty
+    }
+
+    /// "an empty store is dropped (house)": of all that a store does, only the storing.
+    fn store(&mut self, memory: &mut [u16]) -> Cycle {
+        let mut cycle = Cycle::Empty;
+        if let Some(word) = memory.get_mut(self.word_number()) {
+            *word = self.data;
+            cycle = Cycle::Inside;
+        }
+        self.hollow = false;
+        self.step_if(INCW);
+        cycle
     }
 
     /// A register as the host reads it, with both lanes; bit 10 "reads as 0".
@@ -208,9 +232,9 @@ impl Port {
         }
     }
 
-    /// "A write to HSTDATA clears the hollow mark." HSTCTLL: "a write replaces MSGOUT, makes INTIN old
-    /// AND written and INTOUT old OR written, and keeps MSGIN"; HSTCTLH: "a write replaces the high
-    /// byte but bit 10".
+    /// "A write to HSTDATA clears the hollow mark." HSTCTLL: "a write replaces MSGOUT, makes INTIN
+    /// old AND written and INTOUT old OR written, and keeps MSGIN"; HSTCTLH: "a write replaces the
+    /// high byte but bit 10".
     pub fn processor_write(&mut self, register: u32, word: u16) -> u8 {
         let old = self.control;
         match register {
@@ -220,8 +244,8 @@ impl Port {
                 self.hollow = false;
             }
             3 => {
-                let signals = (old & word & INTIN) | ((old | word) & INTOUT);
-                self.control = old & (HIGH | MSGIN) | word & MSGOUT | signals;
+                let low = old & MSGIN | old & word & INTIN | word & MSGOUT | (old | word) & INTOUT;
+                self.control = old & HIGH | low;
             }
             4 => self.control = old & LOW | high_control(word),
             _ => return 2,

@@ -4,11 +4,11 @@
 //! place on. All numbers are in hexadecimal. All other places hold a filler that must stay. Then
 //! come strings with the line that the program must tell of them.
 
-use crate::calls::examples::numbers;
 use crate::salvage::program::salvaged;
 use crate::salvage::run::{answers, Record, BYTES};
 use crate::salvage::Answer;
 use crate::scripts::records::Call;
+use crate::scripts::text::numbers;
 
 const SALVAGES: &str = "
 nothing from nothing | 0 0 | | 0 0 0 0 |

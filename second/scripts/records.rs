@@ -1,4 +1,5 @@
-//! Scripts of records that are all of one size, strike sheets, transcripts or damaged ones.
+//! Scripts of records that are all of one size: strike sheets, transcripts, damaged transcripts,
+//! calls on a stream or calls on the bank selects.
 
 use crate::scripts::random::Random;
 use std::io::{self, Write};

@@ -5,7 +5,7 @@
 //! hexadecimal; and the times in decimal. Each starts a new run, with pointer 12345678h and 9999h
 //! held in HSTDATA.
 
-use crate::calls::examples::numbers;
+use crate::scripts::text::numbers;
 use crate::sheet::run::{line, Record, Run, LAID, LIST};
 use crate::sheet::struck::Struck;
 use crate::sheet::Shown;

@@ -3,21 +3,22 @@
 pub mod examples;
 pub mod run;
 pub mod script;
-pub mod struck;
+mod struck;
 
 use crate::port::{too_long, Port, INCR, LBL};
 use crate::refusal::none_of;
 use crate::sheet::struck::Struck;
 
-/// What a sheet shows: the rule used and its strokes if it passes, zeros if it is refused.
+/// "each sheet shows which was used": the rule, and its strokes, of a sheet that passes (ours); "A
+/// refusal returns zeros".
 #[derive(Default)]
 pub struct Shown {
     pub rule: u32,
     pub strokes: u16,
 }
 
-/// What a sheet that passes shows, or the number of its refusal. The list's first places take the
-/// times if it passes, and only then.
+/// What a sheet that passes shows, or the number of its refusal. "A refused sheet writes nothing;
+/// under 42 to 44 the port has moved as its accesses say".
 pub fn sheet(
     port: &mut Port,
     memory: &mut [u16],
@@ -31,7 +32,8 @@ pub fn sheet(
     let count = port.read(memory, 2, 3);
     let wrong = u64::from(count.word) != strokes;
     none_of(&[(count.hollow, 42), (wrong, 43)])?;
-    // All ticks are read before any is judged. Hollow goes by the mark alone: FFFFh is a good tick.
+    // "the count word, then, if that is right, every tick": all are read before any is judged.
+    // Hollow goes by the mark alone: FFFFh may be a good tick.
     let ticks: Vec<_> = (0..strokes).map(|_| port.read(memory, 2, 3)).collect();
     let hollow = ticks.iter().any(|tick| tick.hollow);
     let rising = ticks.windows(2).all(|pair| pair[0].word < pair[1].word);
@@ -46,7 +48,8 @@ pub fn sheet(
     })
 }
 
-/// The refusals that leave the port as it was, in order.
+/// The refusals that leave the port as it was, in order: after 1, 45 "unknown rule", 40 "time out
+/// of range", 41 "list shorter than that many strokes", 46 "INCR not set".
 fn before_any_access(port: &Port, memory: &[u16], struck: Struck, list: &[f64]) -> Result<(), u8> {
     none_of(&[
         (too_long(memory), 1),
@@ -71,7 +74,7 @@ fn load(port: &mut Port, memory: &mut [u16], address: u32) {
 }
 
 /// The time of stroke k, counted from 0: "the first tick plus a quotient, span times k over strokes
-/// less one, each operation rounded once"; "a single stroke takes its own tick".
+/// less one, each operation rounded once." "A single stroke takes its own tick".
 fn even_tempo(first: u16, last: u16, k: u64, strokes: u64) -> f64 {
     let (first, last) = (f64::from(first), f64::from(last));
     if strokes == 1 {

@@ -180,8 +180,8 @@ impl Draft<'_> {
         self.record.words = self.random.pick(&[32_769, 32_769, 32_770, 0xFFFF]);
     }
 
-    /// A rule next to the two, one that has the low byte or the low half of one of them, one of them
-    /// moved up by sixteen bits, or any.
+    /// A rule next to the two, one that has the low byte or the low half of one of them, one of
+    /// them moved up by sixteen bits, or any.
     fn unknown_rule(&mut self) {
         let rule = self.struck.rule;
         let same_byte = rule | 1 << (8 + self.random.below(8));

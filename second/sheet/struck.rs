@@ -25,8 +25,9 @@ impl Struck {
         (1..=12).contains(&hours) && quarters <= 3 && minutes <= 14
     }
 
-    /// By rule 2 a quarter counts as two: it "sounds on both gongs". In 64 bits, where no sum wraps,
-    /// also if the time is out of range.
+    /// By rule 1 "hours + quarters + minutes". By rule 2 a quarter counts as two: "A quarter sounds
+    /// on both gongs, and our new tables enter each tone". In 64 bits, where no sum wraps, also if
+    /// the time is out of range.
     pub fn strokes(self) -> u64 {
         let [hours, quarters, minutes] = self.time.map(u64::from);
         match self.rule {

@@ -7,7 +7,7 @@
 //! numbers are in hexadecimal. All other places hold the filler, which must stay. The last example
 //! is the sentence on cuts, tried on random strings.
 
-use crate::calls::examples::numbers;
+use crate::scripts::text::numbers;
 use crate::stream::joined;
 use crate::stream::run::{answers, blank_list, line, Record, BYTES, DELIVER, END, START};
 use crate::stream::{Answer, Stream};

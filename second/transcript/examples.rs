@@ -5,8 +5,8 @@
 //! write from the first place on. All numbers are in hexadecimal. All other places hold a filler
 //! that must stay.
 
-use crate::calls::examples::numbers;
 use crate::scripts::records::Call;
+use crate::scripts::text::numbers;
 use crate::transcript::list::{Access, PLACES};
 use crate::transcript::run::{answers, Record, BYTES};
 use crate::transcript::Answer;
