@@ -6,6 +6,7 @@ use crate::bank::cycles::{again, cycle};
 use crate::bank::run::{Call, Cycle, RECORD};
 use crate::bank::{Bank, Bridge, BANKS};
 use crate::scripts::random::Random;
+use crate::scripts::sequences::Sequences;
 use std::ops::Deref;
 
 pub struct Caller {
@@ -13,9 +14,7 @@ pub struct Caller {
     bridge: Bridge,
     /// The last cycle that was decoded.
     last: Cycle,
-    script: Vec<u8>,
-    /// Where in the script each sequence begins.
-    begins: Vec<usize>,
+    script: Sequences,
 }
 
 impl Caller {
@@ -28,34 +27,30 @@ impl Caller {
                 address: 0,
                 control: 0,
             },
-            script: Vec::new(),
-            begins: Vec::new(),
+            script: Sequences::default(),
         }
     }
 
     pub fn sequences(&self) -> usize {
-        self.begins.len()
+        self.script.count()
     }
 
     /// The calls of the first so many sequences.
-    pub fn script(mut self, sequences: usize) -> Vec<u8> {
-        let all = self.script.len();
-        let end = *self.begins.get(sequences).unwrap_or(&all);
-        self.script.truncate(end);
-        self.script
+    pub fn script(self, sequences: usize) -> Vec<u8> {
+        self.script.first(sequences)
     }
 
     /// Adds a call, in a record with random contents where they play no part.
     fn call(&mut self, call: Call) {
         let mut record: [u8; RECORD] = std::array::from_fn(|_| self.bits() as u8);
         call.lay(&mut record);
-        self.script.extend(record);
+        self.script.add(&record);
         call.carry_out(&mut self.bridge);
     }
 
     /// Begins a sequence.
     pub fn start(&mut self, index: u32, banks: [Bank; BANKS]) {
-        self.begins.push(self.script.len());
+        self.script.begin();
         self.call(Call::Start { index, banks });
     }
 

@@ -16,44 +16,39 @@ fn stretch(memory: &[u16], list: &[u16], place: u64, count: u32) -> Result<Range
     Ok(place as usize..end as usize)
 }
 
-/// Number, and "the hollow words handed out". "A block read does a count of two-lane reads of
-/// register 2 into a stretch of the caller's list, from a given place".
+/// "the hollow words handed out", or the number of the refusal. "A block read does a count of
+/// two-lane reads of register 2 into a stretch of the caller's list, from a given place".
 pub fn read(
     port: &mut Port,
     memory: &[u16],
     list: &mut [u16],
     place: u64,
     count: u32,
-) -> (u8, u32) {
-    let stretch = match stretch(memory, list, place, count) {
-        Ok(stretch) => stretch,
-        Err(number) => return (number, 0),
-    };
+) -> Result<u32, u8> {
+    let stretch = stretch(memory, list, place, count)?;
     let mut hollow = 0;
     for word in &mut list[stretch] {
         let answer = port.read(memory, 2, 3);
         *word = answer.word;
         hollow += u32::from(answer.hollow);
     }
-    (0, hollow)
+    Ok(hollow)
 }
 
-/// Number, and "the stores that fell empty". "a block write takes its words from such a stretch."
+/// "the stores that fell empty", or the number of the refusal. "a block write takes its words from
+/// such a stretch."
 pub fn write(
     port: &mut Port,
     memory: &mut [u16],
     list: &[u16],
     place: u64,
     count: u32,
-) -> (u8, u32) {
-    let stretch = match stretch(memory, list, place, count) {
-        Ok(stretch) => stretch,
-        Err(number) => return (number, 0),
-    };
+) -> Result<u32, u8> {
+    let stretch = stretch(memory, list, place, count)?;
     let mut empty = 0;
     for &word in &list[stretch] {
         let answer = port.write(memory, 2, 3, word);
         empty += u32::from(answer.cycle == Cycle::Empty);
     }
-    (0, empty)
+    Ok(empty)
 }

@@ -96,10 +96,14 @@ impl Run {
             b'I' | b'O' => {
                 let list = &mut self.list[..self.size];
                 let place = u64::from(b) << 32 | u64::from(a);
-                reply(match letter {
+                let counted = match letter {
                     b'I' => block::read(&mut self.port, memory, list, place, c),
                     _ => block::write(&mut self.port, memory, list, place, c),
-                })
+                };
+                match counted {
+                    Ok(count) => (0, count, 0),
+                    Err(number) => (number, 0, 0),
+                }
             }
             b'D' => (0, digest(&self.room), digest(&self.list)),
             _ => return self.set(letter, [a, b, c, d]),

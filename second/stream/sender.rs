@@ -2,6 +2,7 @@
 //! from the model what becomes of each.
 
 use crate::scripts::random::Random;
+use crate::scripts::sequences::Sequences;
 use crate::stream::found::Found;
 use crate::stream::run::{Record, BYTES, DELIVER, END, RECORD, START};
 use crate::stream::Stream;
@@ -13,9 +14,7 @@ use std::ops::Deref;
 pub struct Sender {
     random: Random,
     stream: Stream,
-    script: Vec<u8>,
-    /// Where in the script each stream begins.
-    begins: Vec<usize>,
+    script: Sequences,
 }
 
 impl Sender {
@@ -23,21 +22,17 @@ impl Sender {
         Sender {
             random: Random::new(seed),
             stream: Stream::new(0),
-            script: Vec::new(),
-            begins: Vec::new(),
+            script: Sequences::default(),
         }
     }
 
     pub fn streams(&self) -> usize {
-        self.begins.len()
+        self.script.count()
     }
 
     /// The calls of the first so many streams.
-    pub fn script(mut self, streams: usize) -> Vec<u8> {
-        let all = self.script.len();
-        let end = *self.begins.get(streams).unwrap_or(&all);
-        self.script.truncate(end);
-        self.script
+    pub fn script(self, streams: usize) -> Vec<u8> {
+        self.script.first(streams)
     }
 
     /// Whether the stream has ended, by the end or by a refusal.
@@ -65,14 +60,14 @@ impl Sender {
 
     /// Adds a call, and gives the number that it answers.
     fn call(&mut self, record: Record) -> u8 {
-        self.script.extend(record.to_bytes());
+        self.script.add(&record.to_bytes());
         record.call(&mut self.stream).0.number
     }
 
     /// Begins a stream. Its fresh start may be forgotten if the one before has ended: then all that
     /// follows is refused.
     pub fn start(&mut self, before: u32) {
-        self.begins.push(self.script.len());
+        self.script.begin();
         if self.ended() && self.one_in(12) {
             return;
         }
