@@ -1,15 +1,20 @@
--- What the contract of a read promises, said of any outcome that it allows; and what the contracts say, taken from the contracts themselves
--- (`Contract`): each is a statement on the call's own arguments.
+-- What the contracts of the reads promise, said of any outcome that they allow; and what the contracts say, taken from the contracts
+-- themselves (`Contract`): each is a statement on the call's own arguments.
 use Prim.Native.Nat.{ℕ, _≤_, _<_, min}
-use mathlib.Core.Bool.{true}
+use native.Mathlib.Omega.{arith}
+use mathlib.Core.Bool.{true, false}
 use mathlib.Core.List.{List}
-use mathlib.Core.Path.{_≡_, ap}
+use mathlib.Core.Logic.{⊎-elim}
+use mathlib.Core.Path.{_≡_, ap, sym, _∙_}
 use lib.ListN.{length, take}
+use Rattle.words.proofs.Choices.{either-way}
 use Rattle.words.proofs.Contracts.{Contract}
-use Rattle.input.specs.Filling.{FilledBehind}
+use Rattle.input.specs.Filling.{FilledBehind, FilledWhole}
 use Rattle.input.specs.declared.Filled.{Filled}
 use Rattle.input.proofs.filling.fill.Kinds as fill-kinds
 use Rattle.input.proofs.filling.fill.Reads as fill
+use Rattle.input.proofs.whole.fill_whole.Kinds as fill-whole-kinds
+use Rattle.input.proofs.whole.fill_whole.Reads as fill-whole
 use Rattle.input.proofs.records.read_record.Kinds as read-record-kinds
 use Rattle.input.proofs.records.read_record.Reads as read-record
 use Rattle.input.proofs.records.places_lent.Kinds as places-lent-kinds
@@ -34,6 +39,21 @@ module _ {b : List ℕ} {held : ℕ} {r : Filled} {b′ : List ℕ} (p : FilledB
       let e = p .no-room h in
       (e .1, ap (λ (x : Filled). x .all) (e .0), ap (λ (x : Filled). x .failed) (e .0))
 
+module _ {b : List ℕ} {r : Filled} {b′ : List ℕ} (p : FilledWhole b r b′) where
+  -- Reads one after another leave the buffer as long as it was, and what there is then lies in it.
+  pub whole-fits : (length b′ ≡ length b) × (r .all ≤ length b)
+  whole-fits = (p .as-long, p .within)
+
+  -- A buffer that reads have filled has not failed, whatever would have come behind it.
+  pub full-has-not-failed : r .all ≡ length b → r .failed ≡ false
+  full-has-not-failed e = ⊎-elim (λ f. absurd (omega (arith, e, p .failed-short f))) (λ f. f) (either-way (r .failed))
+
+  -- Into a buffer without a place nothing is read: there are no bytes then, and no read has failed.
+  pub nothing-lent : length b ≡ 0 → (r .all ≡ 0) × (r .failed ≡ false)
+  nothing-lent e =
+      let none : r .all ≡ 0 = omega (arith, p .within, e) in
+      (none, full-has-not-failed (none ∙ sym e))
+
 -- ---- the contracts themselves
 -- `fill` takes any buffer and held, and all that its contract allows is `FilledBehind` of them.
 pub fill-contract : Contract fill-kinds.ps fill-kinds.r fill.Pre fill.Post
@@ -43,6 +63,14 @@ pub fill-contract : Contract fill-kinds.ps fill-kinds.r fill.Pre fill.Post
     let held = args .1 .0 in
     FilledBehind (buffer .now) held r (buffer′ .now))
 fill-contract = record { takes-any = λ κs args. tt; says = λ κs args r left p. p }
+
+-- `fill_whole` takes any buffer, and all that its contract allows is `FilledWhole` of it.
+pub fill-whole-contract : Contract fill-whole-kinds.ps fill-whole-kinds.r fill-whole.Pre fill-whole.Post
+    (λ κs args r left.
+    let buffer = args .0 in
+    let buffer′ = left .0 in
+    FilledWhole (buffer .now) r (buffer′ .now))
+fill-whole-contract = record { takes-any = λ κs args. tt; says = λ κs args r left p. p }
 
 -- `read_record` takes any bytes, and all that its contract allows is that there are as many afterwards, whatever they are.
 pub read-record-contract : Contract read-record-kinds.ps read-record-kinds.r read-record.Pre read-record.Post

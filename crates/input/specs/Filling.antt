@@ -1,5 +1,6 @@
--- A read behind the bytes that are held.
+-- A read behind the bytes that are held, and reads one after another.
 --   FilledBehind b held r b′   a buffer b whose first `held` bytes stay is b′ after a read, which answered r
+--   FilledWhole b r b′         a buffer b is b′ after reads until it is full, the input has ended or a read failed, which answered r
 use Prim.Native.Nat.{ℕ, _≤_, _<_}
 use mathlib.Core.Bool.{true}
 use mathlib.Core.List.{List}
@@ -15,3 +16,9 @@ pub record FilledBehind (b : List ℕ) (held : ℕ) (r : Filled) (b′ : List �
   pub within : held < length b → r .all ≤ length b
   pub failed-none : r .failed ≡ true → r .all ≡ held
   pub no-room : length b ≤ held → (r ≡ record { all = held; failed = true }) × (b′ ≡ b)
+
+-- a buffer that is full has not failed: no read is tried where there is no room
+pub record FilledWhole (b : List ℕ) (r : Filled) (b′ : List ℕ) : Type 0 where
+  pub as-long : length b′ ≡ length b
+  pub within : r .all ≤ length b
+  pub failed-short : r .failed ≡ true → r .all < length b
