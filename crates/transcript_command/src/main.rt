@@ -4,22 +4,30 @@
 //   bytes   lines are read, and their transcript is written
 //   lines   a transcript is read, and its lines are written
 //
-// All of the input is read and judged before anything is written. If something is wrong with it, standard output stays empty, and a line on
-// standard error says what and where.
+// All of the input is read and judged before anything is written. If something is wrong with it, or it can't be read to its end, standard
+// output stays empty, and a line on standard error says what and where.
 //
 // There is room for 32,768 accesses: as lines they have at most 360,448 bytes, and as a transcript at most 131,072.
 mod messages;
 
+ghost use lib.ListN.{take};
 ghost use Rattle.transcript_spec.specs.Lists.{lists};
 ghost use Rattle.transcript_command.specs.Ways.{TurnedTo, Named};
+ghost use Rattle.transcript_command.specs.Whole.{ReadToItsEnd, Writes};
+use input::Filled;
+use input::fill_whole;
 use messages::say;
+use messages::say_stuck;
+use messages::say_too_long;
+use messages::say_unread;
 use transcript_exchange::Turned;
 use transcript_exchange::bytes_to_lines;
 use transcript_exchange::lines_to_bytes;
 
-// The input turned: lines into a transcript, or else a transcript into lines.
+// The input turned, which is what was read: lines into a transcript, or else a transcript into lines.
 fn turn(
     to_bytes: bool,
+    filled: Filled,
     input: &[u8],
     kinds: &mut [u32],
     registers: &mut [u32],
@@ -27,15 +35,26 @@ fn turn(
     words: &mut [u32],
     output: &mut [u8],
 ) -> Turned
-    ensures { λ o. ⌜ TurnedTo «to_bytes» (now (input .entry))
+    requires { ⌜ ReadToItsEnd filled (now input) ⌝ }
+    ensures { λ o. ⌜ TurnedTo «to_bytes» (take (filled .all) (now (input .entry)))
         (lists (now (kinds .entry)) (now (registers .entry)) (now (lanes .entry)) (now (words .entry)))
         (now (output .entry)) o
         (lists (now (kinds .exit)) (now (registers .exit)) (now (lanes .exit)) (now (words .exit))) (now (output .exit)) ⌝ }
 {
+    let all = filled.all;
     if to_bytes {
-        return lines_to_bytes(input, kinds, registers, lanes, words, output);
+        return lines_to_bytes(&input[..all], kinds, registers, lanes, words, output);
     }
-    bytes_to_lines(input, kinds, registers, lanes, words, output)
+    bytes_to_lines(&input[..all], kinds, registers, lanes, words, output)
+}
+
+// Writes what the input was turned into. Where standard output takes no more, that is said.
+fn write(to_bytes: bool, filled: Filled, input: &[u8], text: &[u8])
+    requires { ⌜ Writes «to_bytes» (take (filled .all) (now input)) (now text) ⌝ }
+{
+    if !io::write_all(1, text) {
+        say_stuck();
+    }
 }
 
 // The input read, turned and written; or what is wrong with it is said. Input that fills its buffer may have more behind it, and is too
@@ -49,14 +68,20 @@ fn exchange(
     words: &mut [u32],
     output: &mut [u8],
 ) {
-    let n = io::read_full(0, input);
-    if n == input.len() {
-        io::write_all(2, b"transcript: input too long\n");
+    let filled = fill_whole(input);
+    let failed = filled.failed;
+    if failed {
+        say_unread();
+        return;
+    }
+    if filled.all == input.len() {
+        say_too_long();
         return;
     }
     let turned = turn(
         to_bytes,
-        &input[..n],
+        filled,
+        input,
         kinds,
         registers,
         lanes,
@@ -64,10 +89,7 @@ fn exchange(
         output,
     );
     match turned {
-        Turned::Done(k) => {
-            let start = 0;
-            io::write_all(1, &output[start..k]);
-        }
+        Turned::Done(k) => write(to_bytes, filled, input, &output[..k]),
         _ => say(turned, to_bytes),
     }
 }

@@ -1,4 +1,4 @@
-// What is said on standard error of an input that is not turned.
+// What is said on standard error of an input that is not turned, or not written.
 use transcript_exchange::Turned;
 
 // A line, or else a byte, with so many before it: lines are counted from 1, bytes from 0.
@@ -31,4 +31,19 @@ pub(crate) fn say(turned: Turned, of_lines: bool) {
             io::write_all(2, b"transcript: more than 32768 accesses\n");
         }
     }
+}
+
+// More is there than 32,768 accesses ever have.
+pub(crate) fn say_too_long() {
+    io::write_all(2, b"transcript: input too long\n");
+}
+
+// The input can't be read to its end: nobody knows what would have followed.
+pub(crate) fn say_unread() {
+    io::write_all(2, b"transcript: the input can't be read to its end\n");
+}
+
+// What was turned can't be written.
+pub(crate) fn say_stuck() {
+    io::write_all(2, b"transcript: the output takes no more\n");
 }

@@ -1,18 +1,20 @@
--- `transcript_command::exchange` meets its contract: what is written lies in the output.
+-- `transcript_command::exchange` meets its contract: what is turned was read to its end, and what is written lies in the output and is what
+-- it was turned into.
+use Prim.Native.Nat.{_≤_}
 use native.Mathlib.Omega.{arith}
+use mathlib.Core.Path.{sym}
+use lib.ListN.{length}
+use lib.Seq.{length-take-le}
+use Rattle.transcript_command.proofs.Turns.{turned-fits, turned-writes}
 use borrow.Author.Needs.{needs}
-use Rattle.transcript_command.proofs.Turns.{turned-fits}
 use Rattle.transcript_command.proofs.exchange.Statement.{statement}
 use Rattle.transcript_command.proofs.exchange.Tie as tie
 
-read-full-requires : tie.Need-read-full-requires
-read-full-requires c κs = search needs
+fill-whole-requires : tie.Need-fill-whole-requires
+fill-whole-requires c κs = search needs
 
-slice-aggregate-write-all : tie.Need-slice-aggregate-write-all
-slice-aggregate-write-all c = search needs
-
-write-all-requires : tie.Need-write-all-requires
-write-all-requires c κs = search needs
+say-unread-requires : tie.Need-say-unread-requires
+say-unread-requires c κs = search needs
 
 same-length : tie.Need-same-length
 same-length c = search needs
@@ -20,41 +22,50 @@ same-length c = search needs
 returns : tie.Need-returns
 returns c = search needs
 
-slice-reshare-prefix-turn : tie.Need-slice-reshare-prefix-turn
-slice-reshare-prefix-turn c = search needs
+say-too-long-requires : tie.Need-say-too-long-requires
+say-too-long-requires c κs = search needs
 
-slice-aggregate-turn : tie.Need-slice-aggregate-turn
-slice-aggregate-turn c = search needs
+same-length-2 : tie.Need-same-length-2
+same-length-2 c = search needs
+
+returns-2 : tie.Need-returns-2
+returns-2 c = search needs
 
 turn-requires : tie.Need-turn-requires
-turn-requires c κs = search needs
+turn-requires c κs =
+    let tested = c .before .before .before .before .before .before in
+    let filled = tested .before .before .before .before .before in
+    (tested .before .before .if1 .left, omega (arith, filled .fill-whole .ensures .within, filled .fill-whole .ensures .as-long, tested .if2 .left))
 
 enum-known-turned : tie.Need-enum-known-turned
 enum-known-turned c = search needs
 
-sub-write-all : tie.Need-sub-write-all
-sub-write-all c = search needs
-
-part-write-all-start : tie.Need-part-write-all-start
-part-write-all-start c = search needs
-
-part-write-all-end : tie.Need-part-write-all-end
-part-write-all-end c =
-    let told = c .before .before in
+-- back from where a case of the answer is told
+abbrev turned-at : tie.After-turned → tie.After-turn
+turned-at told =
     let lists = told .before .before .before in
     let lent = lists .before .before .before .before .before in
-    let turn = lent .before .before .before .before .turn in
-    let fits = turned-fits (turn .ensures) (told .turned .given .1) in
-    omega (arith, fits, turn .kept .1 .1 .1 .1 .1 .1 .0)
+    lent .before .before .before .before
 
-write-all-requires-2 : tie.Need-write-all-requires-2
-write-all-requires-2 c κs = search needs
+-- what is turned fits the output
+fits : (told : tie.After-turned) → told .turned .given .0 .0 ≤ length (turned-at told .turn .last .1 .1 .1 .1 .1 .1 .1 .0)
+fits told =
+    let turn = turned-at told .turn in
+    omega (arith, turned-fits (turn .ensures) (told .turned .given .1), turn .kept .1 .1 .1 .1 .1 .1 .1 .0)
+
+slice-reshare-prefix-write : tie.Need-slice-reshare-prefix-write
+slice-reshare-prefix-write c = fits (c .before .before)
+
+slice-aggregate-write : tie.Need-slice-aggregate-write
+slice-aggregate-write c = sym (length-take-le _ _ (fits (c .before .before .before)))
+
+write-requires : tie.Need-write-requires
+write-requires c κs =
+    let told = c .before .before .before in
+    turned-writes (turned-at told .turn .ensures) (told .turned .given .1)
 
 say-requires : tie.Need-say-requires
 say-requires c κs = search needs
-
-same-length-2 : tie.Need-same-length-2
-same-length-2 c = search needs
 
 same-length-3 : tie.Need-same-length-3
 same-length-3 c = search needs
@@ -71,11 +82,11 @@ same-length-6 c = search needs
 same-length-7 : tie.Need-same-length-7
 same-length-7 c = search needs
 
-returns-2 : tie.Need-returns-2
-returns-2 c = search needs
-
 same-length-8 : tie.Need-same-length-8
 same-length-8 c = search needs
+
+returns-3 : tie.Need-returns-3
+returns-3 c = search needs
 
 same-length-9 : tie.Need-same-length-9
 same-length-9 c = search needs
@@ -92,38 +103,40 @@ same-length-12 c = search needs
 same-length-13 : tie.Need-same-length-13
 same-length-13 c = search needs
 
-returns-3 : tie.Need-returns-3
-returns-3 c = search needs
+same-length-14 : tie.Need-same-length-14
+same-length-14 c = search needs
+
+returns-4 : tie.Need-returns-4
+returns-4 c = search needs
 
 pub exchange-spec : {M : Type 1} → statement M
 exchange-spec =
     tie.close
     (tie.spec
-    read-full-requires
-    slice-aggregate-write-all
-    write-all-requires
+    fill-whole-requires
+    say-unread-requires
     same-length
     returns
-    slice-reshare-prefix-turn
-    slice-aggregate-turn
+    say-too-long-requires
+    same-length-2
+    returns-2
     turn-requires
     enum-known-turned
-    sub-write-all
-    part-write-all-start
-    part-write-all-end
-    write-all-requires-2
+    slice-reshare-prefix-write
+    slice-aggregate-write
+    write-requires
     say-requires
-    same-length-2
     same-length-3
     same-length-4
     same-length-5
     same-length-6
     same-length-7
-    returns-2
     same-length-8
+    returns-3
     same-length-9
     same-length-10
     same-length-11
     same-length-12
     same-length-13
-    returns-3)
+    same-length-14
+    returns-4)

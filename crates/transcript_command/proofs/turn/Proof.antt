@@ -1,4 +1,7 @@
--- `transcript_command::turn` meets its contract: each way leaves what the exchange says of it.
+-- `transcript_command::turn` meets its contract: each way leaves what the exchange says of the bytes that were read.
+use native.Mathlib.Omega.{arith}
+use mathlib.Core.Path.{sym}
+use lib.Seq.{length-take-le}
 use borrow.Author.Needs.{needs}
 use Rattle.transcript_command.proofs.Turns.{to-bytes, to-lines}
 use Rattle.transcript_command.proofs.turn.Statement.{statement}
@@ -14,6 +17,11 @@ abbrev turned-back : tie.After-slice-known15 → tie.After-bytes-to-lines
 turned-back c =
     let lanes = c .before .before .before .before .before in
     lanes .before .before .before .before .before
+
+slice-aggregate-lines-to-bytes : tie.Need-slice-aggregate-lines-to-bytes
+slice-aggregate-lines-to-bytes c =
+    let start = c .before .before .before .before .before .before .before .before in
+    sym (length-take-le (start .args .filled .all) (start .args .input .now) (omega (arith, start .pre .1)))
 
 lines-to-bytes-requires : tie.Need-lines-to-bytes-requires
 lines-to-bytes-requires c κs = tt
@@ -36,7 +44,12 @@ same-length-5 c = search needs
 returns : tie.Need-returns
 returns c =
     let arguments = turned c .before .before .before in
-    to-bytes (arguments .before .before .before .if1 .taken) (turned c .lines-to-bytes .ensures)
+    to-bytes (arguments .before .before .before .before .if1 .taken) (turned c .lines-to-bytes .ensures)
+
+slice-aggregate-bytes-to-lines : tie.Need-slice-aggregate-bytes-to-lines
+slice-aggregate-bytes-to-lines c =
+    let start = c .before .before .before .before .before .before .before .before in
+    sym (length-take-le (start .args .filled .all) (start .args .input .now) (omega (arith, start .pre .1)))
 
 bytes-to-lines-requires : tie.Need-bytes-to-lines-requires
 bytes-to-lines-requires c κs = tt
@@ -59,12 +72,13 @@ same-length-10 c = search needs
 returns-2 : tie.Need-returns-2
 returns-2 c =
     let arguments = turned-back c .before .before .before in
-    to-lines (arguments .before .before .before .if1 .left) (turned-back c .bytes-to-lines .ensures)
+    to-lines (arguments .before .before .before .before .if1 .left) (turned-back c .bytes-to-lines .ensures)
 
 pub turn-spec : {M : Type 1} → statement M
 turn-spec =
     tie.close
     (tie.spec
+    slice-aggregate-lines-to-bytes
     lines-to-bytes-requires
     same-length
     same-length-2
@@ -72,6 +86,7 @@ turn-spec =
     same-length-4
     same-length-5
     returns
+    slice-aggregate-bytes-to-lines
     bytes-to-lines-requires
     same-length-6
     same-length-7
