@@ -42,10 +42,10 @@ pub(crate) fn say(r: Report)
 
 // The input can't be read to its end: there is no report of it then.
 pub(crate) fn say_unread() {
-    io::write_all(2, b"salvage: standard input can't be read to its end\n");
+    io::write_all(2, b"salvage: the input can't be read to its end\n");
 }
 
 // What was salvaged can't be written: there is no report then.
 pub(crate) fn say_stuck() {
-    io::write_all(2, b"salvage: standard output takes no more\n");
+    io::write_all(2, b"salvage: the output takes no more\n");
 }
