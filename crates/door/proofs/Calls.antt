@@ -1,4 +1,4 @@
--- The two ways through a call, as both functions go them: refused with its number, or begun and closed.
+-- The two ways through a call, as both functions go them: refused with its number; or begun, carried out over the bytes and closed.
 use Prim.Native.Nat.{ℕ}
 use mathlib.Core.Path.{_≡_, sym, _∙_}
 use mathlib.Core.List.{List}
@@ -6,8 +6,10 @@ use mathlib.Core.Logic.{_≢_}
 use lib.ListN.{length}
 use borrow.Author.Tests.{eq-eqb, ne-eqb}
 use Rattle.words.specs.Bytes.{AreBytes}
-use Rattle.port_spec.specs.Host.{begin-access}
+use Rattle.port_spec.specs.Host.{begin-access, finished, done}
 use Rattle.port_spec.specs.declared.Access.{Access}
+use Rattle.port_spec.specs.declared.Begun.{Begun}
+use Rattle.port_spec.specs.declared.Carried.{Carried}
 use Rattle.port_spec.proofs.Taken.{taken, taken-memory}
 use Rattle.door_spec.specs.Bytes.{words-of}
 use Rattle.door_spec.specs.Image.{registers-of}
@@ -15,7 +17,7 @@ use Rattle.door_spec.specs.Answer.{packed, refusing}
 use Rattle.door_spec.specs.Door.{call-number, call-tells, call-image, call-memory, Called}
 use Rattle.door_spec.specs.InPlainWords.{Fitting}
 use Rattle.door_spec.proofs.Numbers.{numbered, fit-number}
-use Rattle.door.specs.Parts.{Closed}
+use Rattle.door.specs.Parts.{CycledBytes, Closed}
 use Rattle.door.proofs.CycleOverBytes.{cycled-bytes}
 
 module _ (image memory : List ℕ) (a : Access) where
@@ -26,26 +28,34 @@ module _ (image memory : List ℕ) (a : Access) where
       let t = ne-eqb _ _ n in
       record { answered = rw t; image-left = rw t; memory-left = rw t }
 
-  module _ (z : call-number image memory a ≡ 0) where
+  abbrev begun : Begun
+  begun = begin-access (registers-of image) a
+
+  module _ {number : ℕ} (judged : number ≡ call-number image memory a) (none : number ≡ 0) where
+    unrefused : call-number image memory a ≡ 0
+    unrefused = sym judged ∙ none
+
     accepted : Fitting image memory
-    accepted = numbered image memory a .done .0 z .0
+    accepted = numbered image memory a .done .0 unrefused .0
 
     -- A call that is accepted was lent nine bytes of image.
     pub nine : length image ≡ 9
     nine = accepted .good-image .nine-bytes
 
-    -- A call that is accepted leaves what its statement says by closing the access on what its bytes stand for.
-    pub closed-call : {x : ℕ} {image′ memory′ : List ℕ} → AreBytes memory →
-        Closed memory (begin-access (registers-of image) a) x image′ memory′ → Called image memory a x image′ memory′
-    unfolding call-tells call-image call-memory
-    closed-call s d =
-        let t = eq-eqb _ _ z in
-        let z′ = sym (fit-number image memory a accepted) ∙ z in
-        let o = taken (registers-of image) (words-of memory) a z′ in
+    -- A call that is accepted leaves what its statement says where the cycle of the access, on what the bytes stand for, is done over
+    -- the bytes, and the call is closed.
+    pub closed-call : {c : Carried} {x : ℕ} {image′ memory′ : List ℕ} → AreBytes memory →
+        CycledBytes (begun .registers) (begun .due) memory c memory′ → Closed (finished begun c) x image′ →
+        Called image memory a x image′ memory′
+    unfolding call-tells call-image call-memory done
+    closed-call s k d =
+        let t = eq-eqb _ _ unrefused in
+        let n = sym (fit-number image memory a accepted) ∙ unrefused in
+        let o = taken (registers-of image) (words-of memory) a n in
         record {
-          answered = rw (t, o) (d .answered);
-          image-left = rw (t, o) (d .image-left);
+          answered = rw (t, o) (rw (k .outcome) at (d .answered));
+          image-left = rw (t, o) (rw (k .outcome) at (d .image-left));
           memory-left =
-              rw (t, taken-memory (registers-of image) (words-of memory) a z′)
-              (d .memory-left ∙ cycled-bytes memory (accepted .even-memory) s _ _);
+              rw (t, taken-memory (registers-of image) (words-of memory) a n)
+              (k .memory ∙ cycled-bytes memory (accepted .even-memory) s _ _);
         }

@@ -8,8 +8,8 @@ use Rattle.words.specs.declared.WordNumber.{WordNumber}
 use Rattle.words.proofs.One.{one-value}
 use Rattle.registers.specs.declared.Registers.{Registers}
 use Rattle.port_spec.specs.declared.Due.{Due}
-use Rattle.port_spec.specs.declared.Begun.{Begun}
 use Rattle.port_spec.specs.declared.Carried.{Carried}
+use Rattle.port_spec.specs.declared.Outcome.{Outcome}
 use Rattle.door.specs.Parts.{StoredBytes, CycledBytes, Closed}
 
 -- A store over bytes has one outcome.
@@ -22,8 +22,6 @@ pub one-cycled : {r : Registers} {due : Due} {b b′ b″ : List ℕ} {c d : Car
     CycledBytes r due b c b′ → CycledBytes r due b d b″ → (c ≡ d) × (b′ ≡ b″)
 one-cycled p q = (one-value (p .outcome) (q .outcome), one-value (p .memory) (q .memory))
 
--- What is left of a call once its access is begun has one outcome.
-pub one-closed : {b : List ℕ} {x : Begun} {v w : ℕ} {i j m n : List ℕ} →
-    Closed b x v i m → Closed b x w j n → (v ≡ w) × (i ≡ j) × (m ≡ n)
-one-closed p q =
-    (one-value (p .answered) (q .answered), one-value (p .image-left) (q .image-left), one-value (p .memory-left) (q .memory-left))
+-- The closing of a call has one outcome.
+pub one-closed : {o : Outcome} {v w : ℕ} {i j : List ℕ} → Closed o v i → Closed o w j → (v ≡ w) × (i ≡ j)
+one-closed p q = (one-value (p .answered) (q .answered), one-value (p .image-left) (q .image-left))

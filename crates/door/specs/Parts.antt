@@ -1,11 +1,12 @@
 -- The parts of a call, and its memory cycle over lent bytes: one word's two bytes are read or written, and the rest is not touched.
 --   put-word b n w              the bytes with those of word n made the bytes of w
 --   store-bytes b n w           the bytes after a store of w to word n
+--   is-store due                whether the cycle that is due is a store
 --   bytes-after r due b         the bytes after the cycle that is due
 --   StoredBytes, CycledBytes    what a store and a cycle leave, as contracts
---   Closed                      what a call leaves, from its access before the cycle, as a contract
+--   Closed                      what a call answers and leaves in the image, from the outcome of its access, as a contract
 use Prim.Native.Nat.{ℕ, _+_, _*_}
-use mathlib.Core.Bool.{Bool, cond}
+use mathlib.Core.Bool.{Bool, true, false, cond}
 use mathlib.Core.List.{List}
 use mathlib.Core.Path.{_≡_}
 use lib.ListN.{set}
@@ -15,11 +16,10 @@ use Rattle.words.specs.Memory.{in-memory}
 use Rattle.words.specs.declared.WordNumber.{WordNumber}
 use Rattle.registers.specs.declared.Registers.{Registers}
 use Rattle.port_spec.specs.Cycle.{carried}
-use Rattle.port_spec.specs.Host.{done}
 use Rattle.port_spec.specs.declared.Due.{Due}
 use Rattle.port_spec.specs.declared.Due.the-variants.{Nothing, Fetch, Store}
-use Rattle.port_spec.specs.declared.Begun.{Begun}
 use Rattle.port_spec.specs.declared.Carried.{Carried}
+use Rattle.port_spec.specs.declared.Outcome.{Outcome}
 use Rattle.door_spec.specs.Bytes.{words-of}
 use Rattle.door_spec.specs.Image.{image-of}
 use Rattle.door_spec.specs.Answer.{packed}
@@ -37,6 +37,12 @@ pub record StoredBytes (b : List ℕ) (n : WordNumber) (w : ℕ) (inside : Bool)
   pub fell : inside ≡ in-memory (words-of b) n
   pub memory : b′ ≡ store-bytes b n w
 
+-- whether the cycle that is due is a store, which alone changes memory
+abbrev pub is-store : Due → Bool
+is-store Nothing = false
+is-store (Fetch s) = false
+is-store (Store s) = true
+
 -- "the whole of HSTDATA is stored at the pointer"
 unfoldable pub bytes-after : Registers → Due → List ℕ → List ℕ
 bytes-after r Nothing b = b
@@ -48,8 +54,7 @@ pub record CycledBytes (r : Registers) (due : Due) (b : List ℕ) (c : Carried) 
   pub outcome : c ≡ carried r due (words-of b)
   pub memory : b′ ≡ bytes-after r due b
 
--- what an accepted call leaves from x, its access before the cycle: its answer, the image and the bytes
-pub record Closed (b : List ℕ) (x : Begun) (answer : ℕ) (image′ b′ : List ℕ) : Type 0 where
-  pub answered : answer ≡ packed (done x (words-of b) .answer)
-  pub image-left : image′ ≡ image-of (done x (words-of b) .registers)
-  pub memory-left : b′ ≡ bytes-after (x .registers) (x .due) b
+-- what an accepted call leaves from o, the outcome of its access: its answer and the image
+pub record Closed (o : Outcome) (answer : ℕ) (image′ : List ℕ) : Type 0 where
+  pub answered : answer ≡ packed (o .answer)
+  pub image-left : image′ ≡ image-of (o .registers)

@@ -1,8 +1,9 @@
 // The memory cycle over lent bytes: the two bytes of its word are read or written, and no others.
+ghost use mathlib.Core.Bool.{false};
 ghost use mathlib.Core.Path.{_≡_};
 ghost use Rattle.words.specs.Memory.{fetch-at};
 ghost use Rattle.door_spec.specs.Bytes.{words-of};
-ghost use Rattle.door.specs.Parts.{StoredBytes, CycledBytes};
+ghost use Rattle.door.specs.Parts.{is-store, StoredBytes, CycledBytes};
 use port::settle_fetch;
 use port::settle_store;
 use port::step_if;
@@ -50,24 +51,30 @@ fn store_bytes(memory: &mut [u8], n: WordNumber, w: u16) -> bool
     false
 }
 
+// The cycle that is due where it is no store, on bytes that are lent for reading alone.
+pub(crate) fn fetch_if_due(r: Registers, due: Due, memory: &[u8]) -> Carried
+    requires { ⌜ is-store due ≡ false ⌝ }
+    ensures { λ c. ⌜ CycledBytes r due (now (memory .entry)) c (now (memory .entry)) ⌝ }
+{
+    if let Due::Fetch { with_step } = due {
+        let q = step_if(with_step, r);
+        let a = q.pointer;
+        return settle_fetch(q, fetch_bytes(memory, word_of(a)));
+    }
+    Carried {
+        registers: r,
+        cycle: Cycle::None,
+    }
+}
+
 // The cycle that is due, on the lent bytes.
 pub(crate) fn carry_bytes(r: Registers, due: Due, memory: &mut [u8]) -> Carried
     ensures { λ c. ⌜ CycledBytes r due (now (memory .entry)) c (now (memory .exit)) ⌝ }
 {
-    match due {
-        Due::Nothing => Carried {
-            registers: r,
-            cycle: Cycle::None,
-        },
-        Due::Fetch { with_step } => {
-            let q = step_if(with_step, r);
-            let a = q.pointer;
-            settle_fetch(q, fetch_bytes(memory, word_of(a)))
-        }
-        Due::Store { with_step } => {
-            let a = r.pointer;
-            let inside = store_bytes(memory, word_of(a), r.latch);
-            settle_store(r, with_step, inside)
-        }
+    if let Due::Store { with_step } = due {
+        let a = r.pointer;
+        let inside = store_bytes(memory, word_of(a), r.latch);
+        return settle_store(r, with_step, inside);
     }
+    fetch_if_due(r, due, memory)
 }

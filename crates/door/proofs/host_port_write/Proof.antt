@@ -1,6 +1,5 @@
--- `door::host_port_write` meets its contract: refused, or loaded, begun and closed.
+-- `door::host_port_write` meets its contract: refused, or loaded, begun, carried out over the bytes and closed.
 use borrow.Author.Needs.{needs}
-use mathlib.Core.Path.{sym, _∙_}
 use Rattle.door.proofs.Calls.{refused-call, nine, closed-call}
 use Rattle.door.proofs.host_port_write.Statement.{statement}
 use Rattle.door.proofs.host_port_write.Tie as tie
@@ -24,16 +23,19 @@ returns c =
 
 load-requires : tie.Need-load-requires
 load-requires c κs =
-    let t = c .before .before .before in
-    nine _ _ _ (sym (t .before .number-of-call .ensures) ∙ t .if1 .left)
+    let t = c .before in
+    nine _ _ _ (t .before .number-of-call .ensures) (t .if1 .left)
 
 begin-write-requires : tie.Need-begin-write-requires
 begin-write-requires c κs = tt
 
+carry-bytes-requires : tie.Need-carry-bytes-requires
+carry-bytes-requires c κs = tt
+
 close-call-requires : tie.Need-close-call-requires
 close-call-requires c κs =
-    let t = c .before .before .before .before .before in
-    nine _ _ _ (sym (t .before .number-of-call .ensures) ∙ t .if1 .left)
+    let t = c .before .before .before .before .before .before .before .before .before in
+    nine _ _ _ (t .before .number-of-call .ensures) (t .if1 .left)
 
 same-length-3 : tie.Need-same-length-3
 same-length-3 c = search needs
@@ -43,14 +45,16 @@ same-length-4 c = search needs
 
 returns-2 : tie.Need-returns-2
 returns-2 c =
-    let at-close-call = c .before .before .before .before in
-    let at-begin-write = at-close-call .before in
-    let l = c .before .before .before .before .before .before in
-    let t = l .before .before .before .before in
-    let z = sym (t .before .number-of-call .ensures) ∙ t .if1 .left in
+    let at-close-call = c .before .before in
+    let at-cycle = at-close-call .before .before .before in
+    let at-begin-write = at-cycle .before .before .before .before in
+    let l = at-begin-write .before in
+    let t = l .before .before in
     let b = rw (l .load .ensures) at (at-begin-write .begin-write .ensures) in
     let s = t .before .before .before .before in
-    closed-call _ _ _ z (λ k. s .slice-known2 .given k .fits) (rw b at (at-close-call .close-call .ensures))
+    closed-call _ _ _ (t .before .number-of-call .ensures) (t .if1 .left) (λ k. s .slice-known2 .given k .fits)
+    (rw b at (at-cycle .carry-bytes .ensures))
+    (rw b at (at-close-call .close-call .ensures))
 
 pub host-port-write-spec : {M : Type 1} → statement M
 host-port-write-spec =
@@ -63,6 +67,7 @@ host-port-write-spec =
     returns
     load-requires
     begin-write-requires
+    carry-bytes-requires
     close-call-requires
     same-length-3
     same-length-4
