@@ -23,7 +23,8 @@
  * Any numbers and any bytes may be passed: what is not done is refused by number. But C hands over bare pointers, and of
  * those nothing can be judged. So, for as long as a call lasts:
  *
- * - image and memory are each a range of so many bytes that can be read and written;
+ * - image and memory are each a range of so many bytes that can be read and written; for a read, a memory that can only be
+ *   read will do;
  * - the two ranges share no byte;
  * - no one else reads or writes them: one caller at a time for an image, and for a memory;
  * - a pointer is valid and not NULL even where its length is 0: any object of the program will do.
@@ -107,7 +108,7 @@ enum {
  * changes no byte of the memory, and a write at most the two of the word that it stores.
  * Take it apart with the functions below, so that a program needn't change when the kept bits come into use.
  */
-uint64_t host_port_read(uint8_t *image, size_t image_length, uint8_t *memory, size_t memory_length, uint32_t reg,
+uint64_t host_port_read(uint8_t *image, size_t image_length, const uint8_t *memory, size_t memory_length, uint32_t reg,
                         uint32_t lanes);
 uint64_t host_port_write(uint8_t *image, size_t image_length, uint8_t *memory, size_t memory_length, uint32_t reg,
                          uint32_t lanes, uint16_t word);

@@ -9,7 +9,7 @@
 #define WITHOUT_LIES
 #include "../c/model.c"
 
-typedef uint64_t reading(uint8_t *image, size_t image_length, uint8_t *memory, size_t memory_length, uint32_t reg,
+typedef uint64_t reading(uint8_t *image, size_t image_length, const uint8_t *memory, size_t memory_length, uint32_t reg,
                          uint32_t lanes);
 typedef uint64_t writing(uint8_t *image, size_t image_length, uint8_t *memory, size_t memory_length, uint32_t reg,
                          uint32_t lanes, uint16_t word);
@@ -19,10 +19,12 @@ static uint64_t pack(struct answer answer)
     return answer.word | (uint64_t)answer.number << 16 | (uint64_t)answer.hollow << 24 | (uint64_t)answer.cycle << 25;
 }
 
-static uint64_t model_read(uint8_t *image, size_t image_length, uint8_t *memory, size_t memory_length, uint32_t reg,
+/* The model has one function for both kinds of access, so its memory is one that can be written; a read writes nothing there. */
+static uint64_t model_read(uint8_t *image, size_t image_length, const uint8_t *memory, size_t memory_length, uint32_t reg,
                            uint32_t lanes)
 {
-    return pack(model_access(image, image_length, memory, memory_length, (struct access){false, reg, lanes, 0}, TRUTH));
+    struct access access = {false, reg, lanes, 0};
+    return pack(model_access(image, image_length, (uint8_t *)memory, memory_length, access, TRUTH));
 }
 
 static uint64_t model_write(uint8_t *image, size_t image_length, uint8_t *memory, size_t memory_length, uint32_t reg,
@@ -32,7 +34,7 @@ static uint64_t model_write(uint8_t *image, size_t image_length, uint8_t *memory
 }
 
 /* What the loop costs by itself. */
-static uint64_t nothing_read(uint8_t *image, size_t image_length, uint8_t *memory, size_t memory_length, uint32_t reg,
+static uint64_t nothing_read(uint8_t *image, size_t image_length, const uint8_t *memory, size_t memory_length, uint32_t reg,
                              uint32_t lanes)
 {
     (void)image, (void)image_length, (void)memory, (void)memory_length, (void)reg, (void)lanes;
