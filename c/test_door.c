@@ -2,8 +2,8 @@
  * The C door compared with a model in plain C, call by call: the answer, the image, the memory and the bytes around both.
  *
  * Calls come in runs on one image and memory, so that what a call leaves is what the next one meets. Each call is held against
- * wrong models too, until every one of them was caught: that shows that the comparison can fail. At last, accesses of whole words are
- * compared with the same done as two byte accesses.
+ * wrong models too, until every one of them was caught: that shows that the comparison can fail. Then accesses of whole words are
+ * compared with the same done as two byte accesses, and at last reads are made of a memory that can't be written.
  */
 #include <stdbool.h>
 #include <stdio.h>
@@ -15,7 +15,7 @@
 #include "model.h"
 #include "tally.h"
 
-enum { CALLS = 250000, LONGEST_RUN = 30, WORDS_BY_BYTES = 50000 };
+enum { CALLS = 250000, LONGEST_RUN = 30, WORDS_BY_BYTES = 50000, READS_OF_A_CONSTANT = 5000 };
 
 static struct lent doors, models, before, wrong;
 static unsigned long caught_at[LIES]; /* the call that caught a wrong model, counted from 1 */
@@ -154,6 +154,29 @@ static unsigned long compare_words_with_bytes(void)
     return other_order_shows;
 }
 
+/* The model has a copy of the memory; the door has the constant itself, and one that wrote to it would end the program here.
+ * Returns how many reads fetched a word of it. */
+static unsigned long compare_reads_of_a_constant(void)
+{
+    static const uint8_t table[] = {0x10, 0x00, 0xa4, 0x00, 0x38, 0x01, 0x20, 0x02, 0x31, 0x03};
+    unsigned long fetched = 0;
+    for (unsigned long i = 1; i <= READS_OF_A_CONSTANT; i++) {
+        lay_out(&doors);
+        doors.memory_length = sizeof table;
+        memcpy(memory_of(&doors), table, sizeof table);
+        copy_lent(&models, &doors, reach(&doors));
+        struct access access = some_access(&doors);
+        access.write = false;
+        struct answer answer = call_model(&models, access, TRUTH);
+        uint64_t packed = host_port_read(image_of(&doors), doors.image_length, table, sizeof table, access.reg, access.lanes);
+        if (!same_answer(packed, answer) || !same_bytes(&doors, &models, reach(&doors))) {
+            fail("a read of a constant differs from the model's", i, &doors, access);
+        }
+        fetched += answer.cycle == INSIDE;
+    }
+    return fetched;
+}
+
 static bool every_lie_was_caught(void)
 {
     unsigned long last = 0;
@@ -175,5 +198,7 @@ int main(void)
     bool caught = every_lie_was_caught();
     unsigned long shows = compare_words_with_bytes();
     printf("%d word accesses done as two byte accesses ended alike; the wrong order of bytes showed in %lu\n", WORDS_BY_BYTES, shows);
-    return full && caught && shows > 0 ? EXIT_SUCCESS : EXIT_FAILURE;
+    unsigned long fetched = compare_reads_of_a_constant();
+    printf("%d reads of a memory that can't be written ended as in the model; %lu fetched a word of it\n", READS_OF_A_CONSTANT, fetched);
+    return full && caught && shows > 0 && fetched > 0 ? EXIT_SUCCESS : EXIT_FAILURE;
 }
