@@ -34,8 +34,8 @@ returns-2 c = search needs
 turn-requires : tie.Need-turn-requires
 turn-requires c κs =
     let tested = c .before .before .before .before .before .before in
-    let filled = tested .before .before .before .before .before in
-    (tested .before .before .if1 .left, omega (arith, filled .fill-whole .ensures .within, filled .fill-whole .ensures .as-long, tested .if2 .left))
+    let filled = tested .before .before .before .before .before .fill-whole .ensures in
+    (search needs, omega (arith, filled .within, filled .as-long, tested .if2 .left))
 
 enum-known-turned : tie.Need-enum-known-turned
 enum-known-turned c = search needs

@@ -29,7 +29,7 @@ same-length c =
 within : (c : tie.After-fill Inv-loop μ-loop) → c .fill .result .all ≤ length (c .before .before .before .before .before .args .buffer .now)
 within c =
     let turn = c .before .before in
-    omega (arith, c .fill .ensures .within (turn .loop-test .taken), turn .before .loop .inv .1)
+    omega (arith, c .fill .ensures .within (omega (arith, turn .loop-test .taken)), turn .before .loop .inv .1)
 
 returns : tie.Need-returns Inv-loop μ-loop
 returns c =
