@@ -24,7 +24,7 @@ use transcript_exchange::Turned;
 use transcript_exchange::bytes_to_lines;
 use transcript_exchange::lines_to_bytes;
 
-// The input turned, which is what was read: lines into a transcript, or else a transcript into lines.
+// The bytes that were read, turned: lines into a transcript, or else a transcript into lines. They must be the whole input.
 fn turn(
     to_bytes: bool,
     filled: Filled,
@@ -48,7 +48,8 @@ fn turn(
     bytes_to_lines(&input[..all], kinds, registers, lanes, words, output)
 }
 
-// Writes what the input was turned into. Where standard output takes no more, that is said.
+// Writes what the input was turned into; the input and its way are at hand to say which text that is. Where standard output takes no more,
+// that is said.
 fn write(to_bytes: bool, filled: Filled, input: &[u8], text: &[u8])
     requires { ⌜ Writes «to_bytes» (take (filled .all) (now input)) (now text) ⌝ }
 {
