@@ -6,16 +6,16 @@ use Rattle.portlist.proofs.print.Statement.{statement}
 use Rattle.portlist.proofs.print.Tie as tie
 
 write-all-requires : tie.Need-write-all-requires
-write-all-requires c κs = search needs
+write-all-requires c κs = tt
 
 say-stuck-requires : tie.Need-say-stuck-requires
-say-stuck-requires c κs = search needs
+say-stuck-requires c κs = tt
 
 returns : tie.Need-returns
 returns c = search needs
 
 say-bad-line-requires : tie.Need-say-bad-line-requires
-say-bad-line-requires c κs = search needs
+say-bad-line-requires c κs = tt
 
 returns-2 : tie.Need-returns-2
 returns-2 c e = ap not e

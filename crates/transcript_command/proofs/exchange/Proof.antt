@@ -11,10 +11,10 @@ use Rattle.transcript_command.proofs.exchange.Statement.{statement}
 use Rattle.transcript_command.proofs.exchange.Tie as tie
 
 fill-whole-requires : tie.Need-fill-whole-requires
-fill-whole-requires c κs = search needs
+fill-whole-requires c κs = tt
 
 say-unread-requires : tie.Need-say-unread-requires
-say-unread-requires c κs = search needs
+say-unread-requires c κs = tt
 
 same-length : tie.Need-same-length
 same-length c = search needs
@@ -23,7 +23,7 @@ returns : tie.Need-returns
 returns c = search needs
 
 say-too-long-requires : tie.Need-say-too-long-requires
-say-too-long-requires c κs = search needs
+say-too-long-requires c κs = tt
 
 same-length-2 : tie.Need-same-length-2
 same-length-2 c = search needs
@@ -65,7 +65,7 @@ write-requires c κs =
     turned-writes (turned-at told .turn .ensures) (told .turned .given .1)
 
 say-requires : tie.Need-say-requires
-say-requires c κs = search needs
+say-requires c κs = tt
 
 same-length-3 : tie.Need-same-length-3
 same-length-3 c = search needs
