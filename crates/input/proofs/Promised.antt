@@ -1,16 +1,22 @@
 -- What the contracts of the reads promise, said of any outcome that they allow; and what the contracts say, taken from the contracts
 -- themselves (`Contract`): each is a statement on the call's own arguments.
-use Prim.Native.Nat.{ℕ, _≤_, _<_, min}
+use Prim.Native.Nat.{ℕ, _+_, _-_, _≤_, _<_, min}
 use native.Mathlib.Omega.{arith}
 use mathlib.Core.Bool.{true, false}
 use mathlib.Core.List.{List}
 use mathlib.Core.Logic.{⊎-elim}
-use mathlib.Core.Path.{_≡_, ap, sym, _∙_}
+use mathlib.Core.Path.{_≡_, refl, ap, sym, _∙_}
+use lib.IntN.{pos, negsuc}
 use lib.ListN.{length, take}
+use borrow.Fn.Kinds.{Dens, endedOf}
+use contract.Lifetimes.{Lfts}
+use denote.Triple.Clauses.{AtExit}
 use Rattle.words.proofs.Choices.{either-way}
 use Rattle.words.proofs.Contracts.{Contract}
-use Rattle.input.specs.Filling.{FilledBehind, FilledWhole}
+use Rattle.input.specs.Filling.{answered, FilledBehind, FilledWhole}
 use Rattle.input.specs.declared.Filled.{Filled}
+use Rattle.input.proofs.filling.judge.Kinds as judge-kinds
+use Rattle.input.proofs.filling.judge.Reads as judge
 use Rattle.input.proofs.filling.fill.Kinds as fill-kinds
 use Rattle.input.proofs.filling.fill.Reads as fill
 use Rattle.input.proofs.whole.fill_whole.Kinds as fill-whole-kinds
@@ -19,6 +25,16 @@ use Rattle.input.proofs.records.read_record.Kinds as read-record-kinds
 use Rattle.input.proofs.records.read_record.Reads as read-record
 use Rattle.input.proofs.records.places_lent.Kinds as places-lent-kinds
 use Rattle.input.proofs.records.places_lent.Reads as places-lent
+
+-- A read whose answer is a number below 0 has failed, and it brings nothing.
+pub below-zero-fails : (k held room : ℕ) → answered (negsuc k) held room ≡ record { all = held; failed = true }
+unfolding answered
+below-zero-fails k held room = refl
+
+-- A read that answers how many bytes it brought has not failed, and there are so many more, as far as there was room.
+pub counted-is-read : (k held room : ℕ) → answered (pos k) held room ≡ record { all = held + min k room; failed = false }
+unfolding answered
+counted-is-read k held room = refl
 
 module _ {b : List ℕ} {held : ℕ} {r : Filled} {b′ : List ℕ} (p : FilledBehind b held r b′) where
   -- A read leaves the bytes that are held, and the buffer as long as it was.
@@ -55,6 +71,11 @@ module _ {b : List ℕ} {r : Filled} {b′ : List ℕ} (p : FilledWhole b r b′
       (none, full-has-not-failed (none ∙ sym e))
 
 -- ---- the contracts themselves
+-- The function that judges what a read answered says what that answer means (`answered`).
+pub judge-says : (κs : Lfts 1) (a : Dens κs judge-kinds.ps) (r : Filled) (s : AtExit (endedOf 1 judge-kinds.ps judge-kinds.r) κs) →
+    judge.Post κs a r s → r ≡ answered (a .0) (a .1 .0) (length (a .1 .1 .0 .now) - a .1 .0)
+judge-says κs a r s p = p
+
 -- `fill` takes any buffer and held, and all that its contract allows is `FilledBehind` of them.
 pub fill-contract : Contract fill-kinds.ps fill-kinds.r fill.Pre fill.Post
     (λ κs args r left.

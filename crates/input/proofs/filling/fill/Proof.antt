@@ -1,12 +1,41 @@
 -- `input::filling::fill` meets its contract: the part behind the first bytes is lent, so they stay.
-use borrow.Author.Needs.{needs}
+use Prim.Native.Nat.{ℕ, _+_, _-_, _<_, _≤_}
 use native.Mathlib.Omega.{arith}
-use mathlib.Core.Bool.{true≢false}
-use mathlib.Core.Path.{refl, sym}
-use lib.ListN.{take}
+use mathlib.Core.Bool.{true, true≢false}
+use mathlib.Core.List.{List}
+use mathlib.Core.Path.{_≡_, sym, ap, _∙_}
+use lib.IntN.{ℤ, pos, negsuc}
+use lib.ListN.{length, take}
 use lib.Seq.{length-take-le, take-at}
+use borrow.Author.Needs.{needs}
+use Rattle.input.specs.Filling.{answered, FilledBehind}
+use Rattle.input.specs.declared.Filled.{Filled}
 use Rattle.input.proofs.filling.fill.Statement.{statement}
 use Rattle.input.proofs.filling.fill.Tie as tie
+
+-- what a read's answer means lies within the room, and a failure brings nothing
+filled : {held : ℕ} {b b′ : List ℕ} {r : Filled} (z : ℤ) → held < length b → take held b′ ≡ take held b → length b′ ≡ length b →
+    r ≡ answered z held (length b′ - held) → FilledBehind b held r b′
+unfolding answered
+filled {held = held} {b = b} {b′ = b′} {r = r} z room first as-long e =
+    let known = bounds z e in
+    record {
+      first = first;
+      as-long = as-long;
+      behind = known .0;
+      within = λ h. omega (arith, room, as-long, known .1);
+      failed-none = known .2;
+      no-room = λ h. absurd (omega (arith, h, room));
+    }
+  where
+    bounds : (z : ℤ) → r ≡ answered z held (length b′ - held) →
+        (held ≤ r .all) × (r .all ≤ held + (length b′ - held)) × (r .failed ≡ true → r .all ≡ held)
+    bounds (pos k) e =
+        let all = ap (λ (x : Filled). x .all) e in
+        (omega (arith, all), omega (arith, all), λ f. absurd (true≢false (sym f ∙ ap (λ (x : Filled). x .failed) e)))
+    bounds (negsuc k) e =
+        let all = ap (λ (x : Filled). x .all) e in
+        (omega (arith, all), omega (arith, all), λ f. all)
 
 returns : tie.Need-returns
 returns c = search needs
@@ -23,58 +52,24 @@ part-read-end c = search needs
 read-requires : tie.Need-read-requires
 read-requires c κs = search needs
 
+judge-requires : tie.Need-judge-requires
+judge-requires c κs = search needs
+
 same-length : tie.Need-same-length
 same-length c = search needs
 
 returns-2 : tie.Need-returns-2
 returns-2 c =
-    let came = c .before .before .before in
-    let room = came .before .before in
+    let room = c .before .before .before .before .before .before in
     let a = room .before .before .args in
     let held = a .held in
     let buffer = a .buffer .now in
-    record {
-      first = take-at (take held buffer) _ held (length-take-le held buffer (omega (arith, room .if1 .left)));
-      as-long = same-length c;
-      behind = omega arith;
-      within = λ h. omega (arith, h);
-      failed-none = λ f. refl;
-      no-room = λ h. absurd (omega (arith, h, room .if1 .left));
-    }
-
-sub-count : tie.Need-sub-count
-sub-count c = search needs
-
-part-count-start : tie.Need-part-count-start
-part-count-start c = search needs
-
-part-count-end : tie.Need-part-count-end
-part-count-end c = search needs
-
-count-requires : tie.Need-count-requires
-count-requires c κs = search needs
-
-add-all : tie.Need-add-all
-add-all c = search needs
-
-same-length-2 : tie.Need-same-length-2
-same-length-2 c = search needs
-
-returns-3 : tie.Need-returns-3
-returns-3 c =
-    let came = c .before .before .before .before .before .before in
-    let room = came .before .before in
-    let a = room .before .before .args in
-    let held = a .held in
-    let buffer = a .buffer .now in
-    record {
-      first = take-at (take held buffer) _ held (length-take-le held buffer (omega (arith, room .if1 .left)));
-      as-long = same-length-2 c;
-      behind = omega arith;
-      within = λ h. search needs;
-      failed-none = λ f. absurd (true≢false (sym f));
-      no-room = λ h. absurd (omega (arith, h, room .if1 .left));
-    }
+    filled
+    _
+    (room .if1 .left)
+    (take-at (take held buffer) _ held (length-take-le held buffer (omega (arith, room .if1 .left))))
+    (same-length c)
+    (c .judge .ensures)
 
 pub fill-spec : {M : Type 1} → statement M
 fill-spec =
@@ -85,12 +80,6 @@ fill-spec =
     part-read-start
     part-read-end
     read-requires
+    judge-requires
     same-length
-    returns-2
-    sub-count
-    part-count-start
-    part-count-end
-    count-requires
-    add-all
-    same-length-2
-    returns-3)
+    returns-2)
