@@ -3,7 +3,7 @@
 // what the port to these registers and a decode answer (specs/) and the laws of that (proofs/); the code is crate `bank`.
 
 // One bank: what the local address is compared with.
-#[derive(Drop)]
+#[derive(Clone, Copy)]
 pub struct Bank {
     // BKAD: the address compare value.
     pub compare: u32,
@@ -12,7 +12,7 @@ pub struct Bank {
 }
 
 // The registers of all four.
-#[derive(Drop)]
+#[derive(Clone, Copy)]
 pub struct Banks {
     pub bank0: Bank,
     pub bank1: Bank,
@@ -21,7 +21,7 @@ pub struct Banks {
 }
 
 // The registers as the host reaches them: through the one port BKPORT, a half at a time.
-#[derive(Drop)]
+#[derive(Clone, Copy)]
 pub struct BankPort {
     pub banks: Banks,
     // BPNT: the place that the next access reaches. Any number may be passed, and counts modulo 16.
@@ -29,7 +29,7 @@ pub struct BankPort {
 }
 
 // What an access to the port answers.
-#[derive(Drop)]
+#[derive(Clone, Copy)]
 pub struct BankAnswer {
     pub number: u8,
     // Of a read: the half. Else 0.
@@ -39,7 +39,7 @@ pub struct BankAnswer {
 }
 
 // What a decode answers: its number, and of each bank whether it is selected.
-#[derive(Drop)]
+#[derive(Clone, Copy)]
 pub struct Decoded {
     pub number: u8,
     pub bank0: bool,

@@ -8,7 +8,7 @@ use bank::{decode, read_bank_port, write_bank_port};
 use bank_spec::{BankAnswer, BankPort};
 
 // What a record leaves: what the call answered, and the port.
-#[derive(Drop)]
+#[derive(Clone, Copy)]
 pub(crate) struct Left {
     pub number: u8,
     pub word: u16,

@@ -4,7 +4,7 @@
 use registers::Registers;
 
 // What a block read leaves, besides the list. `hollows` counts the hollow words handed out.
-#[derive(Drop)]
+#[derive(Clone, Copy)]
 pub struct BlockRead {
     pub number: u8,
     pub hollows: u16,
@@ -12,7 +12,7 @@ pub struct BlockRead {
 }
 
 // What a block write leaves, besides the memory. `empties` counts the stores that fell empty.
-#[derive(Drop)]
+#[derive(Clone, Copy)]
 pub struct BlockWrite {
     pub number: u8,
     pub empties: u16,
@@ -21,7 +21,7 @@ pub struct BlockWrite {
 
 // What some accesses of a block leave: the registers, and how many of their answers are hollow, or fell empty. Only the code of
 // crate `block` makes one; it is here because the laws of a block's parts (specs/Parts.antt) speak of it.
-#[derive(Drop)]
+#[derive(Clone, Copy)]
 pub struct Run {
     pub registers: Registers,
     pub tallied: u16,

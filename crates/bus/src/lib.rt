@@ -4,7 +4,7 @@ ghost use Rattle.std.specs.Prelude.{◌≡◌, cond};
 ghost use Rattle.bus.specs.Order.{quiet, waits, with_source, highest, asked, granted, released};
 
 // Which of the five sources wait, highest first.
-#[derive(Drop)]
+#[derive(Clone, Copy)]
 pub struct Bus {
     pub hold: bool,
     pub screen: bool,
@@ -14,14 +14,14 @@ pub struct Bus {
 }
 
 // What asking or releasing answers: its number, and who waits then.
-#[derive(Drop)]
+#[derive(Clone, Copy)]
 pub struct BusAnswer {
     pub number: u8,
     pub bus: Bus,
 }
 
 // What a grant answers: its number, the source granted, and who waits then.
-#[derive(Drop)]
+#[derive(Clone, Copy)]
 pub struct Granted {
     pub number: u8,
     pub source: u32,

@@ -2,7 +2,7 @@
 // words cost and what each call answers (specs/), and the laws of that (proofs/); the code is crate `field`.
 
 // What taking out answers: the field as an unsigned number, and the memory cycles.
-#[derive(Drop)]
+#[derive(Clone, Copy)]
 pub struct Taken {
     pub number: u8,
     pub value: u32,
@@ -10,7 +10,7 @@ pub struct Taken {
 }
 
 // What taking out signed answers.
-#[derive(Drop)]
+#[derive(Clone, Copy)]
 pub struct SignedTaken {
     pub number: u8,
     pub value: i32,
@@ -18,7 +18,7 @@ pub struct SignedTaken {
 }
 
 // What putting in answers, besides the memory.
-#[derive(Drop)]
+#[derive(Clone, Copy)]
 pub struct Put {
     pub number: u8,
     pub cycles: u32,

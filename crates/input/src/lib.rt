@@ -9,7 +9,7 @@ pub use records::{places_lent, read_record};
 pub use whole::fill_whole;
 
 // What a read leaves, or one after another: how many bytes there are then, and whether one failed.
-#[derive(Drop)]
+#[derive(Clone, Copy)]
 pub struct Filled {
     pub all: usize,
     pub failed: bool,

@@ -10,7 +10,7 @@ use port_spec::Access;
 use registers::Registers;
 
 // The line that a text begins with.
-#[derive(Drop)]
+#[derive(Clone, Copy)]
 pub enum Front {
     // A good line: the access that it asks for, and its length with its line feed.
     Good(Access, usize),
@@ -22,7 +22,7 @@ pub enum Front {
 
 // What a piece of input leaves, besides the memory and the text: the registers, how many bytes the lines that were
 // answered have, how many bytes their answers, and whether a bad line ended the listing.
-#[derive(Drop)]
+#[derive(Clone, Copy)]
 pub struct Listed {
     pub registers: Registers,
     pub used: usize,
@@ -31,7 +31,7 @@ pub struct Listed {
 }
 
 // What a good line leaves, besides the memory and the text.
-#[derive(Drop)]
+#[derive(Clone, Copy)]
 pub(crate) struct Answered {
     pub(crate) registers: Registers,
     pub(crate) wrote: usize,

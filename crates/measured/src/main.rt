@@ -15,7 +15,7 @@ use sums::{number_of_answer, stir, stir_block, stir_field, widen};
 use words::BitAddress;
 
 // A record of the script.
-#[derive(Drop)]
+#[derive(Clone, Copy)]
 pub(crate) struct Record {
     pub(crate) kind: u32,
     pub(crate) first: u32,

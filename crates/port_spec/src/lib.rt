@@ -3,7 +3,7 @@
 use registers::Registers;
 
 // An access by the host, of register 0 to 3 on lanes 1 to 3; any other number is refused.
-#[derive(Drop)]
+#[derive(Clone, Copy)]
 pub enum Access {
     Read {
         register: u32,
@@ -17,7 +17,7 @@ pub enum Access {
 }
 
 // The memory cycle that an access calls for. The pointer steps before a fetch, or after a store, where `with_step` says so.
-#[derive(Drop)]
+#[derive(Clone, Copy)]
 pub enum Due {
     Nothing,
     Fetch { with_step: bool },
@@ -25,7 +25,7 @@ pub enum Due {
 }
 
 // The memory cycle that an access had: none, one at a word of the lent memory, or one at a word that isn't there.
-#[derive(Drop)]
+#[derive(Clone, Copy)]
 pub enum Cycle {
     None,
     Inside,
@@ -33,7 +33,7 @@ pub enum Cycle {
 }
 
 // What the host is told.
-#[derive(Drop)]
+#[derive(Clone, Copy)]
 pub struct Answer {
     pub number: u8,
     pub word: u16,
@@ -42,14 +42,14 @@ pub struct Answer {
 }
 
 // What an access by the host leaves, besides the memory.
-#[derive(Drop)]
+#[derive(Clone, Copy)]
 pub struct Outcome {
     pub answer: Answer,
     pub registers: Registers,
 }
 
 // An access before its cycle: what it will answer, the registers with the written bytes, the cycle that is due.
-#[derive(Drop)]
+#[derive(Clone, Copy)]
 pub struct Begun {
     pub word: u16,
     pub hollow: bool,
@@ -58,7 +58,7 @@ pub struct Begun {
 }
 
 // What a cycle leaves, besides the memory.
-#[derive(Drop)]
+#[derive(Clone, Copy)]
 pub struct Carried {
     pub registers: Registers,
     pub cycle: Cycle,

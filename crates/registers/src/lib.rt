@@ -12,7 +12,7 @@ pub use processor::{processor_read, processor_write, reset};
 pub use parts::{high_half_of, low_half_of, read_register, set_latch, set_pointer, write_register};
 use words::BitAddress;
 
-#[derive(Drop)]
+#[derive(Clone, Copy)]
 pub struct Registers {
     // HSTADRL is its low half, HSTADRH its high half.
     pub pointer: BitAddress,
@@ -26,21 +26,21 @@ pub struct Registers {
 }
 
 // What a read by the processor answers.
-#[derive(Drop)]
+#[derive(Clone, Copy)]
 pub struct ProcessorRead {
     pub number: u8,
     pub word: u16,
 }
 
 // What a write by the processor leaves.
-#[derive(Drop)]
+#[derive(Clone, Copy)]
 pub struct ProcessorWrite {
     pub number: u8,
     pub registers: Registers,
 }
 
 // What reset leaves.
-#[derive(Drop)]
+#[derive(Clone, Copy)]
 pub struct Woken {
     pub registers: Registers,
     pub bus: Bus,

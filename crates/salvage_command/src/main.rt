@@ -14,7 +14,7 @@ use pieces::{Progress, take_piece};
 use report::{Report, say, say_stuck, say_unread};
 
 // What a turn leaves for the next one, besides the bytes that are held.
-#[derive(Drop)]
+#[derive(Clone, Copy)]
 struct Turn {
     progress: Progress,
     // How many bytes are laid out to be written.

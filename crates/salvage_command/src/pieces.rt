@@ -8,7 +8,7 @@ use salvage::salvage_transcript;
 use words::least;
 
 // How far an input is salvaged. The bytes that are held stand at the front of the piece.
-#[derive(Drop)]
+#[derive(Clone, Copy)]
 pub(crate) struct Progress {
     pub(crate) kept: u64,
     pub(crate) gone: u64,
@@ -17,7 +17,7 @@ pub(crate) struct Progress {
 }
 
 // The progress after a piece, and how many bytes are to be written of it.
-#[derive(Drop)]
+#[derive(Clone, Copy)]
 pub(crate) struct Taken {
     pub(crate) progress: Progress,
     pub(crate) wrote: usize,

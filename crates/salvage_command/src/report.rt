@@ -2,7 +2,7 @@
 ghost use Rattle.salvage_command.specs.Turning.{Tells};
 
 // The records that were kept, the bytes that were left, and what stopped it.
-#[derive(Drop)]
+#[derive(Clone, Copy)]
 pub(crate) struct Report {
     pub(crate) kept: u64,
     pub(crate) left: u64,

@@ -3,7 +3,7 @@
 // `transcript_spec`.
 
 // What salvage answers. Under number 24 the other parts are 0.
-#[derive(Drop)]
+#[derive(Clone, Copy)]
 pub struct Salvaged {
     // 0, or 24 where the bytes that are lent are too few.
     pub number: u8,

@@ -68,14 +68,14 @@ pub use reading::read_line;
 use registers::Registers;
 
 // A line of a script.
-#[derive(Drop)]
+#[derive(Clone, Copy)]
 pub enum Line {
     Good(Call),
     Bad,
 }
 
 // A call of a script.
-#[derive(Drop)]
+#[derive(Clone, Copy)]
 pub struct Call {
     pub letter: u8,
     pub a: u32,
@@ -85,7 +85,7 @@ pub struct Call {
 }
 
 // What a run holds, besides the room and the list: how much of them is lent is the smaller of the number here and what there is.
-#[derive(Drop)]
+#[derive(Clone, Copy)]
 pub struct State {
     pub registers: Registers,
     pub bus: Bus,
@@ -94,7 +94,7 @@ pub struct State {
 }
 
 // What a call answers, and the state that it leaves.
-#[derive(Drop)]
+#[derive(Clone, Copy)]
 pub struct Done {
     pub state: State,
     pub number: u8,

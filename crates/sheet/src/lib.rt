@@ -9,7 +9,7 @@ use registers::Registers;
 pub use sheets::strike_sheet;
 
 // What the reads of some ticks leave, besides the memory and the ticks themselves: whether any of them was hollow.
-#[derive(Drop)]
+#[derive(Clone, Copy)]
 pub(crate) struct TicksRead {
     pub(crate) registers: Registers,
     pub(crate) hollow: bool,

@@ -4,7 +4,7 @@
 use registers::Registers;
 
 // The time that a watch strikes: hours 1 to 12, quarters 0 to 3, minutes 0 to 14. Any other is refused.
-#[derive(Drop)]
+#[derive(Clone, Copy)]
 pub struct TimeStruck {
     pub hours: u32,
     pub quarters: u32,
@@ -13,7 +13,7 @@ pub struct TimeStruck {
 
 // What a sheet leaves, besides the list of times. `rule` is the rule by which its strokes were counted, 1 or 2; `strokes` counts the
 // places of the list that took a time. A refused sheet has 0 for both.
-#[derive(Drop)]
+#[derive(Clone, Copy)]
 pub struct Sheet {
     pub number: u8,
     pub rule: u32,

@@ -5,7 +5,7 @@ use transcript_spec::Part;
 
 // How far a stream is read, between two deliveries. It starts fresh, and each call hands it back. A caller could make any other, and is
 // answered too, as if the stream had come to just this.
-#[derive(Drop)]
+#[derive(Clone, Copy)]
 pub struct Stream {
     // How far the record is read that is being read.
     pub part: Part,
@@ -18,7 +18,7 @@ pub struct Stream {
 }
 
 // What a delivery answers, and what the end does.
-#[derive(Drop)]
+#[derive(Clone, Copy)]
 pub struct Streamed {
     pub number: u8,
     // How many entries were handed out: those of the good records that this delivery finished, also under 21 to 23.

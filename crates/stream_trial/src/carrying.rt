@@ -14,7 +14,7 @@ use stream_spec::{Stream, Streamed};
 const BLANK: [u32; 6] = [0xEEEEEEEE; 6];
 
 // What a record leaves: what the call answered, with the stream, and the four lists.
-#[derive(Drop)]
+#[derive(Clone, Copy)]
 pub(crate) struct Left {
     pub answer: Streamed,
     pub kinds: [u32; 6],

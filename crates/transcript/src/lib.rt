@@ -12,7 +12,7 @@ pub use records::judge_entry;
 pub use writing::write_transcript;
 
 // What the writer says of one entry: number 2, 3 or 22, or 0; and how many bytes its record has, 0 where it is refused.
-#[derive(Drop)]
+#[derive(Clone, Copy)]
 pub struct JudgedEntry {
     pub number: u8,
     pub size: usize,

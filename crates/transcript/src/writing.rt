@@ -12,7 +12,7 @@ use transcript_spec::Transcribed;
 
 // What judging a list finds: the refusal of its first bad entry and that one's index, or 0 and 0; and how many bytes the records of the
 // entries before it have, or of all where none is bad.
-#[derive(Drop)]
+#[derive(Clone, Copy)]
 struct Judged {
     number: u8,
     place: usize,

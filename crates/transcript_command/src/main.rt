@@ -84,7 +84,7 @@ fn exchange(
 }
 
 // The way that an argument names.
-#[derive(Drop)]
+#[derive(Clone, Copy)]
 pub enum Way {
     Bytes,
     Lines,

@@ -6,7 +6,7 @@ mod turning;
 pub use turning::{bytes_to_lines, lines_to_bytes};
 
 // What became of an input.
-#[derive(Drop)]
+#[derive(Clone, Copy)]
 pub enum Turned {
     // It is turned: so many bytes stand in the output.
     Done(usize),

@@ -10,7 +10,7 @@ pub use putting::put_lines;
 pub use taking::{judge_lines, take_lines};
 
 // What taking the lines of a text answers.
-#[derive(Drop)]
+#[derive(Clone, Copy)]
 pub enum LinesTaken {
     // All lines are good: so many entries stand in the lists.
     Taken(usize),
@@ -21,7 +21,7 @@ pub enum LinesTaken {
 }
 
 // What putting the lines of a list answers.
-#[derive(Drop)]
+#[derive(Clone, Copy)]
 pub enum LinesPut {
     // A line says each entry: so many bytes stand in the text.
     Written(usize),

@@ -10,7 +10,7 @@ use transcript_spec::{Part, Step};
 // How far a string is read: how many good records it finishes, up to its first bad one; where the record begins that is read last, 0 if
 // that one was begun before the string; how many bytes are read; how far that record is read; and its refusal, or 0. Behind a bad record
 // nothing is read.
-#[derive(Drop)]
+#[derive(Clone, Copy)]
 pub struct ScannedOn {
     pub entries: usize,
     pub place: usize,
@@ -21,7 +21,7 @@ pub struct ScannedOn {
 
 // What a string holds: how many good records up to the first bad one, where that one begins, and its refusal. Where none is bad, that is
 // the end of the string, and 0.
-#[derive(Drop)]
+#[derive(Clone, Copy)]
 pub struct Scanned {
     pub entries: usize,
     pub place: usize,

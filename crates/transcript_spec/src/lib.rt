@@ -2,7 +2,7 @@
 // its types, what it means (specs/) and the laws of that (proofs/); the code is crate `transcript`.
 
 // One access of a list: kind 0 reads and kind 1 writes. Any numbers can be given, and are judged by the writer.
-#[derive(Drop)]
+#[derive(Clone, Copy)]
 pub struct Entry {
     pub kind: u32,
     pub register: u32,
@@ -12,7 +12,7 @@ pub struct Entry {
 
 // What the writer and the reader answer. `count` is the bytes that were written, or the entries that were read. A refused call has count
 // 0, and `place` is that of the first bad record: its index for the writer, its first byte for the reader; 0 under number 24.
-#[derive(Drop)]
+#[derive(Clone, Copy)]
 pub struct Transcribed {
     pub number: u8,
     pub count: usize,
@@ -20,7 +20,7 @@ pub struct Transcribed {
 }
 
 // A number that is being read, group by group.
-#[derive(Drop)]
+#[derive(Clone, Copy)]
 pub struct Number {
     // Some of its bytes were read.
     pub begun: bool,
@@ -31,7 +31,7 @@ pub struct Number {
 }
 
 // How far a record is read, between two bytes.
-#[derive(Drop)]
+#[derive(Clone, Copy)]
 pub enum Part {
     // Before its head, or within it.
     Head(Number),
@@ -40,7 +40,7 @@ pub enum Part {
 }
 
 // What a byte makes of a part.
-#[derive(Drop)]
+#[derive(Clone, Copy)]
 pub enum Step {
     // The record goes on.
     Goes(Part),

@@ -9,7 +9,7 @@ use transcript::{read_transcript, write_transcript};
 use transcript_spec::Transcribed;
 
 // What a record leaves, but for its string: what the call answered, and the four lists.
-#[derive(Drop)]
+#[derive(Clone, Copy)]
 pub(crate) struct Left {
     pub answer: Transcribed,
     pub kinds: [u32; 6],

@@ -7,14 +7,14 @@ use crate::setting::first_state;
 use script::{Line, State, put_line, read_line};
 
 // The state after some lines, and how many of them were carried out.
-#[derive(Drop)]
+#[derive(Clone, Copy)]
 struct Ran {
     state: State,
     calls: usize,
 }
 
 // The state after a buffer of the script, and whether there may be more of it.
-#[derive(Drop)]
+#[derive(Clone, Copy)]
 struct Turn {
     state: State,
     more: bool,

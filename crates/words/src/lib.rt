@@ -6,15 +6,15 @@ ghost use Rattle.words.specs.Bytes.{lo, hi, bit, takes_low, takes_high, are_lane
 ghost use Rattle.words.specs.Memory.{over_limit, fetch_at, Stored};
 
 // An address that counts bits. The pointer is one; all its 32 bits are kept.
-#[derive(Drop)]
+#[derive(Clone, Copy)]
 pub struct BitAddress(pub u32);
 
 // A number that counts 16-bit words: sixteen bit addresses lie in each.
-#[derive(Drop)]
+#[derive(Clone, Copy)]
 pub struct WordNumber(pub u32);
 
 // What a fetch finds: the word, or the filler FFFFh where memory has no such word.
-#[derive(Drop)]
+#[derive(Clone, Copy)]
 pub struct Fetched {
     pub word: u16,
     pub inside: bool,
