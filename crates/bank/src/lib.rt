@@ -1,5 +1,7 @@
 // The bank selects of the TMS34094: document 02, request (vi). What the port to their registers and a decode mean, and the laws of that,
 // are crate `bank_spec`; here is the code of the three calls.
+#![tactic(auto)]
+
 mod accessing;
 mod decoding;
 mod places;

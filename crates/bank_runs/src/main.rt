@@ -2,6 +2,8 @@
 // outside each range; the order of the places; byte accesses and lanes that are none; each kind of cycle by each part of the control word.
 // Each call prints a line: what it was asked, a write with its word, and what it answered.
 // The stored output was worked out by hand, from source document 001 and documents 01 and 02.
+#![tactic(auto)]
+
 mod calling;
 mod control;
 mod map;

@@ -2,6 +2,8 @@
 // four banks of devices on a board's local bus whether a cycle is for them, each by its own compare value and mask. Here stand the types,
 // what the port to these registers and a decode answer (specs/) and the laws of that (proofs/); the code is crate `bank`.
 
+#![tactic(auto)]
+
 // One bank: what the local address is compared with.
 #[derive(Clone, Copy)]
 pub struct Bank {

@@ -19,6 +19,8 @@
 // selected banks, one digit whose bit n is bank n; then, as the record left them: the index, eight; compare value 0, mask 0, compare
 // value 1, mask 1, .. mask 3, eight digits each; then a line feed. A fresh start answers number 0, word 0, no bank; a decode answers word 0
 // and leaves the port; reads and writes answer no bank.
+#![tactic(auto)]
+
 mod carrying;
 mod printing;
 mod reading;

@@ -3,6 +3,8 @@
 //
 // A block is its single accesses, one after another. Those that step from word to word inside memory are done by
 // copying; the others, where the pointer stays or leaves memory, go one by one.
+#![tactic(auto)]
+
 mod copying;
 mod judging;
 mod reading;

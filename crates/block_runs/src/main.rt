@@ -1,6 +1,8 @@
 // Blocks at their edges: the end of memory, a pointer that stands still or comes round, the first read after reset, and refusals.
 // Each block prints its answer, the pointer and HSTDATA that it leaves, and then the list or the memory.
 // The stored output was worked out by hand from document 01, "The four host registers" and "Blocks and the two doors".
+#![tactic(auto)]
+
 use block_spec::{BlockRead, BlockWrite};
 use registers::Registers;
 use words::BitAddress;

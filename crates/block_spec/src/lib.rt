@@ -1,6 +1,8 @@
 // Blocks: a count of two-lane reads of HSTDATA into a part of the caller's list, or of writes from one.
 // Document 01, "Blocks and the two doors". Here stand the types, what a block means (specs/) and the laws of that (proofs/); the code is
 // crate `block`.
+#![tactic(auto)]
+
 use registers::Registers;
 
 // What a block read leaves, besides the list. `hollows` counts the hollow words handed out.

@@ -1,5 +1,7 @@
 // The five sources of bus requests, and the order in which they are granted: document 01, "Bus order".
 // A source is a number, so that any can be given: one that is not 0 to 4 is refused.
+#![tactic(auto)]
+
 ghost use Rattle.std.specs.Prelude.{◌≡◌, cond};
 ghost use Rattle.bus.specs.Order.{quiet, waits, with_source, highest, asked, granted, released};
 

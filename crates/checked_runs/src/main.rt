@@ -2,6 +2,8 @@
 // bits that reaches a third word, which a well-known emulator of this chip gets wrong. An access by the host prints "number, word, hollow
 // or held, cycle", as `portlist` does but with small letters, and then the registers that it leaves; any other call prints its number
 // first. The stored output was worked out by hand from document 01.
+#![tactic(auto)]
+
 ghost use Rattle.std.specs.Prelude.{◌≡◌};
 ghost use Rattle.words.specs.Addresses.{address};
 ghost use Rattle.bus.specs.Order.{granted};

@@ -1,5 +1,7 @@
 // The control register HSTCTL: the bits that the port obeys, and what each side's write makes of it.
 // Document 01, "The four host registers" and "The processor's side".
+#![tactic(auto)]
+
 ghost use Rattle.std.specs.Prelude.{◌≡◌, cond, ◌≤◌};
 ghost use Rattle.words.specs.Bytes.{hi, lay};
 ghost use Rattle.control.specs.Control.{intin, intout, incw, incr, lbl, bare, low_parts, host_low, processor_low, control_laid};

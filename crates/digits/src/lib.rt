@@ -1,5 +1,7 @@
 // Digits in text, as bytes: what one stands for, and the one for a number. Document 01, "Blocks and the two doors": "decimal digit, four
 // upper-case hex digits".
+#![tactic(auto)]
+
 ghost use Rattle.std.specs.Prelude.{◌≡◌};
 ghost use Rattle.digits.specs.Digits.{is_decimal, value_of, digit_for};
 

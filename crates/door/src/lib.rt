@@ -7,6 +7,8 @@
 // Both calls go alike: judged, and refused with nothing touched; or the image loaded, the access begun, and its cycle done over
 // the lent bytes. They are two functions down to `begin_read` and `begin_write`, so that each compiles to its own access alone; and
 // a read calls for no store, so its memory is lent for reading alone.
+#![tactic(auto)]
+
 mod answer;
 mod image;
 mod memory;

@@ -3,6 +3,8 @@
 //
 // A call judges its numbers first, and refuses by number. An accepted field is then taken out of the words touched, read as
 // one number of 64 bits, or put in word by word, in numbers of 32 bits.
+#![tactic(auto)]
+
 mod bits;
 mod judging;
 mod places;

@@ -1,6 +1,8 @@
 // Fields at work: document 01's cases to run, and some more at the edges. Each call prints a line, what it was asked and what it
 // answered; putting in prints the memory too, its first three words at most.
 // The stored output was worked out by hand from document 01, "Fields" and "Numbers returned".
+#![tactic(auto)]
+
 use words::BitAddress;
 
 fn print_call(name: &[u8], size: u32, at: u32, number: u8, cycles: u32) {

@@ -1,6 +1,8 @@
 // Bit fields in a memory of 16-bit words: document 01, "Fields". Here stand the types of the answers, what a field is, bit by bit, what its
 // words cost and what each call answers (specs/), and the laws of that (proofs/); the code is crate `field`.
 
+#![tactic(auto)]
+
 // What taking out answers: the field as an unsigned number, and the memory cycles.
 #[derive(Clone, Copy)]
 pub struct Taken {

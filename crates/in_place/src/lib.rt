@@ -1,5 +1,7 @@
 // The bench keeps one register record for the day: a single host access that updates this record in place.
 // Document 01, "Blocks and the two doors".
+#![tactic(auto)]
+
 ghost use Rattle.in_place.specs.InPlace.{AccessedInPlace};
 ghost use Rattle.port_spec.specs.Host.{Accessed};
 

@@ -2,6 +2,8 @@
 // memories of every kind of length. Each access prints a line: what it was, its answer, and the pointer that it left in the record. An
 // accepted read of HSTDATA prints `held` or `hollow`, any other line `-`.
 // The stored output was worked out by hand from document 01, "The four host registers", "Numbers returned" and "Checked examples".
+#![tactic(auto)]
+
 ghost use Rattle.port_spec.specs.Host.{Accessed};
 ghost use Rattle.port_spec.specs.declared.Access.TheVariants.{Read, Write};
 ghost use Rattle.in_place_runs.specs.Script.{access_in};

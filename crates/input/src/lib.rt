@@ -1,5 +1,7 @@
 // Standard input, as the programs read it: a read behind the bytes that are held, the whole of it as far as a buffer has room, or a record
 // of a script at a time. No contract can say what is read; these say how much there is then, and what stays.
+#![tactic(auto)]
+
 mod filling;
 mod records;
 mod whole;

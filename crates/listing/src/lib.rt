@@ -1,5 +1,7 @@
 // The text of `portlist`: a line to an access, an answer to a line, a piece of input to a piece of output.
 // Document 01, "Blocks and the two doors", its last part.
+#![tactic(auto)]
+
 mod answers;
 mod lines;
 mod pieces;

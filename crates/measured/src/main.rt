@@ -4,6 +4,8 @@
 // Standard input is the script, records of four numbers, each of four bytes, low byte first. The first record's first number says
 // what the other records are: 0 accesses by the host, 1 blocks, else fields. What they answer goes into one sum. This is printed at
 // the end, with a digest of the memory, and for blocks of the list.
+#![tactic(auto)]
+
 mod numbers;
 mod sums;
 

@@ -2,6 +2,8 @@
 //
 // An access goes in two steps. `begin` works on the registers alone: it answers, lands the written
 // bytes and says which memory cycle is due. `carry` does that cycle on the lent memory.
+#![tactic(auto)]
+
 mod access;
 mod cycles;
 

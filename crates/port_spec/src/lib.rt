@@ -1,5 +1,7 @@
 // The host port of the TMS34010: an access by the host, what it is made of and what it answers. Document 01, "The four host registers".
 // Here stand its types, what it means (specs/) and the laws of that (proofs/); the code is crate `port`.
+#![tactic(auto)]
+
 use registers::Registers;
 
 // An access by the host, of register 0 to 3 on lanes 1 to 3; any other number is refused.

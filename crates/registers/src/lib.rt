@@ -1,6 +1,8 @@
 // The registers of the host port: their record, each read and written by its number; the processor's access to them, and reset.
 // Document 01, "The four host registers" (what each is, and what a write makes of it) and "The processor's side".
 // The host's own access, with its memory cycle, is crates `port_spec`, what it means, and `port`, the code.
+#![tactic(auto)]
+
 mod parts;
 mod processor;
 

@@ -1,5 +1,7 @@
 // Salvage of a damaged transcript: document 02, request (xii). What that means, and the laws of it, are crate `salvage_spec`; how a
 // transcript is looked through is crate `transcript_scan`; here is the code of the call.
+#![tactic(auto)]
+
 ghost use Rattle.salvage_spec.specs.Salvage.{SalvagedTranscript};
 
 use salvage_spec::Salvaged;

@@ -3,6 +3,8 @@
 //
 // The input comes in pieces of at most 65,540 bytes, as each read brings them. What is done with a piece is `pieces`; here are the reads,
 // the writes and the loop.
+#![tactic(auto)]
+
 mod pieces;
 mod report;
 

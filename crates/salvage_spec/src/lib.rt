@@ -2,6 +2,8 @@
 // and the laws of that (proofs/); the code is crate `salvage`. What a transcript is, and its refusals 20 to 23, are crate
 // `transcript_spec`.
 
+#![tactic(auto)]
+
 // What salvage answers. Under number 24 the other parts are 0.
 #[derive(Clone, Copy)]
 pub struct Salvaged {

@@ -14,6 +14,8 @@
 // WHAT IS PRINTED
 // is exactly 76 bytes for each record, with nothing between them: the number returned, two lower-case hexadecimal digits; the records kept,
 // four; the bytes left, four; what stopped it, two; then, as bytes and no digits, the 64 bytes to be written as the call left them.
+#![tactic(auto)]
+
 mod carrying;
 
 use carrying::carry_out;

@@ -54,6 +54,8 @@
 //   D            x: the digest of the room. y: the digest of the list
 // Any x and y not listed here is 0. N, M, L, J, G, Z and D answer number 0. A refused call: x and y 0, the state as it stood.
 // The digest of words: it starts as 0; for each word w, in order of their places, h becomes (h * 31 + w) mod 2^32.
+#![tactic(auto)]
+
 mod letters;
 mod printing;
 mod reading;

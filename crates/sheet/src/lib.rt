@@ -1,5 +1,7 @@
 // The reader of a strike sheet. What a sheet means, and the laws of that, are crates `sheet_spec` and `tempo_spec`; here is the code. It
 // stands on the single access of crate `port`.
+#![tactic(auto)]
+
 mod judging;
 mod reading;
 mod sheets;

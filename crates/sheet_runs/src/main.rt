@@ -2,6 +2,8 @@
 // stroke, all 29 strokes of rule 1 and all 32 of rule 2, both rules with quarters and without, and each refusal. Each sheet prints its
 // answer, the pointer and HSTDATA that it leaves, and then the list of times.
 // The stored output was worked out by hand from document 02, requests (viii) and (ix).
+#![tactic(auto)]
+
 mod longest;
 mod printing;
 mod striking;

@@ -1,6 +1,8 @@
 // A strike sheet: a minute repeater's table of strokes, read through the port and judged, and the even-tempo times of its strokes.
 // Document 02, requests (viii) and (ix). Here stand its types, what it means (specs/) and the laws of that (proofs/); the code is crate
 // `sheet`.
+#![tactic(auto)]
+
 use registers::Registers;
 
 // The time that a watch strikes: hours 1 to 12, quarters 0 to 3, minutes 0 to 14. Any other is refused.

@@ -35,6 +35,8 @@
 //   the bit patterns of all 36 places of the list, sixteen each;
 //   a line feed.
 // The room is not printed: that a sheet leaves its memory as it was is proved.
+#![tactic(auto)]
+
 mod carrying;
 mod printing;
 mod reading;

@@ -1,6 +1,8 @@
 // Transcripts off the serial line: document 02, request (vii). The bytes of a transcript come in deliveries, cut anywhere, and their reader
 // keeps its place from one to the next. Here stand its types, what a delivery and the end answer and leave (specs/) and the laws of that
 // (proofs/); the code is crate `stream`. What a transcript is, and its refusals 20 to 24, are crate `transcript_spec`.
+#![tactic(auto)]
+
 use transcript_spec::Part;
 
 // How far a stream is read, between two deliveries. It starts fresh, and each call hands it back. A caller could make any other, and is

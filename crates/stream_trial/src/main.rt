@@ -21,6 +21,8 @@
 // eight; `ended`, one (0 or 1); `from`, eight; `taken`, eight; then the 24 numbers of the lists as the call left them, eight digits each:
 // six kinds, six registers, six lanes, six words; then a line feed. A fresh start answers number 0, count 0, place 0; it and the end leave
 // the lists untouched.
+#![tactic(auto)]
+
 mod carrying;
 mod printing;
 mod reading;

@@ -8,6 +8,8 @@
 // output stays empty, and a line on standard error says what and where.
 //
 // There is room for 32,768 accesses: as lines they have at most 360,448 bytes, and as a transcript at most 131,072.
+#![tactic(auto)]
+
 mod messages;
 
 ghost use Rattle.std.specs.Prelude.{take};

@@ -1,5 +1,7 @@
 // A list of accesses from one of its forms to the other: the lines of `portlist`, and the bytes of a transcript. Document 02, request
 // (ii): "The benches swap lists of host accesses as text. We want the compact form".
+#![tactic(auto)]
+
 mod judging;
 mod turning;
 

@@ -1,6 +1,8 @@
 // The lines of `portlist` to a list of entries of a transcript, and back: each entry has one line, `R reg lanes` for a read and
 // `W reg lanes hhhh` for a write. It is the text side of the program `transcript`. What the calls judge by is public too, for whoever
 // has to know an answer before a list or a byte is touched.
+#![tactic(auto)]
+
 mod lines;
 mod putting;
 mod taking;

@@ -1,6 +1,8 @@
 // A list of accesses as a call is lent it, one slice of numbers for each part: how many entries it holds, one of them taken out, one put
 // in, and whether its kind and word can be said at all. Document 02, request (ii). Both forms of a list, the bytes of crate `transcript`
 // and the lines of crate `transcript_lines`, are made from it and turned into it.
+#![tactic(auto)]
+
 ghost use Rattle.std.specs.Prelude.{◌≡◌, min, get_or, set};
 ghost use Rattle.transcript_spec.specs.Lists.{lists, entry_at, with_entry};
 ghost use Rattle.transcript_spec.specs.Writing.{no_record};

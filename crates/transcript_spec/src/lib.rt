@@ -1,6 +1,8 @@
 // A transcript: a list of host accesses as bytes, in a compact form that both benches can exchange. Document 02, request (ii). Here stand
 // its types, what it means (specs/) and the laws of that (proofs/); the code is crate `transcript`.
 
+#![tactic(auto)]
+
 // One access of a list: kind 0 reads and kind 1 writes. Any numbers can be given, and are judged by the writer.
 #[derive(Clone, Copy)]
 pub struct Entry {

@@ -15,6 +15,8 @@
 // WHAT IS PRINTED
 // is exactly 170 bytes for each record, with nothing between them: the number returned, two lower-case hexadecimal digits; the count,
 // four; the place, four; then, as bytes and no digits, the lists and the string as the call left them, laid out as in the record.
+#![tactic(auto)]
+
 mod carrying;
 mod printing;
 mod reading;

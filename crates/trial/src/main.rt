@@ -1,6 +1,8 @@
 // Carries out a script of calls, read from standard input, and prints what each call answers and leaves: crates/script/src/lib.rt says
 // what a script is and what is printed. A second program, written in plain Rust from document 01 alone, does the same; `second/compare`
 // holds what both print against each other.
+#![tactic(auto)]
+
 mod block_calls;
 mod bus_calls;
 mod calls;

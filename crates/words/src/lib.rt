@@ -1,5 +1,7 @@
 // Bit addresses and word numbers; bytes, lanes and bits of a 16-bit word; one word of the lent memory.
 // Document 01, "Memory and addresses", and what "The four host registers" says of lanes.
+#![tactic(auto)]
+
 ghost use Rattle.std.specs.Prelude.{◌≡◌, ◌+◌, ◌*◌, min, ◌&&◌, ◌||◌, if◌then◌else◌};
 ghost use Rattle.words.specs.Addresses.{word_at, step};
 ghost use Rattle.words.specs.Bytes.{lo, hi, bit, takes_low, takes_high, are_lanes, lay, shown, replaced};
