@@ -28,7 +28,11 @@ touched_by-count-requires c = sized _ (passed c.is_no_size.ensures c.if-is_no_si
 pub returns-then-count-gt3 : goal.returns-then-count-gt3
 unfolding refusal
 returns-then-count-gt3 c =
-    rw (passed c.is_over_limit.ensures c.if-is_over_limit.false, passed c.is_no_size.ensures c.if-is_no_size.false, lt-ltb _ _ (rw c.touched_by-count.ensures at c.if-count-gt3.true))
+    rw (
+      passed c.is_over_limit.ensures c.if-is_over_limit.false,
+      passed c.is_no_size.ensures c.if-is_no_size.false,
+      lt-ltb _ _ (rw c.touched_by-count.ensures at c.if-count-gt3.true),
+    )
 
 pub overflow_add-last : goal.overflow_add-last
 overflow_add-last c = rw c.word_of.ensures (search rules)

@@ -17,8 +17,11 @@ put_part-requires-2 c =
     (rw c.word_of-word.ensures (omega (arith, c.requires.there)), omega arith, omega arith)
 
 pub put_part-requires-then-end-le32 : goal.put_part-requires-then-end-le32
-put_part-requires-then-end-le32 c =
-    (rw (c.word_of-word.ensures, c.put_part-2.ensures, part_length) (omega (arith, c.requires.there, c.if-end-le16.false)), omega (arith, c.if-end-le32.true), omega arith)
+put_part-requires-then-end-le32 c = (
+  rw (c.word_of-word.ensures, c.put_part-2.ensures, part_length) (omega (arith, c.requires.there, c.if-end-le16.false)),
+  omega (arith, c.if-end-le32.true),
+  omega arith,
+)
 
 pub overflow_add-result : goal.overflow_add-result
 overflow_add-result c =
@@ -28,12 +31,21 @@ overflow_add-result c =
 
 pub returns-then-end-le32 : goal.returns-then-end-le32
 returns-then-end-le32 c =
-    rw (c.cost_of-then-end-le32.ensures, c.cost_of-then-end-le32-2.ensures, c.put_part-then-end-le32.ensures, c.put_part-2.ensures, c.word_of-word.ensures)
+    rw (
+      c.cost_of-then-end-le32.ensures,
+      c.cost_of-then-end-le32-2.ensures,
+      c.put_part-then-end-le32.ensures,
+      c.put_part-2.ensures,
+      c.word_of-word.ensures,
+    )
     (in_two _ _ _ _ c.requires c.if-end-le16.false c.if-end-le32.true)
 
 pub put_part-requires-3 : goal.put_part-requires-3
-put_part-requires-3 c =
-    (rw (c.word_of-word.ensures, c.put_part-2.ensures, part_length) (omega (arith, c.requires.there, c.if-end-le16.false)), omega arith, omega arith)
+put_part-requires-3 c = (
+  rw (c.word_of-word.ensures, c.put_part-2.ensures, part_length) (omega (arith, c.requires.there, c.if-end-le16.false)),
+  omega arith,
+  omega arith,
+)
 
 pub put_part-requires-4 : goal.put_part-requires-4
 put_part-requires-4 c = (
