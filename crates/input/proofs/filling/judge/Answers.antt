@@ -9,12 +9,10 @@ use lib.ListN.{length, take, drop, length-drop}
 use lib.Seq.{length-take-le}
 use lib.Signed.{lt_z}
 use mir.ValLaws.{to_z-of_z}
-use borrow.Author.Rules.{rules}
 use borrow.Author.Tests.{ltb-true}
 use Rattle.io.specs.Counts.{clamp_len}
 use Rattle.input.specs.Filling.{answered}
-use Rattle.input.proofs.filling.judge.Statement.{statement}
-use Rattle.input.proofs.filling.judge.Tie as tie
+use Rattle.input.proofs.filling.judge.Goals as goal
 
 below : (z : ℤ) (held room : ℕ) → lt_z z (pos 0) ≡ true → record { all = held; failed = true } ≡ answered z held room
 unfolding answered
@@ -34,43 +32,21 @@ room held b = length (take (length b - held) (drop held b))
 room-is : (held : ℕ) (b : List ℕ) → room held b ≡ length b - held
 room-is held b = length-take-le (length b - held) (drop held b) (omega (arith, length-drop held b))
 
-returns : tie.Need-returns
+pub returns-then-got-lt0 : goal.returns-then-got-lt0
+returns-then-got-lt0 c =
+    below c.args.got c.args.held _ (ap (λ (z : ℤ). lt_z z (pos 0)) (sym (to_z-of_z _ _ c.ranges.got)) ∙ c.if-got-lt0.true)
+
+pub returns : goal.returns
 returns c =
-    let start = c.before.before in
-    below start.args.got start.args.held _ (ap (λ (z : ℤ). lt_z z (pos 0)) (sym (to_z-of_z _ _ start.ranges.got)) ∙ c.if1.true)
-
-sub-count : tie.Need-overflow-sub-count
-sub-count c = search rules
-
-part-count-start : tie.Need-slice-bounds-count-start
-part-count-start c = search rules
-
-part-count-end : tie.Need-slice-bounds-count-end
-part-count-end c = search rules
-
-count-requires : tie.Need-count-requires
-count-requires c κs = search rules
-
-add-all : tie.Need-overflow-add-all
-add-all c = search rules
-
-returns-2 : tie.Need-returns-2
-returns-2 c =
-    let start = c.before.before.before.before in
-    let held = start.args.held in
-    let buffer = start.args.buffer.now in
-    let as_it_was = to_z-of_z _ _ start.ranges.got in
+    let held = c.args.held in
+    let buffer = c.args.buffer.now in
+    let as_it_was = to_z-of_z _ _ c.ranges.got in
     counted
-    start.args.got
+    c.args.got
     held
     (length buffer - held)
-    c.count.result
-    (ap (λ (z : ℤ). lt_z z (pos 0)) (sym as_it_was) ∙ c.before.before.if1.false)
-    (c.count.ensures.1 ∙
+    c.count-n.result
+    (ap (λ (z : ℤ). lt_z z (pos 0)) (sym as_it_was) ∙ c.if-got-lt0.false)
+    (c.count-n.ensures.value ∙
     ap (λ (z : ℤ). clamp_len z (room held buffer)) as_it_was ∙
-    ap (clamp_len start.args.got) (room-is held buffer))
-
-pub judge-spec : {M : Type 1} → statement M
-judge-spec =
-    tie.close
-    (tie.spec returns sub-count part-count-start part-count-end count-requires add-all returns-2)
+    ap (clamp_len c.args.got) (room-is held buffer))
