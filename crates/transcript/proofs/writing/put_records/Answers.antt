@@ -1,26 +1,18 @@
 -- `transcript::writing::put_records` meets its contract: at entry i the bytes lack just the records from there on.
-use Prim.Native.Nat.{ℕ, ◌+◌, ◌-◌, ◌≤◌, ◌<◌}
+use Prim.Native.Nat.{ℕ, ◌+◌, ◌≤◌, ◌<◌}
 use native.Mathlib.Omega.{arith}
 use mathlib.Core.Path.{◌≡◌, refl, ap, ◌∙◌}
 use mathlib.Core.List.{List, ◌∷◌, ◌++◌}
 use lib.ListN.{length, length-append}
-use lib.Seq.{sets}
 use Rattle.transcript_spec.specs.Format.{record_of, transcript_of}
 use Rattle.transcript_spec.specs.InPlainWords.{AllGood}
-use Rattle.transcript_spec.specs.Lists.{Lists, lists, entry_at, entries_from, over}
+use Rattle.transcript_spec.specs.Lists.{Lists, entry_at, entries_from, over}
 use Rattle.transcript_spec.specs.declared.Entry.{Entry}
 use Rattle.transcript.specs.WriterParts.{Put, Writable}
 use Rattle.transcript_spec.proofs.EntriesLeft.{left, all_left, next_left, none_left}
 use Rattle.transcript.proofs.Putting.{sets_behind, put_length, put_front}
-use Rattle.transcript.proofs.writing.put_records.Statement.{statement}
-use Rattle.transcript.proofs.writing.put_records.Tie as tie
-
-record Writing (l : Lists) (n : ℕ) (bytes₀ bytes : List ℕ) (at i : ℕ) : Type 0 where
-  most : i ≤ n
-  room : length bytes ≡ length bytes₀
-  good : AllGood (left l n i)
-  fits : at + length (transcript_of (left l n i)) ≤ length bytes₀
-  same : sets bytes at (transcript_of (left l n i)) ≡ over (transcript_of (entries_from l 0 n)) bytes₀
+use Rattle.transcript.proofs.writing.put_records.Invariants.{Writing}
+use Rattle.transcript.proofs.writing.put_records.Goals as goal
 
 begun : {l : Lists} {n : ℕ} {bytes : List ℕ} → Writable l n bytes → Writing l n bytes bytes 0 0
 begun {l} {n} {bytes} w =
@@ -70,56 +62,22 @@ module _ {l : Lists} {n : ℕ} {bytes₀ bytes : List ℕ} {at i : ℕ} (w : Wri
   unfolding transcript_of
   ended h = rw (none_left l n i h) at w.same
 
-abbrev invariant-loop : tie.invariant-loop
-invariant-loop kinds registers lanes words n bytes₀ at₀ i₀ bytes at i = Writing (lists kinds registers lanes words) n bytes₀ bytes at i
+pub loop-i-init : goal.loop-i-init
+loop-i-init c =
+    begun c.requires
 
-abbrev decreases-loop : tie.decreases-loop
-decreases-loop kinds registers lanes words n bytes₀ at₀ i₀ bytes at i = n - i
+pub put_record-at-requires : goal.put_record-at-requires
+put_record-at-requires c =
+    let w = c.loop-i.invariant in
+    let more = c.loop-i-test.true in
+    ((is_good w more _ c.entry_at-e.ensures).0, has_room w more _ c.entry_at-e.ensures)
 
-loop-holds : tie.Need-loop-init invariant-loop decreases-loop
-loop-holds c =
-    let start = c.before.before.before.before.before in
-    begun start.requires
+pub loop-i-preserved : goal.loop-i-preserved
+loop-i-preserved c =
+    turned c.loop-i.invariant c.loop-i-test.true _ c.entry_at-e.ensures c.put_record-at.ensures
 
-entry-at-requires : tie.Need-entry-at-requires invariant-loop decreases-loop
-entry-at-requires c κs = tt
+pub shape_of-bytes : goal.shape_of-bytes
+shape_of-bytes c = c.loop-i.invariant.room
 
-put-record-requires : tie.Need-put-record-requires invariant-loop decreases-loop
-put-record-requires c κs =
-    let taken = c.before in
-    let w = taken.before.before.loop.invariant in
-    let more = taken.before.loop-test.true in
-    ((is_good w more _ taken.entry_at.ensures).0, has_room w more _ taken.entry_at.ensures)
-
-add-i : tie.Need-overflow-add-i invariant-loop decreases-loop
-add-i c = omega arith
-
-loop-less : tie.Need-loop-smaller invariant-loop decreases-loop
-loop-less c = omega arith
-
-loop-again : tie.Need-loop-preserved invariant-loop decreases-loop
-loop-again c =
-    let put = c.before.before in
-    let taken = put.before.before in
-    turned taken.before.before.loop.invariant taken.before.loop-test.true _ taken.entry_at.ensures put.put_record.ensures
-
-same_length : tie.Need-same-length invariant-loop decreases-loop
-same_length c = c.before.loop.invariant.room
-
-returns : tie.Need-returns invariant-loop decreases-loop
-returns c = ended c.before.loop.invariant (omega arith)
-
-pub put-records-spec : {M : Type 1} → statement M
-put-records-spec =
-    tie.close
-    (tie.spec
-    invariant-loop
-    decreases-loop
-    loop-holds
-    entry-at-requires
-    put-record-requires
-    add-i
-    loop-less
-    loop-again
-    same_length
-    returns)
+pub returns : goal.returns
+returns c = ended c.loop-i.invariant (omega arith)
