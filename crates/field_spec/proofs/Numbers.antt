@@ -13,7 +13,7 @@ use Rattle.words.specs.declared.BitAddress.{BitAddress}
 use Rattle.field_spec.specs.Count.{last_word, touched}
 use Rattle.field_spec.specs.InPlainWords.{Missing}
 use Rattle.field_spec.proofs.Counted.{missing_last, last_missing}
-use Rattle.field_spec.specs.Answers.{no_size, refusal, taken, taken_signed, put_answer, put_memory}
+use Rattle.field_spec.specs.Answers.{refusal, taken, taken_signed, put_answer, put_memory}
 use Rattle.field_spec.specs.declared.Taken.{Taken}
 use Rattle.field_spec.specs.declared.SignedTaken.{SignedTaken}
 use Rattle.field_spec.specs.declared.Put.{Put}

@@ -3,6 +3,7 @@ ghost use Rattle.std.specs.Prelude.{◌≡◌, ◌-◌, ◌≤◌, length};
 ghost use Rattle.input.specs.Filling.{answered, FilledBehind};
 
 use crate::Filled;
+use std::io::{ErrorKind, Read, Stdin};
 
 // What a read answered that was made behind the first `held` bytes of a buffer.
 pub(crate) fn judge(got: isize, held: usize, buffer: &[u8]) -> Filled
@@ -18,9 +19,24 @@ pub(crate) fn judge(got: isize, held: usize, buffer: &[u8]) -> Filled
     Filled { all, failed: false }
 }
 
+// One read into the bytes that are lent: how many it brought, or a number below 0 where it failed. One that a signal interrupts has brought
+// nothing, and is made again.
+fn read_once(bytes: &mut [u8], mut from: Stdin) -> isize
+    ensures { length bytes.new ≡ length bytes.old }
+{
+    for _ in 0..u64::MAX {
+        match from.read(bytes) {
+            Ok(n) => return n as isize,
+            Err(e) if e.kind() == ErrorKind::Interrupted => {}
+            Err(_) => return -1,
+        }
+    }
+    -1
+}
+
 // One read behind the first `held` bytes of a buffer, which stay. Where it brings nothing and has not failed, the input has ended. Without
 // room for a byte more nothing is read, and it has failed.
-pub fn fill(buffer: &mut [u8], held: usize) -> Filled
+pub fn fill(buffer: &mut [u8], held: usize, from: Stdin) -> Filled
     ensures { FilledBehind buffer.old held result buffer.new }
 {
     if buffer.len() <= held {
@@ -29,6 +45,6 @@ pub fn fill(buffer: &mut [u8], held: usize) -> Filled
             failed: true,
         };
     }
-    let got = libc::read(0, &mut buffer[held..]);
+    let got = read_once(&mut buffer[held..], from);
     judge(got, held, buffer)
 }

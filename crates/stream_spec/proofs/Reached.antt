@@ -10,7 +10,7 @@ use mathlib.Core.List.{List, [], ◌++◌}
 use mathlib.Core.Logic.{◌↔◌, inr}
 use lib.ListN.{length, length-append}
 use Rattle.words.specs.Bytes.{AreBytes}
-use Rattle.transcript_spec.specs.Lists.{Lists, lists, size}
+use Rattle.transcript_spec.specs.Lists.{Lists, size}
 use Rattle.transcript_spec.specs.Reading.{start, feeds}
 use Rattle.transcript_spec.proofs.Bytes.{bytes_none, bytes_joined}
 use Rattle.transcript_spec.proofs.HowFar.{goes_further}

@@ -1,5 +1,6 @@
 -- The even-tempo times of the strokes between two ticks: document 02, 'The strike sheet'.
--- The arithmetic is that of Rust's `f64`, as `lib.Ieee` defines it: an operation works out its exact result and rounds it once.
+-- The arithmetic is that of Rust's `f64`, as `Rattle.std.specs.Float.Ieee` defines it: an operation works out its exact result and
+-- rounds it once.
 --   double n                          the whole number n in double precision
 --   quotient span k gaps              the span times k over the gaps between the strokes
 --   offset first last strokes k       how far stroke k lies after the first tick

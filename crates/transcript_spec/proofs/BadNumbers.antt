@@ -67,7 +67,7 @@ word_number (plain.BadWord.over h k) = (omega arith, omega arith)
 pub record_number : {s : List ℕ} {n : ℕ} → BadRecord s n → (20 ≤ n) × (n ≤ 23)
 record_number (plain.BadRecord.head_cut c) = (omega arith, omega arith)
 record_number (plain.BadRecord.head_bad s p b) = head_number b
-record_number (plain.BadRecord.word_Cut s w c) = (omega arith, omega arith)
+record_number (plain.BadRecord.word_cut s w c) = (omega arith, omega arith)
 record_number (plain.BadRecord.word_bad s w p b) = word_number b
 
 -- A bad entry is refused with 2, 3 or 22.
