@@ -1,6 +1,5 @@
 -- `script::printing::put_digits` meets its contract: the digits of the value are those of what is left of it, before those already laid
 -- down.
-use borrow.Author.Rules.{rules}
 use Prim.Native.Nat.{ℕ, suc, ◌-◌, ◌/◌, ◌%◌, ◌≤◌, ◌<◌}
 use native.Mathlib.Omega.{arith}
 use mathlib.Core.Path.{◌≡◌, refl, sym, ap, ◌∙◌}
@@ -9,8 +8,8 @@ use lib.ListN.{length, drop, set, length-set}
 use lib.Seq.{drop-length, drop-cons, drop-set-lt, get_or-set_same, lt-length-set}
 use Rattle.digits.specs.Digits.{digit_for}
 use Rattle.script.specs.Answers.{digits}
-use Rattle.script.proofs.printing.put_digits.Statement.{statement}
-use Rattle.script.proofs.printing.put_digits.Tie as tie
+use Rattle.script.proofs.printing.put_digits.Goals as goal
+use Rattle.script.proofs.printing.put_digits.Invariants.{Laid}
 
 -- The digit for a number is that for its last digit.
 last_digit : (n : ℕ) → digit_for (n % 16) ≡ digit_for n
@@ -18,11 +17,6 @@ unfolding digit_for
 last_digit n =
     let e : n % 16 % 16 ≡ n % 16 = omega arith in
     rw e
-
-record Laid (value : ℕ) (places₀ places : List ℕ) (rest i : ℕ) : Type 0 where
-  most : i ≤ length places₀
-  room : length places ≡ length places₀
-  laid : digits (length places₀) value ≡ digits i rest ++ drop i places
 
 begun : (value : ℕ) (places : List ℕ) → Laid value places places value (length places)
 begun value places =
@@ -54,54 +48,19 @@ module _ {value : ℕ} {places₀ places : List ℕ} {rest i : ℕ} (k : Laid va
       let e : i ≡ 0 = omega arith in
       sym (rw e at k.laid)
 
-abbrev invariant-loop : tie.invariant-loop
-invariant-loop places₀ value rest₀ i₀ places rest i =
-    Laid value places₀ places rest i
+pub loop-i-init : goal.loop-i-init
+loop-i-init c = begun _ _
 
-abbrev decreases-loop : tie.decreases-loop
-decreases-loop places₀ value rest₀ i₀ places rest i =
-    i
+pub bounds-places-i : goal.bounds-places-i
+bounds-places-i c = omega (arith, c.loop-i.invariant.most, c.loop-i.invariant.room)
 
-loop-holds : tie.Need-loop-init invariant-loop decreases-loop
-loop-holds c = begun _ _
+pub loop-i-preserved : goal.loop-i-preserved
+loop-i-preserved c =
+    rw (c.digit_for.ensures, last_digit c.loop-i.rest)
+    (turned c.loop-i.invariant c.loop-i-test.true)
 
-sub-i : tie.Need-overflow-sub-i invariant-loop decreases-loop
-sub-i c = search rules
+pub shape_of-places : goal.shape_of-places
+shape_of-places c = c.loop-i.invariant.room
 
-cast-digit-for : tie.Need-overflow-cast-digit-for invariant-loop decreases-loop
-cast-digit-for c = search rules
-
-digit-for-requires : tie.Need-digit-for-requires invariant-loop decreases-loop
-digit-for-requires c κs = tt
-
-slice-write-places : tie.Need-slice-write-places invariant-loop decreases-loop
-slice-write-places c = omega (arith, c.before.before.loop.invariant.most, c.before.before.loop.invariant.room)
-
-loop-less : tie.Need-loop-smaller invariant-loop decreases-loop
-loop-less c = omega arith
-
-loop-again : tie.Need-loop-preserved invariant-loop decreases-loop
-loop-again c = rw (c.digit_for.ensures, last_digit c.before.before.loop.rest)
-    (turned c.before.before.loop.invariant c.before.loop-test.true)
-
-same_length : tie.Need-same-length invariant-loop decreases-loop
-same_length c = c.before.loop.invariant.room
-
-returns : tie.Need-returns invariant-loop decreases-loop
-returns c = ended c.before.loop.invariant (omega arith)
-
-pub put-digits-spec : {M : Type 1} → statement M
-put-digits-spec =
-    tie.close
-    (tie.spec
-    invariant-loop
-    decreases-loop
-    loop-holds
-    sub-i
-    cast-digit-for
-    digit-for-requires
-    slice-write-places
-    loop-less
-    loop-again
-    same_length
-    returns)
+pub returns : goal.returns
+returns c = ended c.loop-i.invariant (omega arith)
