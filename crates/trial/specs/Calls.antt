@@ -1,7 +1,7 @@
 -- A call of a script, carried out: crates/script/src/lib.rt, the table of 'A script' and the second one of 'What is printed'.
 --   with_registers, with_bus, with_lengths, woken_state, first_state  the state: with a part replaced, after reset, at the start
 --   done_with s n x y           a call's answer, beside the state that it leaves
---   .. -answer, .. -memory, .. -room, .. -list   what calls of one kind answer, and leave of what they have
+--   .._answer, .._memory, .._room, .._list   what calls of one kind answer, and leave of what they have
 --   access_in, place_of, registers_in, state_set   what the numbers of a call say
 --   filled, digest              the words that M and J lay down; the digest of the first n words of a list
 --   answer_to, room_after, list_after, CarriedOut  any call
