@@ -50,5 +50,5 @@ pub(crate) fn save(image: &mut [u8], r: Registers)
     ensures { image.new ≡ image_of r }
 {
     let nine = image_of(r);
-    bytes::copy(&nine, image);
+    image.copy_from_slice(&nine);
 }
