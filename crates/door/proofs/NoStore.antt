@@ -4,7 +4,7 @@ use native.Mathlib.Omega.{arith}
 use mathlib.Core.Path.{◌≡◌, refl}
 use mathlib.Core.Bool.{Bool, true, false, cond, ◌&&◌, true≢false}
 use mathlib.Core.List.{List}
-use mathlib.Core.Logic.{◌⊎◌, inl, inr}
+use mathlib.Core.Logic.{◌⊎◌, inl, inr, ◌≢◌}
 use denote.Enum.Declared.{tag_of}
 use lib.Dec.{eqb}
 use Rattle.control.specs.Control.{closes}
@@ -42,3 +42,15 @@ idle_cycle r Nothing b n k = record { outcome = refl; memory = refl }
 idle_cycle r (Fetch s) b n (inl e) = absurd (omega (arith, e))
 idle_cycle r (Fetch s) b n (inr e) = absurd (omega (arith, e))
 idle_cycle r (Store s) b n k = absurd (true≢false n)
+
+-- What is due is no store where it is none of the stores.
+pub no_store : (due : Due) → ((s : Bool) → due ≢ Store s) → is_store due ≡ false
+no_store Nothing k = refl
+no_store (Fetch s) k = refl
+no_store (Store s) k = absurd (k s refl)
+
+-- The tag of what is due, where it is none of the fetches.
+pub tag_of_no_fetch : (due : Due) → ((s : Bool) → due ≢ Fetch s) → (tag_of the_type due ≡ 0) ⊎ (tag_of the_type due ≡ 2)
+tag_of_no_fetch Nothing k = inl refl
+tag_of_no_fetch (Fetch s) k = absurd (k s refl)
+tag_of_no_fetch (Store s) k = inr refl

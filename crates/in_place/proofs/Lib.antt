@@ -7,5 +7,5 @@ pub mod ByValue
 pub mod WholeDay
 -- ---- demand 3
 pub mod ByBytes
--- ---- for the proofs by hand: the port's types in a walk of the code
+-- ---- for a proof by hand: the port's types in a walk of the code
 pub mod PlainData
