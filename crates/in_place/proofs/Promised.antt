@@ -27,6 +27,8 @@ use Rattle.port_spec.specs.declared.Outcome.{Outcome}
 use Rattle.port_spec.proofs.Numbers.{AccessWhen, numbered, refuses}
 use Rattle.in_place.specs.InPlace.{AccessedInPlace}
 use Rattle.in_place.specs.contracts.host_access_in_place as in_place
+use Rattle.in_place.proofs.host_access_in_place.Kinds as in_place_kinds
+use Rattle.in_place.proofs.host_access_in_place.Reads as in_place_reads
 use Rattle.in_place.proofs.host_access_by_lending.Kinds as lending_kinds
 use Rattle.in_place.proofs.host_access_by_lending.Reads as lending
 
@@ -102,6 +104,17 @@ in_place_says 𝓛 at_mem run κs a x = refl
 pub in_place_asks_nothing : {M : Type 1} {𝓤 : Ura M} (𝓛 : Logic 𝓤) (at_mem : Memory → SProp 𝓤) (run : Routine → Fun 𝓤)
     (κs : Lfts 2) (a : Args in_place.signature κs) → (in_place.spec 𝓛 at_mem run κs a).requires tt ≡ emp 𝓤
 in_place_asks_nothing 𝓛 at_mem run κs a = refl
+
+-- `host_access_in_place` takes any r, memory and a, and all that its contract allows is `AccessedInPlace` of them.
+pub host_access_in_place_contract : Contract in_place_kinds.ps in_place_kinds.r in_place_reads.Pre in_place_reads.Post
+    (λ κs args x left.
+    let r = args.0 in
+    let r' = left.0 in
+    let memory = args.1.0 in
+    let memory' = left.1.0 in
+    let a = args.1.1.0 in
+    AccessedInPlace r.now memory.now a x r'.now memory'.now)
+host_access_in_place_contract = record { takes_any = λ κs args. tt; says = λ κs args x left p. p }
 
 -- `host_access_by_lending` takes any r, memory and a, and all that its contract allows is `Accessed` of them.
 pub host_access_by_lending_contract : Contract lending_kinds.ps lending_kinds.r lending.Pre lending.Post
