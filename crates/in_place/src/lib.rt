@@ -17,8 +17,7 @@ pub fn host_access_in_place(r: &mut Registers, memory: &mut [u16], a: Access) ->
     done.answer
 }
 
-// The access in place on a record of its own, for callers who have theirs by value: whoever calls this lends no record. It states what
-// `port::host_access` states.
+// The access in place on a record of its own, for callers who have theirs by value. It states what `port::host_access` states.
 pub fn host_access_by_lending(r: Registers, memory: &mut [u16], a: Access) -> Outcome
     ensures { Accessed r memory.old a result memory.new }
 {

@@ -82,6 +82,13 @@ copied_in o at t ys h e =
     (take-length t)) ∙
     ap (λ (x : List ℕ). take at o ++ (t ++ x)) behind
 
+-- A text copied over the part of the output from `at` on that is as long as the text is the text laid.
+pub copied_over : (o : List ℕ) (at n : ℕ) (t ys : List ℕ) → n ≡ length t → ys ≡ t → put_mid at n o ys ≡ laid o at t
+copied_over o at n t ys e same =
+    ap (λ (n : ℕ). put_mid at n o ys) e ∙
+    ap (λ (ys : List ℕ). put_mid at (length t) o ys) same ∙
+    ap (λ (x : List ℕ). take at o ++ (t ++ x)) (drop-drop (length t) at o)
+
 -- A text put into the output leaves it as long as it was.
 pub put_length : {o o' t : List ℕ} {at e : ℕ} → at + length t ≤ length o → Put o at t e o' → length o' ≡ length o
 put_length {o = o} {t = t} {at = at} h x = ap length x.output ∙ laid_length o at t h

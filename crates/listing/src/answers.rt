@@ -11,8 +11,9 @@ pub(crate) fn put(output: &mut [u8], at: usize, text: &[u8]) -> usize
     requires { at + length text.now ≤ length output.old }
     ensures { Put output.old at text.now result output.new }
 {
-    let n = bytes::copy(text, &mut output[at..]);
-    at + n
+    let end = at + text.len();
+    output[at..end].copy_from_slice(text);
+    end
 }
 
 // "accepted reads of register 2 print `held` or `hollow`, all other lines `-`"

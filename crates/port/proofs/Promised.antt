@@ -12,7 +12,7 @@ use Rattle.port.proofs.access.begin_write.Reads as begin_write
 use Rattle.port.proofs.access.begin.Kinds as begin_kinds
 use Rattle.port.proofs.access.begin.Reads as begin
 use Rattle.port.proofs.access.number_of.Kinds as number_of_kinds
-use Rattle.port.proofs.access.number_of.Reads as number_of_lem
+use Rattle.port.proofs.access.number_of.Reads as number_of
 use Rattle.port.proofs.access.refuse.Kinds as refuse_kinds
 use Rattle.port.proofs.access.refuse.Reads as refuse
 use Rattle.port.proofs.access.finish.Kinds as finish_kinds
@@ -58,7 +58,7 @@ pub begin_contract : Contract begin_kinds.ps begin_kinds.r begin.Pre begin.Post
 begin_contract = record { takes_any = λ κs args. tt; says = λ κs args b left p. p }
 
 -- `number_of` takes any words and a, and all that its contract allows is `refusal` of the words, the register and the lanes of a.
-pub number_of_contract : Contract number_of_kinds.ps number_of_kinds.r number_of_lem.Pre number_of_lem.Post
+pub number_of_contract : Contract number_of_kinds.ps number_of_kinds.r number_of.Pre number_of.Post
     (λ κs args r left.
     let words = args.0 in
     let a = args.1.0 in

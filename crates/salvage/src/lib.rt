@@ -22,7 +22,7 @@ pub fn salvage_transcript(damaged: &[u8], sound: &mut [u8]) -> Salvaged
             stop: 0,
         };
     }
-    bytes::copy(&damaged[..n], sound);
+    sound[..n].copy_from_slice(&damaged[..n]);
     let left = damaged.len() - n;
     Salvaged {
         number: 0,
