@@ -39,7 +39,7 @@ fn run() {
     while 0 < turns {
         turns -= 1;
         if read_record(&mut whole) {
-            bytes::copy(&whole[66..], &mut sound);
+            sound.copy_from_slice(&whole[66..]);
             let answer = carry_out(whole[0], whole[1], &whole[2..66], &mut sound);
             print_record(answer, &sound);
             continue;

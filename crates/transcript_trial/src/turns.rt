@@ -12,7 +12,7 @@ pub(crate) fn run() {
     while 0 < turns {
         turns -= 1;
         if read_record(&mut whole) {
-            bytes::copy(&whole[104..], &mut string);
+            string.copy_from_slice(&whole[104..]);
             let left = carry_record(&whole, &mut string);
             print_record(left, &string);
             continue;
