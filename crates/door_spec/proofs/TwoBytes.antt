@@ -47,7 +47,8 @@ module _ (r : Registers) (m : List ℕ) (j : ℕ) (d : j ≢ (word_at r.pointer)
   begun_elsewhere (Write k lanes w) = go (closes r.control lanes) (eqb k 2) (fetches r.control k) _ refl
     where
       go : (t u v s : Bool) → eqb k 2 ≡ u →
-          get_or (memory_after (written r k lanes w) (cond t (cond u (Store s) (cond v (Fetch false) Nothing)) Nothing) m) j 0 ≡ get_or m j 0
+          get_or (memory_after (written r k lanes w) (cond t (cond u (Store s) (cond v (Fetch false) Nothing)) Nothing) m) j 0
+          ≡ get_or m j 0
       go true true v s e =
           stored_elsewhere m (word_at (written r k lanes w).pointer) (written r k lanes w).latch j
           (rw (pointer_stays r k lanes w (eqb-true k 2 e)) d)

@@ -1,5 +1,5 @@
-// Output, as the commands write it: the whole of a text, or why not. A reader of a pipe who has gone is told apart from an output that takes
-// no more.
+// Output, as the commands write it: the whole of a text, or why not. A reader of a pipe who has gone is told apart from an output that
+// takes no more.
 #![tactic(auto)]
 
 ghost use Rattle.std.specs.Prelude.{◌≡◌};

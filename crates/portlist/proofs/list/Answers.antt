@@ -23,8 +23,10 @@ pub take_turn-turn-requires : goal.take_turn-turn-requires
 take_turn-turn-requires c =
     let k = c.loop-turns.invariant in
     record {
-      have_in_bounds =
-          (omega (arith, k.begun, c.requires.in_bounds.0, k.input_kept), omega (arith, c.requires.in_bounds.1, k.input_kept, k.output_kept));
+      have_in_bounds = (
+        omega (arith, k.begun, c.requires.in_bounds.0, k.input_kept),
+        omega (arith, c.requires.in_bounds.1, k.input_kept, k.output_kept),
+      );
       so_far = k.so_far;
     }
 

@@ -67,7 +67,8 @@ pub loop-i-preserved : goal.loop-i-preserved
 loop-i-preserved c =
     let e = c.entry_at.result in
     went_on c.loop-i.invariant c.loop-i-test.true e c.entry_at.ensures
-    (sym (number_said e c.judge_entry-found.ensures) ∙ c.if-found-ne0.false) _ (size_said e c.judge_entry-found.ensures c.if-found-ne0.false)
+    (sym (number_said e c.judge_entry-found.ensures) ∙ c.if-found-ne0.false) _
+    (size_said e c.judge_entry-found.ensures c.if-found-ne0.false)
 
 pub returns : goal.returns
 returns c = ended c.loop-i.invariant c.loop-i-test.false

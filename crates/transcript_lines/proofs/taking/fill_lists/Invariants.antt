@@ -6,7 +6,8 @@ use Rattle.transcript_lines.proofs.Filling.{Filled}
 use Rattle.transcript_lines.proofs.taking.fill_lists.Given as goal
 
 abbrev pub invariant-loop-a : goal.invariant-loop-a
-invariant-loop-a l = Filled l.text (lists l.fn.kinds l.fn.registers l.fn.lanes l.fn.words) (lists l.kinds l.registers l.lanes l.words) l.used l.i
+invariant-loop-a l =
+    Filled l.text (lists l.fn.kinds l.fn.registers l.fn.lanes l.fn.words) (lists l.kinds l.registers l.lanes l.words) l.used l.i
 
 abbrev pub decreases-loop-a : goal.decreases-loop-a
 decreases-loop-a l = length l.text - l.used
