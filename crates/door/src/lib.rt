@@ -1,5 +1,6 @@
 // The C door: single accesses by the host, on a register image and a memory that are lent as bytes.
-// Document 01, "Blocks and the two doors". What the bytes stand for, and the laws of a call, are crate `door_spec`; here is the code.
+// Document 01, "Blocks and the two doors". What the bytes stand for, and the laws of a call, are crate `door_spec`; here is the code, and
+// crate `door_c` exports the two calls to C.
 //
 // A call answers one number of 64 bits: bits 0-15 are the word, 16-23 the number, bit 24 the hollow mark, bits 25-26
 // the cycle (0 none, 1 inside, 2 empty); the others are 0. Bits 32-59 are kept free for a word number.
@@ -65,8 +66,7 @@ fn close_call(image: &mut [u8], b: Begun, c: Carried) -> u64
 }
 
 // A read of a register, for a C program. The memory after it is the memory before it.
-#[unsafe(no_mangle)]
-pub extern "C" fn host_port_read(image: &mut [u8], memory: &[u8], register: u32, lanes: u32) -> u64
+pub fn host_port_read(image: &mut [u8], memory: &[u8], register: u32, lanes: u32) -> u64
     ensures { Called image.old memory.now (Read register lanes) result image.new memory.now }
 {
     let number = number_of_call(image, memory, Access::Read { register, lanes });
@@ -80,8 +80,7 @@ pub extern "C" fn host_port_read(image: &mut [u8], memory: &[u8], register: u32,
 }
 
 // A write of a word to a register, for a C program.
-#[unsafe(no_mangle)]
-pub extern "C" fn host_port_write(
+pub fn host_port_write(
     image: &mut [u8],
     memory: &mut [u8],
     register: u32,

@@ -29,7 +29,7 @@ use Rattle.transcript_exchange.specs.InPlainWords.{LinesOf, BytesAs, LinesAs}
 use Rattle.transcript_exchange.specs.InPlainWords as plain
 use Rattle.transcript_exchange.specs.Turning.{by_answer, by_taken, entries_written, done_if_fits, bytes_turned, lines_turned}
 use Rattle.transcript_exchange.specs.declared.Turned.{Turned}
-use Rattle.transcript_exchange.specs.declared.Turned.TheVariants.{Done, BadLine, Refused, TooMany}
+use Rattle.transcript_exchange.specs.declared.Turned.TheVariants.{Done, Refused, TooMany}
 use Rattle.transcript_exchange.proofs.Done.{answer_done}
 use Rattle.transcript_exchange.proofs.Entries.{entry_range, all_written, bad_written}
 

@@ -5,7 +5,7 @@ use native.Mathlib.Omega.{arith}
 use mathlib.Core.Path.{◌≡◌, refl, sym, ap, ◌∙◌, subst}
 use mathlib.Core.Bool.{false}
 use mathlib.Core.List.{List}
-use mathlib.Core.Logic.{◌⊎◌, inl, inr}
+use mathlib.Core.Logic.{◌⊎◌, inl, inr, ◌≢◌}
 use denote.Enum.Declared.{tag_of}
 use lib.ListN.{length}
 use borrow.Author.Tests.{eq-eqb}
@@ -44,6 +44,13 @@ not_done (Done n) (inr (inr e)) = absurd (omega (arith, e))
 not_done (BadLine k) e = refl
 not_done (Refused n k) e = refl
 not_done TooMany e = refl
+
+-- The tag of an answer that is not that of an input which is turned.
+pub refusal_turned : (o : Turned) → ((n : ℕ) → o ≢ Done n) → NotDone o
+refusal_turned (Done n) k = absurd (k n refl)
+refusal_turned (BadLine n) k = inl refl
+refusal_turned (Refused n m) k = inr (inl refl)
+refusal_turned TooMany k = inr (inr refl)
 
 -- ---- lines to bytes
 module _ (t : List ℕ) (l : Lists) (out : List ℕ) where

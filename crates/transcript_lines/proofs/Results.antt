@@ -4,7 +4,7 @@ use native.Mathlib.Omega.{arith}
 use mathlib.Core.Path.{◌≡◌, refl, sym, ap, ◌∙◌}
 use mathlib.Core.Bool.{false}
 use mathlib.Core.List.{List}
-use mathlib.Core.Logic.{◌⊎◌, inl, inr}
+use mathlib.Core.Logic.{◌⊎◌, inl, inr, ◌≢◌}
 use denote.Enum.Declared.{tag_of}
 use lib.ListN.{length}
 use Rattle.transcript_spec.specs.Lists.{Lists, size, entries_in, over, with_entries}
@@ -29,6 +29,12 @@ not_taken (Taken n) (inl e) = absurd (omega (arith, e))
 not_taken (Taken n) (inr e) = absurd (omega (arith, e))
 not_taken (BadLine n) e = refl
 not_taken NoPlaces e = refl
+
+-- The tag of an answer that is not that of a taking which is done.
+pub refusal_taken : (o : LinesTaken) → ((n : ℕ) → o ≢ Taken n) → (tag_of taken_type o ≡ 1) ⊎ (tag_of taken_type o ≡ 2)
+refusal_taken (Taken n) k = absurd (k n refl)
+refusal_taken (BadLine n) k = inl refl
+refusal_taken NoPlaces k = inr refl
 
 module _ (t : List ℕ) (l : Lists) {room : ℕ} {o : LinesTaken} (r : room ≡ size l) (a : o ≡ take_answer t room) where
   take_is : o ≡ take_answer t (size l)
@@ -59,6 +65,12 @@ not_written (Written n) (inl e) = absurd (omega (arith, e))
 not_written (Written n) (inr e) = absurd (omega (arith, e))
 not_written (Unsayable k) e = refl
 not_written NoBytes e = refl
+
+-- The tag of an answer that is not that of a putting which is done.
+pub refusal_put : (o : LinesPut) → ((n : ℕ) → o ≢ Written n) → (tag_of put_type o ≡ 1) ⊎ (tag_of put_type o ≡ 2)
+refusal_put (Written n) k = absurd (k n refl)
+refusal_put (Unsayable n) k = inl refl
+refusal_put NoBytes k = inr refl
 
 module _ (l : Lists) (out : List ℕ) {done o : LinesPut} (f : done ≡ written_if_fits (length (text_of (entries_in l))) (length out))
     (a : o ≡ first_unsayable 0 (entries_in l) done) where

@@ -6,7 +6,7 @@ use mathlib.Core.List.{List, [], append-nil}
 use lib.ListN.{length, take, drop}
 use lib.Seq.{take_at}
 use borrow.Author.Tests.{le-ltb}
-use Rattle.transcript_spec.specs.Lists.{Lists, lists, size, entries_in, over, with_entries}
+use Rattle.transcript_spec.specs.Lists.{Lists, size, entries_in, over, with_entries}
 use Rattle.transcript_spec.specs.InPlainWords.{first_places}
 use Rattle.transcript_spec.specs.declared.Entry.{Entry}
 use Rattle.transcript_spec.proofs.Columns.{length_entries, entries_columns, first_are_columns}

@@ -33,6 +33,12 @@ other_front (Good a n) (inr e) = absurd (omega (arith, e))
 other_front Bad e = refl
 other_front Open e = refl
 
+-- A front that is no good line has another tag.
+pub not_good : (x : Front) → ((a : Access) (n : ℕ) → x ≢ Good a n) → NotGood x
+not_good (Good a n) k = absurd (k a n refl)
+not_good Bad k = inl refl
+not_good Open k = inr refl
+
 -- so many lines are taken, of so many bytes: what is taken of the whole text is their entries, and then what is taken of the rest
 pub record Come (t : List ℕ) (used lines : ℕ) : Type 0 where
   pub got : List Entry

@@ -1,0 +1,2 @@
+-- What the contracts of the two exports say.
+pub mod Promised

@@ -1,0 +1,19 @@
+-- `sheet_trial::turns::run` meets its contract: after each turn some records are carried out. Its count of turns falls.
+use Prim.Native.Nat.{ℕ}
+use mathlib.Core.Path.{◌≡◌}
+use mathlib.Core.List.{List}
+use lib.Ieee.{Float}
+use lib.ListN.{length}
+use Rattle.sheet_trial.specs.Records.{Ran}
+use Rattle.sheet_trial.proofs.turns.run.Given as goal
+
+pub record Going (room₀ : List ℕ) (list₀ : List Float) (room : List ℕ) (list : List Float) : Type 0 where
+  pub rooms : length room ≡ length room₀
+  pub lists : length list ≡ length list₀
+  pub ran : Ran room₀ list₀ room list
+
+abbrev pub invariant-loop-turns : goal.invariant-loop-turns
+invariant-loop-turns l = Going l.fn.room l.fn.list l.room l.list
+
+abbrev pub decreases-loop-turns : goal.decreases-loop-turns
+decreases-loop-turns l = l.turns
