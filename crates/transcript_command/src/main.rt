@@ -19,6 +19,9 @@ ghost use Rattle.transcript_command.specs.Whole.{ReadToItsEnd, Writes};
 
 use input::{Filled, fill_whole};
 use messages::{say, say_stuck, say_too_long, say_unread};
+use output::{Written, write_all};
+use std::env::Env;
+use std::io::{Stdin, Stdout};
 use transcript_exchange::{Turned, bytes_to_lines, lines_to_bytes};
 
 // The bytes that were read, turned: lines into a transcript, or else a transcript into lines. They must be the whole input.
@@ -47,11 +50,13 @@ fn turn(
 
 // Writes what the input was turned into; the input and its way are at hand to say which text that is. Where standard output takes no more,
 // that is said.
-fn write(to_bytes: bool, filled: Filled, input: &[u8], text: &[u8])
+fn write(to_bytes: bool, filled: Filled, input: &[u8], text: &[u8], mut to: Stdout)
     requires { Writes to_bytes (take filled.all input.now) text.now }
 {
-    if !io::write_all(1, text) {
-        say_stuck();
+    let written = write_all(text, &mut to);
+    match written {
+        Written::Whole => {}
+        _ => say_stuck(written),
     }
 }
 
@@ -65,8 +70,10 @@ fn exchange(
     lanes: &mut [u32],
     words: &mut [u32],
     output: &mut [u8],
+    from: Stdin,
+    to: Stdout,
 ) {
-    let filled = fill_whole(input);
+    let filled = fill_whole(input, from);
     let failed = filled.failed;
     if failed {
         say_unread();
@@ -80,7 +87,7 @@ fn exchange(
         to_bytes, filled, input, kinds, registers, lanes, words, output,
     );
     match turned {
-        Turned::Done(k) => write(to_bytes, filled, input, &output[..k]),
+        Turned::Done(k) => write(to_bytes, filled, input, &output[..k], to),
         _ => say(turned, to_bytes),
     }
 }
@@ -106,9 +113,9 @@ fn way_of(argument: &[u8]) -> Way
 }
 
 // Each buffer has a byte more than the most that it may be filled with.
-fn main() {
+fn main(rt: HostRuntime) {
     let mut argument = [0u8; 8];
-    let n = os::arg(1, &mut argument);
+    let n = rt.arg(1, &mut argument).unwrap_or(0);
     let way = way_of(&argument[..n]);
     let mut text = [0u8; 360449];
     let mut bytes = [0u8; 131073];
@@ -125,6 +132,8 @@ fn main() {
             &mut lanes,
             &mut words,
             &mut bytes,
+            rt.stdin(),
+            rt.stdout(),
         ),
         Way::Lines => exchange(
             false,
@@ -134,6 +143,8 @@ fn main() {
             &mut lanes,
             &mut words,
             &mut text,
+            rt.stdin(),
+            rt.stdout(),
         ),
         Way::Neither => {
             io::write_all(2, b"transcript: say bytes or lines\n");

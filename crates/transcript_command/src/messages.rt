@@ -1,4 +1,5 @@
 // What is said on standard error of an input that is not turned, or not written.
+use output::Written;
 use transcript_exchange::Turned;
 
 // A line, or else a byte, with so many before it: lines are counted from 1, bytes from 0.
@@ -43,7 +44,10 @@ pub(crate) fn say_unread() {
     io::write_all(2, b"transcript: the input can't be read to its end\n");
 }
 
-// What was turned can't be written.
-pub(crate) fn say_stuck() {
-    io::write_all(2, b"transcript: the output takes no more\n");
+// What was turned can't be written: nobody reads it any more, or the output takes no more for another reason.
+pub(crate) fn say_stuck(written: Written) {
+    match written {
+        Written::ReaderGone => io::write_all(2, b"transcript: the output's reader has gone\n"),
+        _ => io::write_all(2, b"transcript: the output takes no more\n"),
+    };
 }
