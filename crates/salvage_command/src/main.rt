@@ -12,8 +12,10 @@ ghost use Rattle.std.specs.Prelude.{◌≡◌, length};
 ghost use Rattle.salvage_command.specs.Turning.{Room, SalvagedTurn};
 
 use input::fill;
+use output::{Written, write_all};
 use pieces::{Progress, take_piece};
 use report::{Report, say, say_stuck, say_unread};
+use std::io::{Stdin, Stdout};
 
 // What a turn leaves for the next one, besides the bytes that are held.
 #[derive(Clone, Copy)]
@@ -28,12 +30,12 @@ struct Turn {
 }
 
 // One turn: a piece comes, and what is kept of it is laid out to be written.
-fn take_turn(p: Progress, piece: &mut [u8], sound: &mut [u8]) -> Turn
+fn take_turn(p: Progress, piece: &mut [u8], sound: &mut [u8], from: Stdin) -> Turn
     requires { Room p piece.old sound.old }
     ensures { SalvagedTurn p piece.old result piece.new sound.new }
 {
     let held = p.held;
-    let filled = fill(piece, held);
+    let filled = fill(piece, held, from);
     let all = filled.all;
     let came = all - held;
     let taken = take_piece(p, piece, sound, all);
@@ -49,7 +51,7 @@ fn take_turn(p: Progress, piece: &mut [u8], sound: &mut [u8]) -> Turn
 
 // Turn after turn. An empty piece is the last. A proved loop has to end, and nothing says that the input does: it counts its turns down,
 // from a number that no run uses up, and that keeps every count below 2^64.
-fn salvage(piece: &mut [u8], sound: &mut [u8])
+fn salvage(piece: &mut [u8], sound: &mut [u8], from: Stdin, mut to: Stdout)
     requires { (length piece.old ≡ 65540) × (length sound.old ≡ 65540) }
 {
     let mut progress = Progress {
@@ -61,12 +63,16 @@ fn salvage(piece: &mut [u8], sound: &mut [u8])
     let mut turns: u64 = 70368744177664;
     while 0 < turns {
         turns -= 1;
-        let turn = take_turn(progress, piece, sound);
+        let turn = take_turn(progress, piece, sound, from);
         progress = turn.progress;
         let wrote = turn.wrote;
-        if !io::write_all(1, &sound[..wrote]) {
-            say_stuck();
-            return;
+        let written = write_all(&sound[..wrote], &mut to);
+        match written {
+            Written::Whole => {}
+            _ => {
+                say_stuck(written);
+                return;
+            }
         }
         if turn.failed {
             say_unread();
@@ -85,8 +91,8 @@ fn salvage(piece: &mut [u8], sound: &mut [u8])
 }
 
 // Each holds a piece, and before it what is held of the piece before: four bytes at most.
-fn main() {
+fn main(rt: HostRuntime) {
     let mut piece = [0u8; 65540];
     let mut sound = [0u8; 65540];
-    salvage(&mut piece, &mut sound);
+    salvage(&mut piece, &mut sound, rt.stdin(), rt.stdout());
 }

@@ -50,8 +50,8 @@ fn move_to_front(piece: &mut [u8], from: usize, n: usize)
 {
     let mut four = [0u8; 4];
     let to = from + n;
-    bytes::copy(&piece[from..to], &mut four);
-    bytes::copy(&four[..n], piece);
+    four[..n].copy_from_slice(&piece[from..to]);
+    piece[..n].copy_from_slice(&four[..n]);
 }
 
 // Behind a bad record all is left: the first `all` bytes of the piece, but for those that are held.

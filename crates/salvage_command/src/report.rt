@@ -1,6 +1,8 @@
 // What is said on standard error: the report, when all of the input is read, or why there is none.
 ghost use Rattle.salvage_command.specs.Turning.{Tells};
 
+use output::Written;
+
 // The records that were kept, the bytes that were left, and what stopped it.
 #[derive(Clone, Copy)]
 pub(crate) struct Report {
@@ -47,6 +49,9 @@ pub(crate) fn say_unread() {
 }
 
 // What was salvaged can't be written: there is no report then.
-pub(crate) fn say_stuck() {
-    io::write_all(2, b"salvage: the output takes no more\n");
+pub(crate) fn say_stuck(written: Written) {
+    match written {
+        Written::ReaderGone => io::write_all(2, b"salvage: the output's reader has gone\n"),
+        _ => io::write_all(2, b"salvage: the output takes no more\n"),
+    };
 }
