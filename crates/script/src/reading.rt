@@ -1,7 +1,7 @@
 // One line of a script: the call that it says, if it is one.
 ghost use Rattle.std.specs.Prelude.{◌≡◌, true, ◌+◌, ◌≤◌, length};
 ghost use Rattle.script.specs.Script.{digits_from, number_from, has_number, shaped, line_in};
-ghost use Rattle.script.specs.Script.{is_call as Script·is-call, call_in as Script·call-in};
+ghost use Rattle.script.specs.Script.{is_call as script_is_call, call_in as script_call_in};
 
 use crate::letters::is_letter;
 use crate::{Call, Line};
@@ -60,7 +60,7 @@ fn is_shaped(line: &[u8]) -> bool
 
 // The line is a call.
 fn is_call(line: &[u8]) -> bool
-    ensures { result ≡ Script·is-call line.now }
+    ensures { result ≡ script_is_call line.now }
 {
     if line.len() == 38 {
         return both(is_letter(line[0]), is_shaped(line));
@@ -70,8 +70,8 @@ fn is_call(line: &[u8]) -> bool
 
 // The call that it says.
 fn call_in(line: &[u8]) -> Call
-    requires { Script·is-call line.now ≡ true }
-    ensures { result ≡ Script·call-in line.now }
+    requires { script_is_call line.now ≡ true }
+    ensures { result ≡ script_call_in line.now }
 {
     Call {
         letter: line[0],

@@ -1,13 +1,13 @@
 // The calls of blocks: I reads into the list, O writes from it.
 ghost use Rattle.std.specs.Prelude.{◌≡◌};
-ghost use Rattle.trial.specs.Calls.{BlockDone, place_of as Calls·place-of};
+ghost use Rattle.trial.specs.Calls.{BlockDone, place_of as calls_place_of};
 
 use crate::setting::answer_with;
 use script::{Call, Done, State};
 
 // A place in two numbers.
 fn place_of(low: u32, high: u32) -> usize
-    ensures { result ≡ Calls·place-of low high }
+    ensures { result ≡ calls_place_of low high }
 {
     low as usize + 4294967296 * (high as usize)
 }

@@ -1,6 +1,6 @@
 // The port's calls: an access by the host, R and W, and in place H and K; one by the processor, P and Q.
 ghost use Rattle.std.specs.Prelude.{◌≡◌};
-ghost use Rattle.trial.specs.Calls.{hollow_and_cycle, access_in, HostDone, processor_answer, host_done as Calls·host-done};
+ghost use Rattle.trial.specs.Calls.{hollow_and_cycle, access_in, HostDone, processor_answer, host_done as calls_host_done};
 
 use crate::setting::{answer, answer_with};
 use port::number_of_cycle;
@@ -18,7 +18,7 @@ fn hollow_and_cycle_of(a: Answer) -> u32
 
 // What an access by the host answers and leaves.
 fn host_done(s: State, o: Outcome) -> Done
-    ensures { result ≡ Calls·host-done s o }
+    ensures { result ≡ calls_host_done s o }
 {
     let r = o.registers;
     let a = o.answer;
