@@ -48,7 +48,7 @@ pub(crate) fn say_unread() {
     io::write_all(2, b"salvage: the input can't be read to its end\n");
 }
 
-// What was salvaged can't be written: there is no report then.
+// What was salvaged can't be written: nobody reads it any more, or the output takes no more for another reason. There is no report then.
 pub(crate) fn say_stuck(written: Written) {
     match written {
         Written::ReaderGone => io::write_all(2, b"salvage: the output's reader has gone\n"),
