@@ -3,7 +3,7 @@ ghost use Rattle.std.specs.Prelude.{◌≡◌, ◌-◌, ◌≤◌, length};
 ghost use Rattle.input.specs.Filling.{answered, FilledBehind};
 
 use crate::Filled;
-use std::io::{ErrorKind, Read, Stdin};
+use std::io::{Read, Stdin};
 
 // What a read answered that was made behind the first `held` bytes of a buffer.
 pub(crate) fn judge(got: isize, held: usize, buffer: &[u8]) -> Filled
@@ -19,19 +19,14 @@ pub(crate) fn judge(got: isize, held: usize, buffer: &[u8]) -> Filled
     Filled { all, failed: false }
 }
 
-// One read into the bytes that are lent: how many it brought, or a number below 0 where it failed. One that a signal interrupts has brought
-// nothing, and is made again.
+// One read into the bytes that are lent: how many it brought, or a number below 0 where it failed.
 fn read_once(bytes: &mut [u8], mut from: Stdin) -> isize
     ensures { length bytes.new ≡ length bytes.old }
 {
-    for _ in 0..u64::MAX {
-        match from.read(bytes) {
-            Ok(n) => return n as isize,
-            Err(e) if e.kind() == ErrorKind::Interrupted => {}
-            Err(_) => return -1,
-        }
+    match from.read(bytes) {
+        Ok(n) => n as isize,
+        Err(_) => -1,
     }
-    -1
 }
 
 // One read behind the first `held` bytes of a buffer, which stay. Where it brings nothing and has not failed, the input has ended. Without

@@ -14,7 +14,7 @@ use Rattle.salvage_spec.specs.declared.Salvaged.{Salvaged}
 use Rattle.salvage_spec.proofs.WhatWasWritten.{fits_if_all_would}
 use Rattle.salvage_spec.proofs.Divides.{divides, run_length}
 use Rattle.salvage_spec.proofs.Longest.{no_more_than_bytes}
-use Rattle.salvage_spec.proofs.Promised.{as_many_bytes}
+use Rattle.salvage_spec.proofs.AsManyBytes.{as_many_bytes}
 use Rattle.salvage_command.specs.Turning.{progress_of, held_count, leaving, Ready, Took}
 use Rattle.salvage_command.specs.declared.pieces.Progress.{Progress}
 use Rattle.salvage_command.proofs.Fronts.{take_min, within_first}

@@ -8,6 +8,7 @@ pub mod OneMorePiece
 pub mod InPieces
 -- ---- the call
 pub mod Promised
+pub mod AsManyBytes
 pub mod WhatWasWritten
 pub mod WhatWasLeft
 pub mod One

@@ -1,15 +1,14 @@
 -- What the contract of salvage promises, said of any outcome that it allows: each answer when and only then, what a refusal leaves, what is
--- left when it is done.
+-- left when it is done. `AsManyBytes` has what follows for the length.
 use Prim.Native.Nat.{ℕ}
 use native.Mathlib.Omega.{arith}
 use mathlib.Core.Path.{◌≡◌, refl, sym, ap, ◌∙◌, subst}
 use mathlib.Core.Bool.{Bool, cond}
 use mathlib.Core.List.{List}
-use mathlib.Core.Logic.{⊎_elim, ◌↔◌, ◌≢◌}
-use lib.ListN.{length, take, drop, length-take, length-drop}
+use mathlib.Core.Logic.{◌↔◌, ◌≢◌}
+use lib.ListN.{length, take, drop}
 use lib.Seq.{take-append_seam, drop-append_seam}
 use borrow.Author.Tests.{eq-eqb, ne_eqb}
-use Rattle.words.proofs.Choices.{same_or_not}
 use Rattle.transcript_spec.specs.Lists.{over}
 use Rattle.salvage_spec.specs.InPlainWords.{SalvagedAs, SalvagedAll}
 use Rattle.salvage_spec.specs.InPlainWords as plain
@@ -69,18 +68,3 @@ module _ {s out : List ℕ} {o : Salvaged} {out' : List ℕ} (p : SalvagedTransc
             written = ap (take (length t)) left ∙ take-append_seam t _;
             later = ap (drop (length t)) left ∙ drop-append_seam t _;
           }
-
-  -- Whatever salvage answers, there are as many bytes as were lent.
-  pub as_many_bytes : length out' ≡ length out
-  as_many_bytes = ⊎_elim written_over (λ d. ap length (salvage_refused d).1) (same_or_not o.number 0)
-    where
-      written_over : o.number ≡ 0 → length out' ≡ length out
-      written_over z =
-          let x = salvage_done z in
-          let n = length x.kept in
-          let front = ap length x.written in
-          let behind = ap length x.later in
-          let t = length-take n out' in
-          let d = length-drop n out' in
-          let e = length-drop n out in
-          omega (arith, x.fits)

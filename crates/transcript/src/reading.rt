@@ -11,6 +11,7 @@ use transcript_spec::Transcribed;
 
 // What is answered of a string, by what the scan found and by how many entries have room: a bad record comes before lists that are too
 // small.
+#[tactic(auto, unfolding(crate::specs::ReaderParts::answer_for))]
 fn answer_for(found: Scanned, room: usize) -> Transcribed
     ensures { result ≡ answer_for found room }
 {

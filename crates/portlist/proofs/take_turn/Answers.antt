@@ -24,8 +24,8 @@ pub slice_bounds-end-end : goal.slice_bounds-end-end
 slice_bounds-end-end c =
     within c.fill-filled.ensures c.requires.have_in_bounds.0
 
-pub slice_bounds-end-end-then-all-have : goal.slice_bounds-end-end-then-all-have
-slice_bounds-end-end-then-all-have c =
+pub slice_bounds-end-end-then-ended : goal.slice_bounds-end-end-then-ended
+slice_bounds-end-end-then-ended c =
     sym (length-take-le _ _ (within c.fill-filled.ensures c.requires.have_in_bounds.0))
 
 pub end-requires : goal.end-requires
@@ -33,13 +33,13 @@ end-requires c =
     let filled = c.fill-filled in
     record {
       so_far =
-          nothing_came c.args.input.now filled.new.buffer c.args.have filled.result.all c.if-all-have.true
+          nothing_came c.args.input.now filled.new.buffer c.args.have filled.result.all c.if-ended.true
           filled.ensures.first c.requires.so_far;
       input_ended = (search rules, sym (length-take-le _ _ (within filled.ensures c.requires.have_in_bounds.0)));
     }
 
-pub returns-then-all-have : goal.returns-then-all-have
-returns-then-all-have c = inr (c.end.ensures, refl)
+pub returns-then-ended : goal.returns-then-ended
+returns-then-ended c = inr (c.end.ensures, refl)
 
 pub list_filled-requires : goal.list_filled-requires
 list_filled-requires c =
