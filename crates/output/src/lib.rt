@@ -3,8 +3,7 @@
 #![tactic(auto)]
 
 ghost use Rattle.std.specs.Prelude.{◌≡◌};
-ghost use Rattle.std.specs.Io.KnownBytes.{Appends};
-ghost use Rattle.output.specs.declared.Written.{Written};
+ghost use Rattle.output.specs.Writing.{Wrote};
 
 use std::io::{ErrorKind, Write};
 
@@ -18,14 +17,18 @@ pub enum Written {
     Refused,
 }
 
-// Writes the text to a writer, by as many writes as it takes. What the writer holds has grown by the whole text where the answer says so;
-// else some of it may have been written.
+// Writes the text to a writer, by as many writes as it takes. Where one fails, or takes nothing, that is the last.
 pub fn write_all<W: Write>(text: &[u8], to: &mut W) -> Written
-    ensures { result ≡ Written.Whole → Appends (W.contents to.old) (W.contents to.new) text.now }
+    ensures { Wrote text.now (W.contents to.old) result (W.contents to.new) }
 {
-    match to.write_all(text) {
-        Ok(()) => Written::Whole,
-        Err(e) if e.kind() == ErrorKind::BrokenPipe => Written::ReaderGone,
-        Err(_) => Written::Refused,
+    let mut done = 0;
+    while done < text.len() {
+        match to.write(&text[done..]) {
+            Ok(0) => return Written::Refused,
+            Ok(n) => done += n,
+            Err(e) if e.kind() == ErrorKind::BrokenPipe => return Written::ReaderGone,
+            Err(_) => return Written::Refused,
+        }
     }
+    Written::Whole
 }
