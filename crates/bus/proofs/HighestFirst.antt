@@ -7,15 +7,10 @@ use mathlib.Core.Bool.{Bool, true, false, false≢true}
 use mathlib.Core.Logic.{⊎_elim, ◌↔◌, ◌≢◌, Ne-symm}
 use lib.Dec.{eqb, ltb}
 use borrow.Author.Tests.{eq-eqb, ne_eqb, eqb-true, eqb-false, ltb-true, ltb-false}
-use Rattle.words.proofs.Choices.{either_way}
+use Rattle.std.proofs.lemmas.Bool.{cases_Bool, false_from_ne_true}
 use Rattle.bus.specs.Order.{waits, highest, granted}
 use Rattle.bus.specs.declared.Bus.{Bus}
 use Rattle.bus.proofs.Sources.{bus, waits_listed, set_here, set_elsewhere}
-
--- A test that cannot be true is false.
-untrue : (t : Bool) → t ≢ true → t ≡ false
-untrue true n = absurd (n refl)
-untrue false n = refl
 
 -- ---- the highest source that waits
 -- No source above the highest waits: whoever waits is no higher.
@@ -52,11 +47,11 @@ highest_waits b = go b.hold b.screen b.dram b.host b.processor
 -- There is no highest waiting source, for which 5 stands, exactly if no source waits.
 pub none_highest : (b : Bus) → highest b ≡ 5 ↔ ((s : ℕ) → waits b s ≡ false)
 none_highest b = (
-  λ e s. untrue _ (λ w. omega (arith, e, none_higher b s w, waits_listed b s w)),
+  λ e s. false_from_ne_true _ (λ w. omega (arith, e, none_higher b s w, waits_listed b s w)),
   λ q. ⊎_elim
       (eqb-true _ _)
       (λ e. absurd (false≢true (sym (q _) ∙ highest_waits b (eqb-false _ _ e))))
-      (either_way (eqb (highest b) 5)),
+      (cases_Bool (eqb (highest b) 5)),
 )
 
 -- ---- a grant
@@ -79,10 +74,10 @@ module _ (b : Bus) where
       rw (ne_eqb (highest b) 5 n)
       (record {
         waiting = w;
-        first = λ k l. untrue _ (λ w. omega (arith, none_higher b k w));
+        first = λ k l. false_from_ne_true _ (λ w. omega (arith, none_higher b k w));
         hold_stays = λ e. rw (eq-eqb _ 0 e);
         cleared = λ z. rw (ne_eqb _ 0 z) (set_here b _ _ l);
-        others = λ k d. ⊎_elim (λ e. rw e) (λ e. rw e (set_elsewhere b _ _ l k d)) (either_way (eqb (highest b) 0));
+        others = λ k d. ⊎_elim (λ e. rw e) (λ e. rw e (set_elsewhere b _ _ l k d)) (cases_Bool (eqb (highest b) 0));
       })
 
   -- A grant that is done answers a waiting source, and none higher waits; that source waits no more unless it is hold, and all others stay
@@ -94,26 +89,26 @@ module _ (b : Bus) where
   -- Hold stays until it is released: no grant changes whether it waits.
   pub grant_keeps_hold : waits (granted b).bus 0 ≡ waits b 0
   unfolding granted
-  grant_keeps_hold = ⊎_elim (λ e. rw e) (λ e. some (some_granted (eqb-false _ 5 e))) (either_way (eqb (highest b) 5))
+  grant_keeps_hold = ⊎_elim (λ e. rw e) (λ e. some (some_granted (eqb-false _ 5 e))) (cases_Bool (eqb (highest b) 5))
     where
       some : Grants b (granted b).source (granted b).bus → waits (granted b).bus 0 ≡ waits b 0
       some g =
           ⊎_elim
           (λ z. rw (g.hold_stays (eqb-true _ 0 z)))
           (λ z. g.others 0 (Ne-symm (eqb-false _ 0 z)))
-          (either_way (eqb (granted b).source 0))
+          (cases_Bool (eqb (granted b).source 0))
 
 -- After a grant, but of hold, only lower sources wait.
 pub lower_wait : {b left : Bus} {s : ℕ} → Grants b s left → s ≢ 0 → (t : ℕ) → waits left t ≡ true → s < t
 lower_wait {b} {left} {s} g h t w =
-    ⊎_elim (ltb-true s t) (λ l. absurd (earlier (ltb-false s t l))) (either_way (ltb s t))
+    ⊎_elim (ltb-true s t) (λ l. absurd (earlier (ltb-false s t l))) (cases_Bool (ltb s t))
   where
     earlier : t ≤ s → ⊥
     earlier l =
         ⊎_elim
         (λ e. false≢true (sym (g.cleared h) ∙ subst (λ (k : ℕ). waits left k ≡ true) (eqb-true t s e) w))
         (λ e. false≢true (sym (g.first t (omega (arith, eqb-false t s e))) ∙ sym (g.others t (eqb-false t s e)) ∙ w))
-        (either_way (eqb t s))
+        (cases_Bool (eqb t s))
 
 -- Grants in a row, with nothing asked between them, go down the order from 1 to 4.
 pub grants_go_down : (b : Bus) →

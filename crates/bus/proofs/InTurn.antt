@@ -7,7 +7,7 @@ use mathlib.Core.Bool.{true, false, false≢true}
 use mathlib.Core.Logic.{⊎_elim, ◌≢◌, Ne-symm}
 use lib.Dec.{eqb}
 use borrow.Author.Tests.{eqb-true, eqb-false}
-use Rattle.words.proofs.Choices.{either_way}
+use Rattle.std.proofs.lemmas.Bool.{cases_Bool}
 use Rattle.bus.specs.Order.{waits, granted}
 use Rattle.bus.specs.declared.Bus.{Bus}
 use Rattle.bus.proofs.HighestFirst.{grant_done, grant_keeps_hold, lower_wait}
@@ -35,7 +35,7 @@ in_turn (suc n) m s b least near h w =
     ⊎_elim
     (λ e. now z (eqb-true _ s e))
     (λ e. later (rest (g.others s (Ne-symm (eqb-false _ s e)) ∙ w)))
-    (either_way (eqb (granted b).source s))
+    (cases_Bool (eqb (granted b).source s))
 
 -- Source s, if it waits and hold does not, and nothing is asked meanwhile, is granted within s grants.
 pub granted_in_turn : (b : Bus) (s : ℕ) → waits b 0 ≡ false → waits b s ≡ true → GrantedWithin s b s

@@ -7,7 +7,7 @@ use mathlib.Core.Bool.{Bool, true, false, false≢true}
 use mathlib.Core.Logic.{◌⊎◌, inl, inr, ⊎_elim, ◌↔◌, ◌≢◌}
 use lib.Dec.{eqb, ltb}
 use borrow.Author.Tests.{eq-eqb, ne_eqb, lt-ltb, le-ltb, eqb-true, eqb-false, ltb-true, ltb-false}
-use Rattle.words.proofs.Choices.{either_way}
+use Rattle.std.proofs.lemmas.Bool.{cases_Bool}
 use Rattle.bus.specs.Order.{waits, highest, asked, granted, released}
 use Rattle.bus.specs.declared.Bus.{Bus}
 use Rattle.bus.specs.declared.BusAnswer.{BusAnswer}
@@ -68,8 +68,8 @@ module _ (b : Bus) (s : ℕ) where
   ask_numbers =
       ⊎_elim
       (λ l. beyond (ltb-true 4 s l))
-      (λ l. ⊎_elim again (new (ltb-false 4 s l)) (either_way (waits b s)))
-      (either_way (ltb 4 s))
+      (λ l. ⊎_elim again (new (ltb-false 4 s l)) (cases_Bool (waits b s)))
+      (cases_Bool (ltb 4 s))
 
 -- ---- granting
 -- A grant: 8 if nothing waits, else 0, each when, and only then; refused, it answers source 0 and the record is as it stood.
@@ -107,7 +107,7 @@ module _ (b : Bus) where
   -- A grant answers 8 exactly if no source waits, else 0; refused, it answers source 0 and leaves the record.
   pub grant_numbers : GrantNumbers b (granted b)
   grant_numbers =
-      ⊎_elim (λ e. none (eqb-true _ 5 e)) (λ e. some (eqb-false _ 5 e)) (either_way (eqb (highest b) 5))
+      ⊎_elim (λ e. none (eqb-true _ 5 e)) (λ e. some (eqb-false _ 5 e)) (cases_Bool (eqb (highest b) 5))
 
 -- ---- releasing
 -- A release: 8 if hold does not wait, else 0, each when, and only then; refused, the record is as it stood.

@@ -7,7 +7,7 @@ use mathlib.Core.Bool.{Bool, true, false, false≢true, cond}
 use mathlib.Core.Logic.{⊎_elim, ◌≢◌, Ne-symm}
 use lib.Dec.{eqb, ltb}
 use borrow.Author.Tests.{eq-eqb, ne_eqb, ltb-true, ltb-false}
-use Rattle.words.proofs.Choices.{either_way}
+use Rattle.std.proofs.lemmas.Bool.{cases_Bool}
 use Rattle.bus.specs.Order.{quiet, waits, with_source}
 use Rattle.bus.specs.declared.Bus.{Bus}
 
@@ -31,7 +31,7 @@ none_beyond b s h =
 
 -- Whoever waits is one of the five.
 pub waits_listed : (b : Bus) (s : ℕ) → waits b s ≡ true → s ≤ 4
-waits_listed b s w = ⊎_elim beyond (ltb-false 4 s) (either_way (ltb 4 s))
+waits_listed b s w = ⊎_elim beyond (ltb-false 4 s) (cases_Bool (ltb 4 s))
   where
     beyond : ltb 4 s ≡ true → s ≤ 4
     beyond l = absurd (false≢true (sym (none_beyond b s (ltb-true 4 s l)) ∙ w))

@@ -2,11 +2,14 @@
 // A source is a number, so that any can be given: one that is not 0 to 4 is refused.
 #![tactic(auto)]
 
-ghost use Rattle.std.specs.Prelude.{◌≡◌, cond};
+ghost use Rattle.std.specs.Prelude.{◌≡◌, None, Some, if◌then◌else◌, ◌==◌};
+ghost use Rattle.words.specs.Refusals.{refusal_number};
 ghost use Rattle.bus.specs.Order.{quiet, waits, with_source, highest, asked, granted, released};
 
-// Which of the five sources wait, highest first.
-#[derive(Clone, Copy)]
+use words::Refusal;
+
+// Which of the five sources wait, highest first: five fields and no list, since the laws name each (`source_named`).
+#[derive(Clone, Copy, Debug, PartialEq, Eq)]
 pub struct Bus {
     pub hold: bool,
     pub screen: bool,
@@ -15,15 +18,16 @@ pub struct Bus {
     pub processor: bool,
 }
 
-// What asking or releasing answers: its number, and who waits then.
-#[derive(Clone, Copy)]
+// What asking or releasing answers: its number (document 01, "Numbers returned": 0 where it is done), and who waits then.
+// (Not one record with what a write by the processor answers: `asked` and `processor_writes` answer each its own.)
+#[derive(Clone, Copy, Debug, PartialEq, Eq)]
 pub struct BusAnswer {
     pub number: u8,
     pub bus: Bus,
 }
 
-// What a grant answers: its number, the source granted, and who waits then.
-#[derive(Clone, Copy)]
+// What a grant answers: its number, the source granted (0 with a refusal, as document 01 has it), and who waits then.
+#[derive(Clone, Copy, Debug, PartialEq, Eq)]
 pub struct Granted {
     pub number: u8,
     pub source: u32,
@@ -46,6 +50,7 @@ pub fn idle() -> Bus
 }
 
 // That source waits; none but 0 to 4 ever does.
+#[tactic(auto, unfolding(crate::specs::Order::waits))]
 pub fn is_waiting(b: Bus, source: u32) -> bool
     ensures { result ≡ waits b source }
 {
@@ -59,59 +64,67 @@ pub fn is_waiting(b: Bus, source: u32) -> bool
     }
 }
 
-// The first where the test holds, else the second.
-fn choose(test: bool, a: bool, b: bool) -> bool
-    ensures { result ≡ cond test a b }
-{
-    if test { a } else { b }
-}
-
 // The record with that source waiting or not, and the others as they stood.
+#[tactic(auto, unfolding(crate::specs::Order::with_source))]
 fn set_source(b: Bus, source: u32, waiting: bool) -> Bus
     ensures { result ≡ with_source b source waiting }
 {
-    Bus {
-        hold: choose(source == 0, waiting, b.hold),
-        screen: choose(source == 1, waiting, b.screen),
-        dram: choose(source == 2, waiting, b.dram),
-        host: choose(source == 3, waiting, b.host),
-        processor: choose(source == 4, waiting, b.processor),
+    match source {
+        0 => Bus { hold: waiting, ..b },
+        1 => Bus {
+            screen: waiting,
+            ..b
+        },
+        2 => Bus { dram: waiting, ..b },
+        3 => Bus { host: waiting, ..b },
+        4 => Bus {
+            processor: waiting,
+            ..b
+        },
+        _ => b,
     }
 }
 
-// The highest source that waits; 5 where none does.
-fn highest_of(b: Bus) -> u32
-    ensures { result ≡ highest b }
+// The highest source that waits, if one does.
+#[tactic(auto, unfolding(crate::specs::Order::highest))]
+fn highest_of(b: Bus) -> Option<u32>
+    ensures { result ≡ (if highest b == 5 then None else Some (highest b)) }
 {
-    if b.hold {
-        return 0;
+    match b {
+        Bus { hold: true, .. } => Some(0),
+        Bus { screen: true, .. } => Some(1),
+        Bus { dram: true, .. } => Some(2),
+        Bus { host: true, .. } => Some(3),
+        Bus {
+            processor: true,
+            ..
+        } => Some(4),
+        _ => None,
     }
-    if b.screen {
-        return 1;
-    }
-    if b.dram {
-        return 2;
-    }
-    if b.host {
-        return 3;
-    }
-    if b.processor {
-        return 4;
-    }
-    5
 }
 
 // ---- the three calls
 
+// Refused: nothing changes.
+fn refuse(refusal: Refusal, b: Bus) -> BusAnswer
+    ensures { result ≡ record { number = refusal_number refusal; bus = b } }
+{
+    BusAnswer {
+        number: u8::from(refusal),
+        bus: b,
+    }
+}
+
 // A source asks for the bus: it waits from now on.
+#[tactic(auto, unfolding(crate::specs::Order::asked))]
 pub fn ask(b: Bus, source: u32) -> BusAnswer
     ensures { result ≡ asked b source }
 {
     if is_waiting(b, source) {
-        return BusAnswer { number: 7, bus: b };
+        return refuse(Refusal::AlreadyWaiting, b);
     }
     if 4 < source {
-        return BusAnswer { number: 9, bus: b };
+        return refuse(Refusal::UnknownSource, b);
     }
     BusAnswer {
         number: 0,
@@ -120,17 +133,17 @@ pub fn ask(b: Bus, source: u32) -> BusAnswer
 }
 
 // The highest waiting source gets the bus. It waits no more, unless it is hold.
+#[tactic(auto, unfolding(crate::specs::Order::granted))]
 pub fn grant(b: Bus) -> Granted
     ensures { result ≡ granted b }
 {
-    let source = highest_of(b);
-    if source == 5 {
+    let Some(source) = highest_of(b) else {
         return Granted {
-            number: 8,
+            number: u8::from(Refusal::NoneWaiting),
             source: 0,
             bus: b,
         };
-    }
+    };
     if source == 0 {
         return Granted {
             number: 0,
@@ -146,14 +159,15 @@ pub fn grant(b: Bus) -> Granted
 }
 
 // Hold waits no more, whether or not it was granted.
+#[tactic(auto, unfolding(crate::specs::Order::released, crate::specs::Order::with_source))]
 pub fn release(b: Bus) -> BusAnswer
     ensures { result ≡ released b }
 {
-    if b.hold {
-        return BusAnswer {
-            number: 0,
-            bus: set_source(b, 0, false),
-        };
+    if !b.hold {
+        return refuse(Refusal::NoneWaiting, b);
     }
-    BusAnswer { number: 8, bus: b }
+    BusAnswer {
+        number: 0,
+        bus: Bus { hold: false, ..b },
+    }
 }

@@ -7,7 +7,7 @@ use mathlib.Core.Bool.{Bool, true, false, cond, ◌&&◌, ◌||◌}
 use mathlib.Core.Logic.{⊎_elim}
 use Rattle.words.specs.Bytes.{lo, hi, bit, takes_low, takes_high}
 use Rattle.words.proofs.Bits.{bit_of_low, bit_of_high}
-use Rattle.words.proofs.Choices.{either_way}
+use Rattle.std.proofs.lemmas.Bool.{cases_Bool}
 use Rattle.words.proofs.Lanes.{laid_word, laid_low, laid_high}
 use Rattle.control.specs.Control.{msgin, intin, msgout, intout, bare, host_low, processor_low, control_laid}
 use Rattle.control.proofs.LowByte.{Parts, host_parts, host_byte, processor_parts, processor_byte}
@@ -39,7 +39,7 @@ module _ (low : ℕ → ℕ → ℕ) (byte : (x y : ℕ) → low x y < 256) (lan
 
   -- Where bit 10 of HSTCTL is clear, every write leaves it so.
   pub ten_stays_clear : bit c 10 ≡ false → bit (control_laid low lanes c w) 10 ≡ false
-  ten_stays_clear h = ⊎_elim ten_left_clear kept (either_way (takes_high lanes))
+  ten_stays_clear h = ⊎_elim ten_left_clear kept (cases_Bool (takes_high lanes))
     where
       kept : takes_high lanes ≡ false → bit (control_laid low lanes c w) 10 ≡ false
       kept e =

@@ -1,15 +1,18 @@
 // The control register HSTCTL: the bits that the port obeys, and what each side's write makes of it.
 // Document 01, "The four host registers" and "The processor's side".
+// Each bit, and each side's write, has a function of its own: its name says more than a bit number, or a rule handed on, would.
+// Registers and lanes are numbers, as `closes` and `fetches` have them: any may be given, and those that are none are refused above.
 #![tactic(auto)]
 
-ghost use Rattle.std.specs.Prelude.{◌≡◌, cond, ◌≤◌};
+ghost use Rattle.std.specs.Prelude.{◌≡◌};
 ghost use Rattle.words.specs.Bytes.{hi, lay};
 ghost use Rattle.control.specs.Control.{intin, intout, incw, incr, lbl, bare, low_parts, host_low, processor_low, control_laid};
 ghost use Rattle.control.specs.Control.{closes, fetches};
 
-use words::{bit_of, both, either, high_byte, lay_bytes, low_byte};
+use words::{bit_of, high_byte, lay_bytes, low_byte};
 
 // HSTCTL as it reads: bit 10 is 0.
+#[tactic(auto, unfolding(crate::specs::Control::bare))]
 pub fn hide_bit_10(c: u16) -> u16
     ensures { result ≡ bare c }
 {
@@ -38,6 +41,7 @@ fn low_byte_last(c: u16) -> bool
 }
 
 // The closing byte is among the lanes.
+#[tactic(auto, unfolding(crate::specs::Control::closes))]
 pub fn closes_word(c: u16, lanes: u32) -> bool
     ensures { result ≡ closes c lanes }
 {
@@ -49,6 +53,7 @@ pub fn closes_word(c: u16, lanes: u32) -> bool
 }
 
 // This half of the pointer fetches when its closing byte is written: HSTADRH, or with LBL 1 HSTADRL.
+#[tactic(auto, unfolding(crate::specs::Control::fetches))]
 pub fn fetches_by(c: u16, register: u32) -> bool
     ensures { result ≡ fetches c register }
 {
@@ -63,45 +68,41 @@ pub fn fetches_by(c: u16, register: u32) -> bool
 fn int_in(b: u8) -> bool
     ensures { result ≡ intin b }
 {
-    bit_of(b as u16, 3)
+    bit_of(u16::from(b), 3)
 }
 
 // INTOUT of a low control byte.
 fn int_out(b: u8) -> bool
     ensures { result ≡ intout b }
 {
-    bit_of(b as u16, 7)
-}
-
-// A bit as a number: its weight where it is set.
-fn weigh(test: bool, weight: u8) -> u8
-    ensures { (result ≡ cond test weight 0) × (result ≤ weight) }
-{
-    if test { weight } else { 0 }
+    bit_of(u16::from(b), 7)
 }
 
 // The low control byte with MSGIN of one byte, INTIN, MSGOUT of another byte, INTOUT.
+#[tactic(auto, unfolding(crate::specs::Control::low_parts))]
 fn join_parts(mi: u8, ii: bool, mo: u8, io: bool) -> u8
     ensures { result ≡ low_parts mi ii mo io }
 {
-    mi % 8 + weigh(ii, 8) + mo / 16 % 8 * 16 + weigh(io, 128)
+    mi % 8 + 8 * u8::from(ii) + mo / 16 % 8 * 16 + 128 * u8::from(io)
 }
 
 // The low control byte after the host writes new over old.
+#[tactic(auto, unfolding(crate::specs::Control::host_low))]
 fn host_low_of(old: u8, new: u8) -> u8
     ensures { result ≡ host_low old new }
 {
-    let ii = either(int_in(old), int_in(new));
-    let io = both(int_out(old), int_out(new));
+    let ii = int_in(old) || int_in(new);
+    let io = int_out(old) && int_out(new);
     join_parts(new, ii, old, io)
 }
 
 // The low control byte after the processor writes new over old.
+#[tactic(auto, unfolding(crate::specs::Control::processor_low))]
 fn processor_low_of(old: u8, new: u8) -> u8
     ensures { result ≡ processor_low old new }
 {
-    let ii = both(int_in(old), int_in(new));
-    let io = either(int_out(old), int_out(new));
+    let ii = int_in(old) && int_in(new);
+    let io = int_out(old) || int_out(new);
     join_parts(old, ii, new, io)
 }
 

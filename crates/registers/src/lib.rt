@@ -14,11 +14,11 @@ pub use processor::{processor_read, processor_write, reset};
 pub use parts::{high_half_of, low_half_of, read_register, set_latch, set_pointer, write_register};
 use words::BitAddress;
 
-#[derive(Clone, Copy)]
+#[derive(Clone, Copy, Debug, PartialEq, Eq)]
 pub struct Registers {
     // HSTADRL is its low half, HSTADRH its high half.
     pub pointer: BitAddress,
-    // HSTDATA.
+    // HSTDATA; with `hollow` beside it and no `Option`, since it keeps its word then, and reads as it.
     pub latch: u16,
     // HSTCTL.
     pub control: u16,
@@ -27,22 +27,22 @@ pub struct Registers {
     pub hollow: bool,
 }
 
-// What a read by the processor answers.
-#[derive(Clone, Copy)]
+// What a read by the processor answers: a number of document 01, "Numbers returned", and a word that is 0 with a refusal.
+#[derive(Clone, Copy, Debug, PartialEq, Eq)]
 pub struct ProcessorRead {
     pub number: u8,
     pub word: u16,
 }
 
-// What a write by the processor leaves.
-#[derive(Clone, Copy)]
+// What a write by the processor leaves: such a number, and the registers, which a refusal leaves as they are.
+#[derive(Clone, Copy, Debug, PartialEq, Eq)]
 pub struct ProcessorWrite {
     pub number: u8,
     pub registers: Registers,
 }
 
 // What reset leaves.
-#[derive(Clone, Copy)]
+#[derive(Clone, Copy, Debug, PartialEq, Eq)]
 pub struct Woken {
     pub registers: Registers,
     pub bus: Bus,

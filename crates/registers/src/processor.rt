@@ -1,48 +1,48 @@
 // The processor's side of the port: five registers, always sixteen bits, and never a memory cycle; and reset.
+// A register is a number, since any may be given, and one above 4 is refused; so are the lanes that `write_register` takes.
 ghost use Rattle.std.specs.Prelude.{◌≡◌};
 ghost use Rattle.registers.specs.Processor.{processor_word, processor_written, processor_reads, processor_writes, at_reset};
 
 use crate::parts::{read_register, set_control, set_latch, write_register};
 use crate::{ProcessorRead, ProcessorWrite, Registers, Woken};
 use control::hide_bit_10;
-use words::{BitAddress, show_bytes};
+use words::{BitAddress, Refusal, show_bytes};
 
 // What a register of the five reads as.
+#[tactic(auto, unfolding(crate::specs::Processor::processor_word))]
 fn read_of_five(r: Registers, register: u32) -> u16
     ensures { result ≡ processor_word r register }
 {
-    if register < 3 {
-        return read_register(r, register);
+    match register {
+        0..=2 => read_register(r, register),
+        3 => show_bytes(1, hide_bit_10(r.control)),
+        _ => show_bytes(2, hide_bit_10(r.control)),
     }
-    let c = hide_bit_10(r.control);
-    if register == 3 {
-        return show_bytes(1, c);
-    }
-    show_bytes(2, c)
 }
 
 // The registers with one of the five written.
+#[tactic(auto, unfolding(crate::specs::Processor::processor_written))]
 fn write_of_five(r: Registers, register: u32, w: u16) -> Registers
     ensures { result ≡ processor_written r register w }
 {
-    if register < 2 {
-        return write_register(r, register, 3, w);
+    match register {
+        0 | 1 => write_register(r, register, 3, w),
+        2 => set_latch(r, w, false),
+        3 => set_control(r, control::write_by_processor(r.control, 1, w)),
+        _ => set_control(r, control::write_by_processor(r.control, 2, w)),
     }
-    if register == 2 {
-        return set_latch(r, w, false);
-    }
-    if register == 3 {
-        return set_control(r, control::write_by_processor(r.control, 1, w));
-    }
-    set_control(r, control::write_by_processor(r.control, 2, w))
 }
 
 // One read by the processor.
+#[tactic(auto, unfolding(crate::specs::Processor::processor_reads))]
 pub fn processor_read(r: Registers, register: u32) -> ProcessorRead
     ensures { result ≡ processor_reads r register }
 {
     if 4 < register {
-        return ProcessorRead { number: 2, word: 0 };
+        return ProcessorRead {
+            number: u8::from(Refusal::UnknownRegister),
+            word: 0,
+        };
     }
     ProcessorRead {
         number: 0,
@@ -51,12 +51,13 @@ pub fn processor_read(r: Registers, register: u32) -> ProcessorRead
 }
 
 // One write by the processor.
+#[tactic(auto, unfolding(crate::specs::Processor::processor_writes))]
 pub fn processor_write(r: Registers, register: u32, w: u16) -> ProcessorWrite
     ensures { result ≡ processor_writes r register w }
 {
     if 4 < register {
         return ProcessorWrite {
-            number: 2,
+            number: u8::from(Refusal::UnknownRegister),
             registers: r,
         };
     }
@@ -70,7 +71,6 @@ pub fn processor_write(r: Registers, register: u32, w: u16) -> ProcessorWrite
 pub fn reset() -> Woken
     ensures { result ≡ at_reset }
 {
-    let b = bus::idle();
     Woken {
         registers: Registers {
             pointer: BitAddress(0),
@@ -78,6 +78,6 @@ pub fn reset() -> Woken
             control: 0x8000,
             hollow: true,
         },
-        bus: b,
+        bus: bus::idle(),
     }
 }

@@ -3,7 +3,7 @@ use Rattle.std.proofs.Common.{◌≡◌, ℕ, zero, suc, ◌+◌, ◌*◌, ◌/�
 use lib.Bits.{bit_and, and_shr, and_mod}
 use borrow.Author.Tests.{eqb-false}
 use Rattle.words.specs.Bytes.{bit}
-use Rattle.words.proofs.Choices.{either_way}
+use Rattle.std.proofs.lemmas.Bool.{cases_Bool}
 
 -- A bit is set exactly if its binary digit is 1.
 pub is_set : (v i : ℕ) → bit v i ≡ true ↔ v / 2 ^ i % 2 ≡ 1
@@ -22,7 +22,7 @@ same_digit v i w j = (
   λ e. ⊎_elim
       (λ s. (is_set v i).0 s ∙ sym ((is_set w j).0 (sym e ∙ s)))
       (λ s. (is_clear v i).0 s ∙ sym ((is_clear w j).0 (sym e ∙ s)))
-      (either_way (bit v i)),
+      (cases_Bool (bit v i)),
   λ e. ap (λ (d : ℕ). eqb d 1) e,
 )
 

@@ -8,6 +8,7 @@ pub mod ByBytes
 pub mod MemoryWords
 pub mod OfWidth
 pub mod Lent
+pub mod RefusalNumbers
 pub mod One
 pub mod Contracts
 pub mod Promised

@@ -1,7 +1,7 @@
--- What the definitions of one word of memory say: found again where it was stored, filler and nothing beyond the end;
+-- What the definitions of one word of memory say: found again where it was stored, none and nothing beyond the end;
 -- and words of 16 bits stay so.
 -- Each law goes by cases on whether the word is in memory.
-use Rattle.std.proofs.Common.{◌≡◌, ℕ, zero, suc, ◌<◌, Bool, true, false, cond, ◌≢◌, ◌↔◌, List, [], ◌∷◌, length, get_or, set, refl, arith, length-set, get_or-set_other, get_or-set_same, ltb-true, lt-ltb}
+use Rattle.std.proofs.Common.{is_some, unwrap_or, Some, None, ◌≡◌, ℕ, zero, suc, ◌<◌, Bool, true, false, cond, ◌≢◌, ◌↔◌, List, [], ◌∷◌, length, get_or, set, refl, length-set, get_or-set_other, get_or-set_same, ltb-true, lt-ltb}
 use lib.Seq.{set-get_or}
 use Rattle.words.specs.Memory.{over_limit, AreWords, in_memory, fetch_at, store_at}
 use Rattle.words.specs.declared.WordNumber.{WordNumber}
@@ -16,14 +16,32 @@ module _ (m : List ℕ) (n : WordNumber) where
   in_memory_when = (ltb-true n.0 (length m), lt-ltb n.0 (length m))
 
   -- A fetch inside memory brings its word, and says so.
-  pub fetched_inside : in_memory m n ≡ true → fetch_at m n ≡ record { word = get_or m n.0 0; inside = true }
+  pub fetched_inside : in_memory m n ≡ true → fetch_at m n ≡ Some (get_or m n.0 0)
   unfolding fetch_at
   fetched_inside e = rw e
 
-  -- A fetch beyond memory brings FFFFh, and says so.
-  pub fetched_beyond : in_memory m n ≡ false → fetch_at m n ≡ record { word = 65535; inside = false }
+  -- A fetch beyond memory brings none.
+  pub fetched_beyond : in_memory m n ≡ false → fetch_at m n ≡ None
   unfolding fetch_at
   fetched_beyond e = rw e
+
+  -- A fetch brings a word exactly if memory has it.
+  pub fetched_some : is_some (fetch_at m n) ≡ in_memory m n
+  unfolding fetch_at
+  fetched_some = go (in_memory m n)
+    where
+      go : (t : Bool) → is_some (cond t (Some (get_or m n.0 0)) None) ≡ t
+      go true = refl
+      go false = refl
+
+  -- A fetch with a filler for a word that is not there brings the word or that filler.
+  pub fetched_or : (filler : ℕ) → unwrap_or (fetch_at m n) filler ≡ cond (in_memory m n) (get_or m n.0 0) filler
+  unfolding fetch_at
+  fetched_or filler = go (in_memory m n)
+    where
+      go : (t : Bool) → unwrap_or (cond t (Some (get_or m n.0 0)) None) filler ≡ cond t (get_or m n.0 0) filler
+      go true = refl
+      go false = refl
 
   -- A store beyond memory is dropped.
   pub stored_beyond : (w : ℕ) → in_memory m n ≡ false → store_at m n w ≡ m
@@ -54,16 +72,16 @@ module _ (m : List ℕ) (n : WordNumber) where
       go false = refl
 
   -- What was stored inside memory is fetched again.
-  pub fetch_stored : (w : ℕ) → in_memory m n ≡ true → fetch_at (store_at m n w) n ≡ record { word = w; inside = true }
+  pub fetch_stored : (w : ℕ) → in_memory m n ≡ true → fetch_at (store_at m n w) n ≡ Some w
   unfolding fetch_at
   fetch_stored w e = rw (stored_length w, e, stored_here w e)
 
-  -- What was fetched, stored again, changes nothing.
-  pub store_fetched : store_at m n (fetch_at m n).word ≡ m
-  unfolding store_at fetch_at
-  store_fetched = go (in_memory m n)
+  -- What was fetched, stored again, changes nothing, whatever filler stands for a word that is not there.
+  pub store_fetched : (filler : ℕ) → store_at m n (unwrap_or (fetch_at m n) filler) ≡ m
+  unfolding store_at
+  store_fetched filler = rw (fetched_or filler) (go (in_memory m n))
     where
-      go : (t : Bool) → cond t (set m n.0 (cond t (get_or m n.0 0) 65535)) m ≡ m
+      go : (t : Bool) → cond t (set m n.0 (cond t (get_or m n.0 0) filler)) m ≡ m
       go true = set-get_or m n.0 0
       go false = refl
 
@@ -76,14 +94,13 @@ set_words (v ∷ rest) (suc i) w zero h p = h 0
 set_words (v ∷ rest) (suc i) w (suc k) h p = set_words rest i w k (λ j. h (suc j)) p
 
 module _ (m : List ℕ) (n : WordNumber) (h : AreWords m) where
-  -- What a fetch brings has 16 bits, inside memory and beyond it.
-  pub fetched_word : (fetch_at m n).word < 65536
-  unfolding fetch_at
-  fetched_word = go (in_memory m n)
+  -- What a fetch brings has 16 bits, inside memory and, if the filler has, beyond it.
+  pub fetched_word : (filler : ℕ) → filler < 65536 → unwrap_or (fetch_at m n) filler < 65536
+  fetched_word filler p = rw (fetched_or m n filler) (go (in_memory m n))
     where
-      go : (t : Bool) → cond t (get_or m n.0 0) 0xffff < 65536
+      go : (t : Bool) → cond t (get_or m n.0 0) filler < 65536
       go true = h n.0
-      go false = omega arith
+      go false = p
 
   -- A store of 16 bits leaves words of 16 bits.
   pub stored_words : (w : ℕ) → w < 65536 → AreWords (store_at m n w)

@@ -1,5 +1,5 @@
 -- What the contract of a store promises; and what the contracts of all calls say, taken from the contracts themselves (`Contract`).
-use Rattle.std.proofs.Common.{◌≡◌, ℕ, ◌+◌, ◌*◌, ◌<◌, min, Bool, true, false, ◌&&◌, ◌||◌, ◌≢◌, ◌↔◌, List, length, get_or, sym, ap, ◌∙◌}
+use Rattle.std.proofs.Common.{◌≡◌, ℕ, ◌+◌, ◌*◌, ◌<◌, Bool, true, false, ◌≢◌, ◌↔◌, List, length, get_or, sym, ap, ◌∙◌}
 use Rattle.words.specs.Addresses.{step, word_at}
 use Rattle.words.specs.Bytes.{are_lanes, bit, hi, lay, lo, replaced, shown, takes_high, takes_low}
 use Rattle.words.specs.Memory.{Stored, fetch_at, over_limit}
@@ -20,12 +20,6 @@ use Rattle.words.proofs.join_four.Kinds as join_four_kinds
 use Rattle.words.proofs.join_four.Reads as join_four
 use Rattle.words.proofs.bit_of.Kinds as bit_of_kinds
 use Rattle.words.proofs.bit_of.Reads as bit_of
-use Rattle.words.proofs.both.Kinds as both_kinds
-use Rattle.words.proofs.both.Reads as both
-use Rattle.words.proofs.either.Kinds as either_kinds
-use Rattle.words.proofs.either.Reads as either
-use Rattle.words.proofs.least.Kinds as least_kinds
-use Rattle.words.proofs.least.Reads as least
 use Rattle.words.proofs.selects_low.Kinds as selects_low_kinds
 use Rattle.words.proofs.selects_low.Reads as selects_low
 use Rattle.words.proofs.selects_high.Kinds as selects_high_kinds
@@ -42,6 +36,9 @@ use Rattle.words.proofs.is_over_limit.Kinds as is_over_limit_kinds
 use Rattle.words.proofs.is_over_limit.Reads as is_over_limit
 use Rattle.words.proofs.fetch_word.Kinds as fetch_word_kinds
 use Rattle.words.proofs.fetch_word.Reads as fetch_word
+use Rattle.words.specs.Refusals.{refusal_number}
+use Rattle.words.proofs.refusals.U8FromRefusal.from.Kinds as number_kinds
+use Rattle.words.proofs.refusals.U8FromRefusal.from.Reads as number
 use Rattle.words.proofs.store_word.Kinds as store_word_kinds
 use Rattle.words.proofs.store_word.Reads as store_word
 
@@ -119,30 +116,6 @@ pub bit_of_contract : Contract bit_of_kinds.ps bit_of_kinds.r bit_of.Pre bit_of.
     r ≡ bit w i)
 bit_of_contract = record { takes_any = λ κs args. tt; says = λ κs args r left p. p }
 
--- `both` takes any a and b, and all that its contract allows is `&&` of them.
-pub both_contract : Contract both_kinds.ps both_kinds.r both.Pre both.Post
-    (λ κs args r left.
-    let a = args.0 in
-    let b = args.1.0 in
-    r ≡ (a && b))
-both_contract = record { takes_any = λ κs args. tt; says = λ κs args r left p. p }
-
--- `either` takes any a and b, and all that its contract allows is `||` of them.
-pub either_contract : Contract either_kinds.ps either_kinds.r either.Pre either.Post
-    (λ κs args r left.
-    let a = args.0 in
-    let b = args.1.0 in
-    r ≡ (a || b))
-either_contract = record { takes_any = λ κs args. tt; says = λ κs args r left p. p }
-
--- `least` takes any a and b, and all that its contract allows is the smaller (`min`).
-pub least_contract : Contract least_kinds.ps least_kinds.r least.Pre least.Post
-    (λ κs args r left.
-    let a = args.0 in
-    let b = args.1.0 in
-    r ≡ min a b)
-least_contract = record { takes_any = λ κs args. tt; says = λ κs args r left p. p }
-
 -- `selects_low` takes any lanes, and all that its contract allows is `takes_low` of them.
 pub selects_low_contract : Contract selects_low_kinds.ps selects_low_kinds.r selects_low.Pre selects_low.Post
     (λ κs args r left.
@@ -215,3 +188,10 @@ pub store_word_contract : Contract store_word_kinds.ps store_word_kinds.r store_
     let w = args.1.1.0 in
     Stored memory.now n w r memory'.now)
 store_word_contract = record { takes_any = λ κs args. tt; says = λ κs args r left p. p }
+
+-- `u8::from` takes any refusal, and all that its contract allows is the number of it (`refusal_number`).
+pub number_of_refusal_contract : Contract number_kinds.ps number_kinds.r number.Pre number.Post
+    (λ κs args r left.
+    let refusal = args.0 in
+    r ≡ refusal_number refusal)
+number_of_refusal_contract = record { takes_any = λ κs args. tt; says = λ κs args r left p. p }

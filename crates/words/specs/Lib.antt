@@ -2,3 +2,4 @@ pub mod Addresses
 pub mod Bytes
 pub mod Memory
 pub mod Lent
+pub mod Refusals

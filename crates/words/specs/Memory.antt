@@ -4,9 +4,8 @@
 --   in_memory m n    word n is in the lent memory m
 --   fetch_at m n     what a fetch of word n finds
 --   store_at m n w   the memory after a store of w to word n
-use Rattle.std.specs.Prelude.{◌≡◌, ℕ, ◌<◌, Bool, cond, List, length, nat_lt, slice_index, slice_set}
+use Rattle.std.specs.Prelude.{◌≡◌, ℕ, ◌<◌, Bool, cond, Option, Some, None, List, length, nat_lt, slice_index, slice_set}
 use Rattle.words.specs.declared.WordNumber.{WordNumber}
-use Rattle.words.specs.declared.Fetched.{Fetched}
 
 -- "Memory is a lent slice of 16-bit words, at most 32,768"
 abbrev pub over_limit : ℕ → Bool
@@ -19,9 +18,9 @@ AreWords m = (k : ℕ) → slice_index m k < 65536
 abbrev pub in_memory : List ℕ → WordNumber → Bool
 in_memory m n = nat_lt n.0 (length m)
 
--- "An empty fetch puts FFFFh in HSTDATA" (house)
-unfoldable pub fetch_at : List ℕ → WordNumber → Fetched
-fetch_at m n = record { word = cond (in_memory m n) (slice_index m n.0) 0xffff; inside = in_memory m n }
+-- the word, or none where memory has no such word
+unfoldable pub fetch_at : List ℕ → WordNumber → Option ℕ
+fetch_at m n = cond (in_memory m n) (Some (slice_index m n.0)) None
 
 -- "an empty store is dropped" (house)
 unfoldable pub store_at : List ℕ → WordNumber → ℕ → List ℕ
