@@ -3,7 +3,7 @@
 use Rattle.std.proofs.Common.{◌≡◌, ℕ, zero, suc, ◌+◌, ◌-◌, ◌*◌, ◌/◌, ◌%◌, ◌^◌, ◌<◌, ◌≤◌, true, ◌≢◌, List, [], ◌∷◌, ◌++◌, length, get_or, sym, refl, ap, ◌∙◌, subst, ⊎_elim, div-lt_iff_lt-mul, pow-suc, arith, length-append, le-ltb, lt-ltb}
 use native.Mathlib.Nat.{one-le-pow}
 use lib.ListN.{get_or-append}
-use Rattle.words.proofs.Choices.{less_or_not}
+use Rattle.std.proofs.lemmas.Bool.{cases_lt}
 use Rattle.digits.specs.Digits.{is_decimal}
 use Rattle.digits.specs.Decimal.{digits_within, decimal_text, read_behind, decimal_read, AllDecimal, IsDecimalText}
 use Rattle.digits.proofs.DigitValues.{decimal, decimal_is}
@@ -54,7 +54,7 @@ room_for_more (suc k) n h =
     (λ (l : 10 ≤ n). more_digits (suc (suc k)) n l ∙
     ap (λ (t : List ℕ). t ++ ((48 + n % 10) ∷ [])) (room_for_more k (n / 10) (tenth_below (suc k) n h)) ∙
     sym (more_digits (suc k) n l))
-    (less_or_not n 10)
+    (cases_lt n 10)
 
 -- A number below 10 is its digit.
 pub below_ten : (n : ℕ) → n < 10 → decimal_text n ≡ (48 + n) ∷ []
@@ -82,7 +82,7 @@ reads_within (suc k) n h =
     (λ (l : n < 10). ap decimal_read (one_digit k n l) ∙ omega arith)
     (λ (l : 10 ≤ n). ap decimal_read (more_digits k n l) ∙ digit_behind (digits_within k (n / 10)) (48 + n % 10) ∙
     omega (arith, reads_within k (n / 10) (tenth_below k n h)))
-    (less_or_not n 10)
+    (cases_lt n 10)
 
 -- A number below 10^10, written in decimal, reads back as that number.
 pub reads_back : (n : ℕ) → n < 10 ^ 10 → decimal_read (decimal_text n) ≡ n
@@ -116,7 +116,7 @@ at_most (suc k) n =
     (λ (l : 10 ≤ n).
     let e = ap length (more_digits k n l) ∙ length-append (digits_within k (n / 10)) ((48 + n % 10) ∷ []) in
     omega (arith, e, at_most k (n / 10)))
-    (less_or_not n 10)
+    (cases_lt n 10)
 
 at_least : (k n : ℕ) → 1 ≤ length (digits_within (suc k) n)
 at_least k n =
@@ -125,7 +125,7 @@ at_least k n =
     (λ (l : 10 ≤ n).
     let e = ap length (more_digits k n l) ∙ length-append (digits_within k (n / 10)) ((48 + n % 10) ∷ []) in
     omega (arith, e))
-    (less_or_not n 10)
+    (cases_lt n 10)
 
 few_within : (k f n : ℕ) → n < 10 ^ suc k → length (digits_within f n) ≤ suc k
 few_within k zero n l = let e = ap length (no_digits n) in omega (arith, e)
@@ -136,7 +136,7 @@ few_within (suc k) (suc f) n l =
     (λ (g : 10 ≤ n).
     let e = ap length (more_digits f n g) ∙ length-append (digits_within f (n / 10)) ((48 + n % 10) ∷ []) in
     omega (arith, e, few_within k f (n / 10) (tenth_below (suc k) n l)))
-    (less_or_not n 10)
+    (cases_lt n 10)
 
 -- A number below 10^(k + 1) has at most k + 1 digits.
 pub digits_at_most : (k n : ℕ) → n < 10 ^ suc k → length (decimal_text n) ≤ suc k
@@ -159,7 +159,7 @@ digits_alone (suc k) n =
     (λ (l : n < 10). subst AllDecimal (sym (one_digit k n l)) (decimal (48 + n) (omega arith) (omega arith), tt))
     (λ (l : 10 ≤ n). subst AllDecimal (sym (more_digits k n l))
     (digit_last (digits_within k (n / 10)) (48 + n % 10) (digits_alone k (n / 10)) (decimal (48 + n % 10) (omega arith) (omega arith))))
-    (less_or_not n 10)
+    (cases_lt n 10)
 
 -- A number in decimal is decimal digits alone.
 pub all_decimal : (n : ℕ) → AllDecimal (decimal_text n)
@@ -178,7 +178,7 @@ first_digit (suc k) n h l e =
     (λ (g : 10 ≤ n). first_digit k (n / 10) (omega (arith, g)) (tenth_below (suc k) n l)
     (sym (same_first (digits_within (suc k) (n / 10)) (48 + n % 10) (at_least k (n / 10))) ∙
     sym (ap (λ (t : List ℕ). get_or t 0 0) (more_digits (suc k) n g)) ∙ e))
-    (less_or_not n 10)
+    (cases_lt n 10)
 
 -- A number below 10^10 in decimal is digits alone, one at the least, and begins with 0 only if it is 0 (`IsDecimalText`).
 pub is_decimal_text : (n : ℕ) → n < 10 ^ 10 → IsDecimalText (decimal_text n)
@@ -191,7 +191,7 @@ is_decimal_text n h =
           ⊎_elim
           (λ (l : n < 10). ap length (one_digit 9 n l))
           (λ (l : 10 ≤ n). absurd (first_digit 9 n (omega (arith, l)) h e))
-          (less_or_not n 10);
+          (cases_lt n 10);
     }
 
 -- ---- the only text

@@ -1,18 +1,18 @@
--- Digits: a byte less 48, or less 65, modulo 2^8, tells one; what a digit stands for, and the digit for a number, there and back.
-use Rattle.std.proofs.Common.{◌≡◌, ℕ, zero, suc, ◌+◌, ◌-◌, ◌%◌, ◌^◌, ◌<◌, ◌≤◌, Bool, true, false, cond, ◌&&◌, eqb, ltb, leb, ◌≢◌, ◌⊎◌, List, [], ◌∷◌, get_or, sym, refl, ap, ◌∙◌, inl, inr, ⊎_elim, arith, ltb-false, ltb-true, le-ltb, lt-ltb, eqb-true, le-leb, leb-true}
-use Rattle.words.proofs.Choices.{either_way, both_true, less_or_not, same_or_not}
-use Rattle.digits.specs.Digits.{is_decimal, value_of, is_hex, digit_for}
+-- Digits: what a digit stands for, and the digit for a number, there and back.
+use Rattle.std.proofs.Common.{◌≡◌, ℕ, None, Some, zero, suc, ◌+◌, ◌-◌, ◌%◌, ◌<◌, ◌≤◌, Bool, true, false, cond, ◌&&◌, eqb, ltb, leb, ◌≢◌, ◌⊎◌, List, [], ◌∷◌, get_or, sym, refl, ap, ◌∙◌, inl, inr, ⊎_elim, arith, ltb-true, le-ltb, lt-ltb, eqb-true, le-leb, leb-true}
+use Rattle.std.proofs.lemmas.Bool.{and_parts, cases_Bool, cases_eq, cases_lt}
+use Rattle.digits.specs.Digits.{is_decimal, value_of, is_hex, decimal_value, hex_value, digit_for}
 
 between : (low high b : ℕ) → low ≤ b → b ≤ high → leb low b && leb b high ≡ true
 between low high b h k = rw (le-leb low b h, le-leb b high k) refl
 
 not_between : (low high b : ℕ) → (low ≤ b → b ≤ high → ⊥) → leb low b && leb b high ≡ false
-not_between low high b f = go (either_way (leb low b && leb b high))
+not_between low high b f = go (cases_Bool (leb low b && leb b high))
   where
     go : (leb low b && leb b high ≡ true) ⊎ (leb low b && leb b high ≡ false) → leb low b && leb b high ≡ false
     go (inr e) = e
-    go (inl e) = absurd (f (leb-true low b (both_true (leb low b) (leb b high) e).0)
-        (leb-true b high (both_true (leb low b) (leb b high) e).1))
+    go (inl e) = absurd (f (leb-true low b (and_parts (leb low b) (leb b high) e).0)
+        (leb-true b high (and_parts (leb low b) (leb b high) e).1))
 
 -- ---- "decimal digit"
 
@@ -30,20 +30,18 @@ not_decimal b f = not_between 48 57 b f
 pub decimal_is : (b : ℕ) → is_decimal b ≡ true → (48 ≤ b) × (b ≤ 57)
 unfolding is_decimal
 decimal_is b e =
-    let h = both_true (leb 48 b) (leb b 57) e in
+    let h = and_parts (leb 48 b) (leb b 57) e in
     (leb-true 48 b h.0, leb-true b 57 h.1)
 
--- A byte is a decimal digit exactly if the byte less 48, modulo 2^8, is below 10.
-pub decimal_test : (b d : ℕ) → b < 256 → d < 256 → (d + 48) % 2 ^ 8 ≡ b → ltb d 10 ≡ is_decimal b
-decimal_test b d hb hd e = go (either_way (ltb d 10))
-  where
-    go : (ltb d 10 ≡ true) ⊎ (ltb d 10 ≡ false) → ltb d 10 ≡ is_decimal b
-    go (inl t) =
-        let h = ltb-true d 10 t in
-        t ∙ sym (decimal b (omega (arith, e, h, hb)) (omega (arith, e, h, hb)))
-    go (inr t) =
-        let h = ltb-false d 10 t in
-        t ∙ sym (not_decimal b (λ p q. absurd (omega (arith, e, h, hb, hd, p, q))))
+-- A decimal digit stands for itself less 48.
+pub is_decimal_value : (b : ℕ) → 48 ≤ b → b ≤ 57 → decimal_value b ≡ Some (b - 48)
+unfolding decimal_value
+is_decimal_value b h k = rw (decimal b h k) refl
+
+-- No other byte is a decimal digit.
+pub no_decimal_value : (b : ℕ) → (48 ≤ b → b ≤ 57 → ⊥) → decimal_value b ≡ None
+unfolding decimal_value
+no_decimal_value b f = rw (not_decimal b f) refl
 
 -- ---- "four upper-case hex digits"
 
@@ -59,29 +57,25 @@ value_none : (b : ℕ) → is_decimal b ≡ false → (65 ≤ b → b ≤ 70 →
 unfolding value_of
 value_none b e f = rw (e, not_between 65 70 b f) refl
 
--- If a byte less 48, modulo 2^8, is below 10, that is what the byte stands for.
-pub by_decimal : (b d : ℕ) → b < 256 → d < 256 → (d + 48) % 2 ^ 8 ≡ b → d < 10 → d ≡ value_of b
-by_decimal b d hb hd e h =
-    let v = value_decimal b (sym (decimal_test b d hb hd e) ∙ lt-ltb d 10 h) in
-    let x : d ≡ b - 48 = omega (arith, e, h, hb) in
-    x ∙ sym v
+-- A letter A to F stands for itself less 55.
+pub letter_value : (b : ℕ) → 65 ≤ b → b ≤ 70 → hex_value b ≡ Some (b - 55)
+unfolding hex_value
+letter_value b h k =
+    let v = value_letter b h k in
+    rw (lt-ltb (value_of b) 16 (omega (arith, v, k)), v) refl
 
--- If a byte less 65, modulo 2^8, is below 6, the byte stands for that and 10.
-pub by_letter : (b u : ℕ) → b < 256 → u < 256 → (u + 65) % 2 ^ 8 ≡ b → u < 6 → u + 10 ≡ value_of b
-by_letter b u hb hu e h =
-    let v = value_letter b (omega (arith, e, h, hb)) (omega (arith, e, h, hb)) in
-    let x : u + 10 ≡ b - 55 = omega (arith, e, h, hb) in
-    x ∙ sym v
-
--- If a byte less 48, modulo 2^8, is 10 or more, and less 65, modulo 2^8, is 6 or more, it is no digit, and its value is 16.
-pub by_neither : (b d u : ℕ) → b < 256 → d < 256 → u < 256 → (d + 48) % 2 ^ 8 ≡ b → 10 ≤ d → (u + 65) % 2 ^ 8 ≡ b → 6 ≤ u →
-    16 ≡ value_of b
-by_neither b d u hb hd hu e h f k =
-    sym
-    (value_none
-    b
-    (sym (decimal_test b d hb hd e) ∙ le-ltb d 10 h)
-    (λ p q. absurd (omega (arith, f, k, hb, hu, p, q))))
+-- A byte that is no letter A to F stands for what it stands for as a decimal digit.
+pub no_letter_value : (b : ℕ) → (65 ≤ b → b ≤ 70 → ⊥) → hex_value b ≡ decimal_value b
+unfolding hex_value decimal_value
+no_letter_value b f = go (cases_Bool (is_decimal b))
+  where
+    go : (is_decimal b ≡ true) ⊎ (is_decimal b ≡ false) →
+        cond (ltb (value_of b) 16) (Some (value_of b)) None ≡ cond (is_decimal b) (Some (b - 48)) None
+    go (inl d) =
+        let v = value_decimal b d in
+        let h = decimal_is b d in
+        rw (lt-ltb (value_of b) 16 (omega (arith, v, h.0, h.1)), v, d) refl
+    go (inr d) = rw (value_none b d f, d) refl
 
 -- ---- the digit for a number
 
@@ -98,12 +92,12 @@ agree (suc n) f g = eqb (f n) (g n) && agree n f g
 each_below : (n : ℕ) (f g : ℕ → ℕ) → agree n f g ≡ true → (k : ℕ) → k < n → f k ≡ g k
 each_below zero f g e k h = absurd (omega (arith, h))
 each_below (suc n) f g e k h =
-    let b = both_true (eqb (f n) (g n)) (agree n f g) e in
+    let b = and_parts (eqb (f n) (g n)) (agree n f g) e in
     let last : f n ≡ g n = eqb-true (f n) (g n) b.0 in
     ⊎_elim
     (λ (p : k ≡ n). ap f p ∙ last ∙ ap g (sym p))
     (λ (q : k ≢ n). each_below n f g b.1 k (omega (arith, h, q)))
-    (same_or_not k n)
+    (cases_eq k n)
 
 in_table : (k : ℕ) → k < 16 → get_or all_digits k 0 ≡ cond (ltb k 10) (48 + k) (55 + k)
 in_table k h = each_below 16 (λ (i : ℕ). get_or all_digits i 0) (λ (i : ℕ). cond (ltb i 10) (48 + i) (55 + i)) refl k h
@@ -116,7 +110,7 @@ table_digit n = in_table (n % 16) (omega arith)
 -- The digit for a number is no byte below '0'.
 pub digit_from_0 : (n : ℕ) → 48 ≤ digit_for n
 unfolding digit_for
-digit_from_0 n = go (either_way (ltb (n % 16) 10))
+digit_from_0 n = go (cases_Bool (ltb (n % 16) 10))
   where
     go : (ltb (n % 16) 10 ≡ true) ⊎ (ltb (n % 16) 10 ≡ false) → 48 ≤ cond (ltb (n % 16) 10) (48 + n % 16) (55 + n % 16)
     go (inl e) = rw e (omega arith)
@@ -135,7 +129,7 @@ hex_apart b e g =
 -- The digit for a number stands for it, modulo 16.
 pub value_of_digit : (n : ℕ) → value_of (digit_for n) ≡ n % 16
 unfolding digit_for
-value_of_digit n = go (less_or_not (n % 16) 10)
+value_of_digit n = go (cases_lt (n % 16) 10)
   where
     go : (n % 16 < 10) ⊎ (10 ≤ n % 16) → value_of (cond (ltb (n % 16) 10) (48 + n % 16) (55 + n % 16)) ≡ n % 16
     go (inl h) =
@@ -163,7 +157,7 @@ not_hex b e d g =
 -- The digit for a number is the only byte that stands for it.
 pub digit_of_value : (b n : ℕ) → is_hex b ≡ true → n % 16 ≡ value_of b → digit_for n ≡ b
 unfolding digit_for
-digit_of_value b n e f = go (either_way (is_decimal b)) (less_or_not b 65) (less_or_not 70 b)
+digit_of_value b n e f = go (cases_Bool (is_decimal b)) (cases_lt b 65) (cases_lt 70 b)
   where
     go : (is_decimal b ≡ true) ⊎ (is_decimal b ≡ false) → (b < 65) ⊎ (65 ≤ b) → (70 < b) ⊎ (b ≤ 70) →
         cond (ltb (n % 16) 10) (48 + n % 16) (55 + n % 16) ≡ b

@@ -3,8 +3,9 @@
 --   decimal_of b    what it stands for
 --   value_of b      what a digit 0 to 9 or A to F stands for; 16 for any other byte
 --   is_hex b        b is one of these
+--   decimal_value b, hex_value b   what a decimal digit, and a digit 0 to 9 or A to F, stands for; none for any other byte
 --   digit_for n     the digit for n mod 16
-use Rattle.std.specs.Prelude.{ℕ, ◌+◌, ◌-◌, ◌%◌, Bool, cond, ◌&&◌, nat_le, nat_lt}
+use Rattle.std.specs.Prelude.{ℕ, ◌+◌, ◌-◌, ◌%◌, Bool, cond, ◌&&◌, nat_le, nat_lt, Option, None, Some}
 
 -- '0' is 48, '9' 57
 unfoldable pub is_decimal : ℕ → Bool
@@ -21,6 +22,12 @@ value_of b =
 
 abbrev pub is_hex : ℕ → Bool
 is_hex b = nat_lt (value_of b) 16
+
+unfoldable pub decimal_value : ℕ → Option ℕ
+decimal_value b = cond (is_decimal b) (Some (decimal_of b)) None
+
+unfoldable pub hex_value : ℕ → Option ℕ
+hex_value b = cond (is_hex b) (Some (value_of b)) None
 
 unfoldable pub digit_for : ℕ → ℕ
 digit_for n = cond (nat_lt (n % 16) 10) (48 + n % 16) (55 + n % 16)

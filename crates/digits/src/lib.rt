@@ -3,35 +3,34 @@
 #![tactic(auto)]
 
 ghost use Rattle.std.specs.Prelude.{◌≡◌};
-ghost use Rattle.digits.specs.Digits.{is_decimal, value_of, digit_for};
+ghost use Rattle.digits.specs.Digits.{decimal_value, hex_value, digit_for};
 
-// One of 0 to 9.
-pub fn is_decimal(b: u8) -> bool
-    ensures { result ≡ is_decimal b }
+// What a digit 0 to 9 stands for.
+#[tactic(auto, using(crate::proofs::DigitValues::is_decimal_value, crate::proofs::DigitValues::no_decimal_value))]
+pub fn decimal_value(b: u8) -> Option<u8>
+    ensures { result ≡ decimal_value b }
 {
-    std::num::wrapping_sub_u8(b, 48) < 10
+    match b {
+        b'0'..=b'9' => Some(b - b'0'),
+        _ => None,
+    }
 }
 
-// What a digit 0 to 9 or A to F stands for; 16 for any other byte.
-pub fn hex_value(b: u8) -> u8
-    ensures { result ≡ value_of b }
+// What a digit 0 to 9 or A to F stands for.
+#[tactic(auto, using(crate::proofs::DigitValues::letter_value, crate::proofs::DigitValues::no_letter_value))]
+pub fn hex_value(b: u8) -> Option<u8>
+    ensures { result ≡ hex_value b }
 {
-    let decimal = std::num::wrapping_sub_u8(b, 48);
-    if decimal < 10 {
-        return decimal;
+    match b {
+        b'A'..=b'F' => Some(b - b'A' + 10),
+        _ => decimal_value(b),
     }
-    let letter = std::num::wrapping_sub_u8(b, 65);
-    if letter < 6 {
-        return letter + 10;
-    }
-    16
 }
 
-// The digit for the low four bits of a number.
+// The digit for the low four bits of a number. (`char::from_digit` has small letters.)
+#[tactic(auto, using(crate::proofs::DigitValues::table_digit))]
 pub fn digit_for(n: u16) -> u8
     ensures { result ≡ digit_for n }
 {
-    let k = (n % 16) as usize;
-    let digits = b"0123456789ABCDEF";
-    digits[k]
+    b"0123456789ABCDEF"[usize::from(n % 16)]
 }

@@ -11,7 +11,7 @@ use lib.Dec.{eqb}
 use lib.ListN.{length, drop, length-append}
 use lib.Seq.{drop_at}
 use borrow.Author.Tests.{eqb-true, eqb-false}
-use Rattle.words.proofs.Choices.{either_way}
+use Rattle.std.proofs.lemmas.Bool.{cases_Bool}
 use Rattle.port_spec.specs.Sequences.{Machine, after, answer_of}
 use Rattle.listing.specs.Line.{Line, good, bad, line_of, has_feed}
 use Rattle.listing.specs.Answer.{answer_text, bad_line}
@@ -150,7 +150,7 @@ abbrev next_inside : Listing → ℕ → Listing
 next_inside x b = cond (eqb b 10) (line_ends x (line_of x.begun)) (cond (eqb (length x.begun) 31) (stopped x) (line_goes_on x b))
 
 one_inside : (x : Listing) (t : List ℕ) (b : ℕ) → x.ended ≡ false → Come x t → Come (next_inside x b) (more t b)
-one_inside x t b e c = go (either_way (eqb b 10)) (either_way (eqb (length x.begun) 31))
+one_inside x t b e c = go (cases_Bool (eqb b 10)) (cases_Bool (eqb (length x.begun) 31))
   where
     go : (eqb b 10 ≡ true) ⊎ (eqb b 10 ≡ false) → (eqb (length x.begun) 31 ≡ true) ⊎ (eqb (length x.begun) 31 ≡ false) →
         Come (next_inside x b) (more t b)
@@ -160,7 +160,7 @@ one_inside x t b e c = go (either_way (eqb b 10)) (either_way (eqb (length x.beg
 
 one_byte : (x : Listing) (t : List ℕ) (b : ℕ) → Come x t → Come (next x b) (more t b)
 unfolding next
-one_byte x t b c = go (either_way x.ended)
+one_byte x t b c = go (cases_Bool x.ended)
   where
     go : (x.ended ≡ true) ⊎ (x.ended ≡ false) → Come (cond x.ended x (next_inside x b)) (more t b)
     go (inl e) =

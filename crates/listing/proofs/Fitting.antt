@@ -6,16 +6,12 @@ use mathlib.Core.List.{List}
 use mathlib.Core.Logic.{◌⊎◌, inl, inr}
 use lib.ListN.{length, take}
 use lib.Seq.{take_all}
-use Rattle.words.proofs.Choices.{less_or_not}
+use Rattle.std.proofs.lemmas.Bool.{cases_lt}
 use Rattle.listing.specs.Listing.{fitting}
-
--- Too little room for `bad line` is room for nothing.
-pub none_fits : (room bytes : ℕ) → room < 9 → 0 ≡ min (fitting room) bytes
-none_fits room bytes h = omega arith
 
 -- To take at most n bytes of a text, or the smaller of n and its length, is the same.
 pub taken_is : (n : ℕ) (l : List ℕ) → take (min n (length l)) l ≡ take n l
-taken_is n l = go (less_or_not n (length l))
+taken_is n l = go (cases_lt n (length l))
   where
     go : (n < length l) ⊎ (length l ≤ n) → take (min n (length l)) l ≡ take n l
     go (inl h) =

@@ -6,7 +6,7 @@ use mathlib.Core.List.{List}
 use lib.Dec.{eqb, ltb}
 use lib.ListN.{length}
 use borrow.Author.Tests.{eqb-true, ltb-false}
-use Rattle.words.proofs.Choices.{both_true}
+use Rattle.std.proofs.lemmas.Bool.{and_parts}
 use Rattle.digits.specs.Digits.{is_decimal, is_hex}
 use Rattle.listing.specs.Line.{byte, headed, tailed}
 use Rattle.listing.specs.Parts.{reads, writes}
@@ -27,10 +27,10 @@ head_is letter t e =
     let c : Bool = eqb (byte t 3) 32 && d in
     let b : Bool = is_decimal (byte t 2) && c in
     let a : Bool = eqb (byte t 1) 32 && b in
-    let p = both_true (eqb (byte t 0) letter) a e in
-    let q = both_true (eqb (byte t 1) 32) b p.1 in
-    let r = both_true (is_decimal (byte t 2)) c q.1 in
-    let s = both_true (eqb (byte t 3) 32) d r.1 in
+    let p = and_parts (eqb (byte t 0) letter) a e in
+    let q = and_parts (eqb (byte t 1) 32) b p.1 in
+    let r = and_parts (is_decimal (byte t 2)) c q.1 in
+    let s = and_parts (eqb (byte t 3) 32) d r.1 in
     record {
       first = eqb-true (byte t 0) letter p.0;
       space = eqb-true (byte t 1) 32 q.0;
@@ -55,10 +55,10 @@ tail_is t e =
     let c : Bool = is_hex (byte t 8) && d in
     let b : Bool = is_hex (byte t 7) && c in
     let a : Bool = is_hex (byte t 6) && b in
-    let p = both_true (eqb (byte t 5) 32) a e in
-    let q = both_true (is_hex (byte t 6)) b p.1 in
-    let r = both_true (is_hex (byte t 7)) c q.1 in
-    let s = both_true (is_hex (byte t 8)) d r.1 in
+    let p = and_parts (eqb (byte t 5) 32) a e in
+    let q = and_parts (is_hex (byte t 6)) b p.1 in
+    let r = and_parts (is_hex (byte t 7)) c q.1 in
+    let s = and_parts (is_hex (byte t 8)) d r.1 in
     record { space = eqb-true (byte t 5) 32 p.0; d6 = q.0; d7 = r.0; d8 = s.0; d9 = s.1 }
 
 -- A choice that comes out true, where the first way would be false, went the second way.
@@ -78,7 +78,7 @@ pub read_line : (t : List ℕ) → reads t ≡ true → ReadLine t
 unfolding reads
 read_line t e =
     let p = second_way (ltb (length t) 6) (eqb (byte t 5) 10 && headed 82 t) e in
-    let q = both_true (eqb (byte t 5) 10) (headed 82 t) p.1 in
+    let q = and_parts (eqb (byte t 5) 10) (headed 82 t) p.1 in
     record {
       long = ltb-false (length t) 6 p.0;
       feed = eqb-true (byte t 5) 10 q.0;
@@ -98,11 +98,10 @@ pub record WriteLine (t : List ℕ) : Type 0 where
 
 -- A text that passes the test for a write begins with one.
 pub write_line : (t : List ℕ) → writes t ≡ true → WriteLine t
-unfolding writes
 write_line t e =
     let p = second_way (ltb (length t) 11) (eqb (byte t 10) 10 && (headed 87 t && tailed t)) e in
-    let q = both_true (eqb (byte t 10) 10) (headed 87 t && tailed t) p.1 in
-    let r = both_true (headed 87 t) (tailed t) q.1 in
+    let q = and_parts (eqb (byte t 10) 10) (headed 87 t && tailed t) p.1 in
+    let r = and_parts (headed 87 t) (tailed t) q.1 in
     record {
       long = ltb-false (length t) 11 p.0;
       feed = eqb-true (byte t 10) 10 q.0;

@@ -9,7 +9,7 @@ use lib.Dec.{eqb, ltb}
 use lib.ListN.{length, get_or, take, drop, length-append, get_or-append}
 use lib.Seq.{get_or_at, split_at, take-suc, take-length, length-take-le}
 use borrow.Author.Tests.{eqb-true, eq-eqb, le-ltb}
-use Rattle.words.proofs.Choices.{either_way, both_true}
+use Rattle.std.proofs.lemmas.Bool.{and_parts, cases_Bool}
 use Rattle.port_spec.specs.declared.Access.{Access}
 use Rattle.digits.specs.Digits.{is_decimal}
 use Rattle.listing.specs.Line.{bad, byte, headed, tailed, read_in, write_in, line_of, before_feed, has_feed, with_length, front_line}
@@ -182,7 +182,6 @@ found_read u v e h =
     refl
 
 found_write : (u v : List ℕ) → length u ≡ 10 → headed 87 u ≡ true → tailed u ≡ true → writes (u ++ 10 ∷ v) ≡ true
-unfolding writes
 found_write u v e h t =
     let long : 11 ≤ length (u ++ 10 ∷ v) = simp length-append (omega (arith, e)) in
     rw (
@@ -216,7 +215,7 @@ bad_line_there u v r w =
     (eqb (length u) 5 && headed 82 u)
     (reads (u ++ 10 ∷ v))
     (λ e.
-    let p = both_true (eqb (length u) 5) (headed 82 u) e in
+    let p = and_parts (eqb (length u) 5) (headed 82 u) e in
     found_read u v (eqb-true (length u) 5 p.0) p.1)
     r
     in
@@ -225,17 +224,17 @@ bad_line_there u v r w =
     (eqb (length u) 10 && (headed 87 u && tailed u))
     (writes (u ++ 10 ∷ v))
     (λ e.
-    let p = both_true (eqb (length u) 10) (headed 87 u && tailed u) e in
-    let q = both_true (headed 87 u) (tailed u) p.1 in
+    let p = and_parts (eqb (length u) 10) (headed 87 u && tailed u) e in
+    let q = and_parts (headed 87 u) (tailed u) p.1 in
     found_write u v (eqb-true (length u) 10 p.0) q.0 q.1)
     w
     in
     rw (no_read, no_write) refl
 
 -- A text that passes neither test begins with a bad line if it has a line feed or is over 31 bytes long, and else with one that may go on.
-pub others_front : (t : List ℕ) → reads t ≡ false → writes t ≡ false → front_line t ≡ other_front t
+pub none_front : (t : List ℕ) → reads t ≡ false → writes t ≡ false → front_line t ≡ other_front t
 unfolding front_line other_front
-others_front t r w = go (either_way (has_feed t))
+none_front t r w = go (cases_Bool (has_feed t))
   where
     go : (has_feed t ≡ true) ⊎ (has_feed t ≡ false) →
         cond (has_feed t) (with_length (length (before_feed t) + 1) (line_of (before_feed t))) (cond (ltb 31 (length t)) Bad Open) ≡

@@ -8,7 +8,7 @@ use mathlib.Core.List.{List, ◌∷◌, ◌++◌}
 use mathlib.Core.Logic.{⊎_elim, ◌↔◌, ◌≢◌}
 use lib.ListN.{length}
 use borrow.Author.Tests.{lt-ltb, le-ltb}
-use Rattle.words.proofs.Choices.{either_way, less_or_not}
+use Rattle.std.proofs.lemmas.Bool.{cases_Bool, cases_lt}
 use Rattle.port_spec.specs.declared.Access.{Access}
 use Rattle.port_spec.specs.declared.Access.TheVariants.{Read, Write}
 use Rattle.listing.specs.InNumbers.{FrontNumbers, front_numbers, FrontAs}
@@ -69,8 +69,8 @@ module _ (t : List ℕ) where
   some : (n : FrontNumbers) × FrontAs t n
   some =
       ⊎_elim with_feed
-      (λ e. ⊎_elim (λ k. (_, plain.FrontAs.long_line e k)) (λ k. (_, plain.FrontAs.open_line e k)) (less_or_not 31 (length t)))
-      (either_way (has_feed t))
+      (λ e. ⊎_elim (λ k. (_, plain.FrontAs.long_line e k)) (λ k. (_, plain.FrontAs.open_line e k)) (cases_lt 31 (length t)))
+      (cases_Bool (has_feed t))
 
   -- The numbers of what `front_line` answers are these exactly if the text begins so: with a good line, with a bad one, or with one that
   -- may go on (`FrontAs`).

@@ -9,7 +9,7 @@ use lib.Dec.{eqb}
 use lib.ListN.{length, take}
 use lib.Seq.{take-suc, take_all}
 use borrow.Author.Tests.{eqb-true, ltb-true, ne_eqb}
-use Rattle.words.proofs.Choices.{either_way, both_true}
+use Rattle.std.proofs.lemmas.Bool.{and_parts, cases_Bool}
 use Rattle.port_spec.specs.declared.Access.{Access}
 use Rattle.port_spec.specs.declared.Access.TheVariants.{Read, Write}
 use Rattle.digits.specs.Digits.{is_decimal, digit_for}
@@ -137,18 +137,18 @@ Spells u bad = Unit
 
 spells : (u : List ℕ) → Spells u (line_of u)
 unfolding line_of
-spells u = go (either_way (eqb (length u) 5 && headed 82 u)) (either_way (eqb (length u) 10 && (headed 87 u && tailed u)))
+spells u = go (cases_Bool (eqb (length u) 5 && headed 82 u)) (cases_Bool (eqb (length u) 10 && (headed 87 u && tailed u)))
   where
     go : (eqb (length u) 5 && headed 82 u ≡ true) ⊎ (eqb (length u) 5 && headed 82 u ≡ false) →
         (eqb (length u) 10 && (headed 87 u && tailed u) ≡ true) ⊎ (eqb (length u) 10 && (headed 87 u && tailed u) ≡ false) →
         Spells u (cond (eqb (length u) 5 && headed 82 u) (good (read_in u))
         (cond (eqb (length u) 10 && (headed 87 u && tailed u)) (good (write_in u)) bad))
     go (inl e) f =
-        let p = both_true (eqb (length u) 5) (headed 82 u) e in
+        let p = and_parts (eqb (length u) 5) (headed 82 u) e in
         rw e (read_spelled u (eqb-true (length u) 5 p.0) (head_is 82 u p.1))
     go (inr e) (inl f) =
-        let p = both_true (eqb (length u) 10) (headed 87 u && tailed u) f in
-        let q = both_true (headed 87 u) (tailed u) p.1 in
+        let p = and_parts (eqb (length u) 10) (headed 87 u && tailed u) f in
+        let q = and_parts (headed 87 u) (tailed u) p.1 in
         rw (e, f) (write_spelled u (eqb-true (length u) 10 p.0) (head_is 87 u q.0) (tail_is u q.1))
     go (inr e) (inr f) = rw (e, f) tt
 

@@ -6,7 +6,7 @@ use mathlib.Core.Bool.{true, false, cond}
 use mathlib.Core.List.{List, [], ◌∷◌, ◌++◌, append_assoc, append-nil, flatten}
 use mathlib.Core.Logic.{◌⊎◌, inl, inr}
 use lib.ListN.{length}
-use Rattle.words.proofs.Choices.{either_way}
+use Rattle.std.proofs.lemmas.Bool.{cases_Bool}
 use Rattle.port_spec.specs.Sequences.{Machine}
 use Rattle.listing.specs.Line.{has_feed}
 use Rattle.listing.specs.Listing.{Listing, start, listing}
@@ -20,7 +20,7 @@ turn_text x rest = x.text ++ cond x.ended [] rest
 
 one_turn : (s : Machine) (u v : List ℕ) →
     let x = listing (start s) u in turn_text x (printed x.machine (x.begun ++ v)) ≡ printed s (u ++ v)
-one_turn s u v = go (either_way (listing (start s) u).ended)
+one_turn s u v = go (cases_Bool (listing (start s) u).ended)
   where
     go : ((listing (start s) u).ended ≡ true) ⊎ ((listing (start s) u).ended ≡ false) →
         turn_text (listing (start s) u) (printed (listing (start s) u).machine ((listing (start s) u).begun ++ v)) ≡ printed s (u ++ v)

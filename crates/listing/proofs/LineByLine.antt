@@ -1,7 +1,7 @@
 -- A listing goes from line to line: what a good line, a bad line and a line begun at the front of the input leave.
-use Prim.Native.Nat.{ℕ, ◌+◌, ◌≤◌, ◌<◌}
+use Prim.Native.Nat.{ℕ, suc, ◌+◌, ◌≤◌, ◌<◌}
 use native.Mathlib.Omega.{arith}
-use mathlib.Core.Path.{◌≡◌, refl, sym, ap, ◌∙◌}
+use mathlib.Core.Path.{◌≡◌, refl, sym, ap, ◌∙◌, subst}
 use mathlib.Core.Bool.{Bool, true, false, cond, ◌&&◌}
 use mathlib.Core.List.{List, [], ◌∷◌, ◌++◌, append_assoc, append-nil}
 use mathlib.Core.Logic.{◌⊎◌, inl, inr}
@@ -9,7 +9,7 @@ use lib.Dec.{eqb, ltb}
 use lib.ListN.{length, get_or, take, drop, length-append}
 use lib.Seq.{split_at, length-take-le}
 use borrow.Author.Tests.{eqb-true, eqb-false, ne_eqb, eq-eqb, ltb-true, ltb-false}
-use Rattle.words.proofs.Choices.{either_way, both_true, both_false, less_or_not}
+use Rattle.std.proofs.lemmas.Bool.{and_parts, cases_Bool, cases_lt, or_parts}
 use Rattle.port_spec.specs.Sequences.{Machine, after, answer_of}
 use Rattle.port_spec.specs.declared.Access.{Access}
 use Rattle.listing.specs.Line.{Line, good, bad, headed, tailed, read_in, write_in, line_of, before_feed, has_feed, with_length}
@@ -43,7 +43,7 @@ no_feed_parts : (u v : List ℕ) → NoFeed (u ++ v) → NoFeed u × NoFeed v
 unfolding has_feed
 no_feed_parts [] v h = (refl, h)
 no_feed_parts (b ∷ u) v h =
-    let p = both_false (eqb b 10) (has_feed (u ++ v)) h in
+    let p = or_parts (eqb b 10) (has_feed (u ++ v)) h in
     let q = no_feed_parts u v p.1 in
     (rw p.0 q.0, q.1)
 
@@ -64,14 +64,14 @@ module _ (s : Machine) (text : List ℕ) (used : ℕ) where
   unfolding listing has_feed
   goes_on [] u w h k = ap (λ (l : List ℕ). listing (within s text used l) w) (sym (append-nil u))
   goes_on (b ∷ v) u w h k =
-      let p = both_false (eqb b 10) (has_feed v) h in
+      let p = or_parts (eqb b 10) (has_feed v) h in
       ap (λ (x : Listing). listing x (v ++ w)) (one_more u b p.0 (omega (arith, k))) ∙
       goes_on v (u ++ (b ∷ [])) w p.1 (simp length-append (omega (arith, k))) ∙
       ap (λ (l : List ℕ). listing (within s text used l) w) (append_assoc u (b ∷ []) v)
 
   not_feed : (b : ℕ) (v : List ℕ) → NoFeed (b ∷ v) → eqb b 10 ≡ false
   unfolding has_feed
-  not_feed b v q = (both_false (eqb b 10) (has_feed v) q).0
+  not_feed b v q = (or_parts (eqb b 10) (has_feed v) q).0
 
   stop_here : (u : List ℕ) (b : ℕ) (z : List ℕ) → eqb b 10 ≡ false → length u ≡ 31 →
       listing (within s text used u) (b ∷ z) ≡ stopped (between s text used)
@@ -110,7 +110,7 @@ module _ (s : Machine) (text : List ℕ) (used : ℕ) where
 
   -- A bad line, with its line feed, stops the listing, whatever follows.
   pub whole_bad : (u v : List ℕ) → NoFeed u → line_of u ≡ bad → listing (between s text used) (u ++ 10 ∷ v) ≡ stopped (between s text used)
-  whole_bad u v h e = go (less_or_not 31 (length u))
+  whole_bad u v h e = go (cases_lt 31 (length u))
     where
       go : (31 < length u) ⊎ (length u ≤ 31) → listing (between s text used) (u ++ 10 ∷ v) ≡ stopped (between s text used)
       go (inl k) = too_long u (10 ∷ v) h k
@@ -151,7 +151,7 @@ Fronts t Open = NoFeed t × (length t ≤ 31)
 -- one that may go on has no line feed and at most 31 bytes.
 pub fronts : (t : List ℕ) → Fronts t (front_line t)
 unfolding front_line
-fronts t = go (either_way (has_feed t)) (either_way (ltb 31 (length t))) (line_of (before_feed t)) refl
+fronts t = go (cases_Bool (has_feed t)) (cases_Bool (ltb 31 (length t))) (line_of (before_feed t)) refl
   where
     go : (has_feed t ≡ true) ⊎ (has_feed t ≡ false) → (ltb 31 (length t) ≡ true) ⊎ (ltb 31 (length t) ≡ false) →
         (l : Line) → line_of (before_feed t) ≡ l →
@@ -175,7 +175,7 @@ is_good bad = false
 
 good_length : (u : List ℕ) → is_good (line_of u) ≡ true → (5 ≤ length u) × (length u ≤ 10)
 unfolding line_of is_good
-good_length u = go (either_way (eqb (length u) 5 && headed 82 u)) (either_way (eqb (length u) 10 && (headed 87 u && tailed u)))
+good_length u = go (cases_Bool (eqb (length u) 5 && headed 82 u)) (cases_Bool (eqb (length u) 10 && (headed 87 u && tailed u)))
   where
     go : (eqb (length u) 5 && headed 82 u ≡ true) ⊎ (eqb (length u) 5 && headed 82 u ≡ false) →
         (eqb (length u) 10 && (headed 87 u && tailed u) ≡ true) ⊎ (eqb (length u) 10 && (headed 87 u && tailed u) ≡ false) →
@@ -183,10 +183,10 @@ good_length u = go (either_way (eqb (length u) 5 && headed 82 u)) (either_way (e
         (cond (eqb (length u) 10 && (headed 87 u && tailed u)) (good (write_in u)) bad)) ≡ true →
         (5 ≤ length u) × (length u ≤ 10)
     go (inl e) k h =
-        let five = eqb-true (length u) 5 (both_true (eqb (length u) 5) (headed 82 u) e).0 in
+        let five = eqb-true (length u) 5 (and_parts (eqb (length u) 5) (headed 82 u) e).0 in
         (omega (arith, five), omega (arith, five))
     go (inr e) (inl k) h =
-        let ten = eqb-true (length u) 10 (both_true (eqb (length u) 10) (headed 87 u && tailed u) k).0 in
+        let ten = eqb-true (length u) 10 (and_parts (eqb (length u) 10) (headed 87 u && tailed u) k).0 in
         (omega (arith, ten), omega (arith, ten))
     go (inr e) (inr k) h =
         let no : false ≡ true = rw (e, k) at h in
@@ -196,3 +196,11 @@ good_length u = go (either_way (eqb (length u) 5 && headed 82 u)) (either_way (e
 pub good_size : (u : List ℕ) (a : Access) → line_of u ≡ good a → (5 ≤ length u) × (length u ≤ 10)
 unfolding is_good
 good_size u a e = good_length u (ap is_good e)
+
+-- A text with a good line at its front has that line's bytes, 6 or more.
+pub good_within : (t : List ℕ) {a : Access} {n : ℕ} → front_line t ≡ Good a n → (6 ≤ n) × (n ≤ length t)
+good_within t {a} {n} e =
+    let g = subst (Fronts t) e (fronts t) in
+    let short = good_size g.line a g.says in
+    let all : length t ≡ length g.line + suc (length g.rest) = ap length g.is ∙ length-append g.line (10 ∷ g.rest) in
+    (omega (arith, short.0, g.size), omega (arith, all, g.size))

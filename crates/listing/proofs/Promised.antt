@@ -22,6 +22,8 @@ use Rattle.listing.proofs.WholeLines.{whole, lines_are, text_fits}
 use Rattle.listing.specs.Line.{front_line}
 use Rattle.listing.proofs.lines.front_line.Kinds as front_line_kinds
 use Rattle.listing.proofs.lines.front_line.Reads as front_line
+use Rattle.listing.proofs.following.good_lines.Kinds as good_lines_kinds
+use Rattle.listing.proofs.following.good_lines.Reads as good_lines
 use Rattle.listing.proofs.pieces.list_piece.Kinds as list_piece_kinds
 use Rattle.listing.proofs.pieces.list_piece.Reads as list_piece
 
@@ -181,6 +183,13 @@ pub front_line_contract : Contract front_line_kinds.ps front_line_kinds.r front_
     let s = args.0 in
     r ≡ front_line s.now)
 front_line_contract = record { takes_any = λ κs args. tt; says = λ κs args r left p. p }
+
+-- `good_lines` takes any text, and all that its contract allows is that the whole text is still to come.
+pub good_lines_contract : Contract good_lines_kinds.ps good_lines_kinds.r good_lines.Pre good_lines.Post
+    (λ κs args lines left.
+    let text = args.0 in
+    lines.left.now ≡ text.now)
+good_lines_contract = record { takes_any = λ κs args. tt; says = λ κs args lines left p. p }
 
 -- `list_piece` takes any r, memory, input and output, and all that its contract allows is `ListedPiece` of them.
 pub list_piece_contract : Contract list_piece_kinds.ps list_piece_kinds.r list_piece.Pre list_piece.Post

@@ -2,15 +2,18 @@
 use Prim.Native.Nat.{ℕ, suc, ◌+◌, ◌*◌, ◌-◌, ◌≤◌, ◌<◌}
 use native.Mathlib.Omega.{arith}
 use mathlib.Core.Path.{◌≡◌, refl, sym, ap, ◌∙◌, subst}
-use mathlib.Core.Bool.{true, false}
+use mathlib.Core.Bool.{Bool, true, false, true≢false}
+use mathlib.Core.Logic.{◌≢◌}
 use mathlib.Core.List.{List, [], ◌∷◌, ◌++◌}
-use lib.ListN.{length, take, drop, length-append, length-drop, drop_of_length-le}
-use lib.Seq.{take_all, drop-append-add, drop-drop}
+use lib.ListN.{length, drop, length-append, length-drop, drop_of_length-le}
+use lib.Seq.{drop-append-add, drop-drop}
 use Rattle.registers.specs.declared.Registers.{Registers}
 use Rattle.port_spec.specs.Host.{access, access_memory}
 use Rattle.port_spec.specs.Sequences.{Machine, after, answer_of}
 use Rattle.port_spec.specs.declared.Access.{Access}
-use Rattle.listing.specs.Line.{front_line}
+use Rattle.std.specs.Prelude.{Some, None}
+use Rattle.listing.specs.Following.{is_good, NextAccess}
+use Rattle.listing.specs.Line.{front_line, has_feed}
 use Rattle.listing.specs.Answer.{answer_text, bad_line}
 use Rattle.listing.specs.Listing.{Listing, start, stopped, listing, listed, with_text}
 use Rattle.listing.specs.Parts.{laid, Put, AnsweredLine, ListedLines}
@@ -166,8 +169,88 @@ module _ {r₀ r : Registers} {m₀ input out₀ m out : List ℕ} {used wrote :
   unfolding listing
   ends_even h = leaves [] (k.come ∙ ap (listing (between (machine r m) k.text used)) (drop_of_length-le input h))
 
--- The part of a text from a place on, as it is lent, begins with the line that the text has there.
-pub part_front : (l : List ℕ) (n : ℕ) {f : Front} → f ≡ front_line (take (length l - n) (drop n l)) → front_line (drop n l) ≡ f
-part_front l n e =
-    let all : take (length l - n) (drop n l) ≡ drop n l = take_all (length l - n) (drop n l) (simp length-drop (omega arith)) in
-    sym (e ∙ ap front_line all)
+-- no line at all may go on, and is not bad
+open_bad : Open ≢ Bad
+open_bad e = true≢false (ap is_open_line e)
+  where
+    is_open_line : Front → Bool
+    is_open_line (Good a n) = false
+    is_open_line Bad = false
+    is_open_line Open = true
+
+-- between two turns, by the text that is left
+pub record Left (r₀ : Registers) (m₀ input out₀ m out : List ℕ) (r : Registers) (left : List ℕ) (wrote : ℕ) : Type 0 where
+  pub used : ℕ
+  pub is : left ≡ drop used input
+  pub kept : Kept r₀ m₀ input out₀ m out r used wrote
+
+-- At the start all is left.
+pub left_start : (r : Registers) (m input out : List ℕ) {left : List ℕ} → left ≡ input → Left r m input out m out r left 0
+left_start r m input out e = record { used = 0; is = e; kept = at_start r m input out }
+
+module _ {r₀ r : Registers} {m₀ input out₀ m out left : List ℕ} {wrote : ℕ} (k : Left r₀ m₀ input out₀ m out r left wrote)
+    (enough : 10 * length input ≤ 3 * (length out₀ - 9)) where
+  there : {x : Front} → front_line left ≡ x → front_line (drop k.used input) ≡ x
+  there e = ap front_line (sym k.is) ∙ e
+
+  -- The answer to the next good line has room in the output.
+  pub room_for_next : {a : Access} {left' : List ℕ} → NextAccess left (Some a) left' → wrote + 20 ≤ length out
+  room_for_next next = room_for_answer k.kept enough (there next.1)
+
+  -- After the next good line there is left what is behind it (`Left`).
+  pub left_next : {a : Access} {left' : List ℕ} {o : Answered} {m' out' : List ℕ} → NextAccess left (Some a) left' →
+      AnsweredLine r m a out wrote o m' out' → length m' ≡ length m → Left r₀ m₀ input out₀ m' out' o.registers left' o.wrote
+  left_next next x same =
+      record {
+        used = k.used + next.0;
+        is = next.2 ∙ ap (drop next.0) k.is ∙ drop-drop next.0 k.used input;
+        kept = turned k.kept enough (there next.1) x same;
+      }
+
+  -- What is left lies in the input, and the bytes before it are used.
+  pub used_is : (length left ≤ length input) × (k.used ≡ length input - length left)
+  used_is =
+      let here = ap length k.is ∙ length-drop k.used input in
+      (omega (arith, here), omega (arith, here, k.kept.most))
+
+  module _ {left' : List ℕ} (next : NextAccess left None left') where
+    last : {x : Front} → x ≡ front_line left' → front_line (drop k.used input) ≡ x
+    last e = there (ap front_line (sym next.1) ∙ sym e)
+
+    so_much : {n : ℕ} → n ≡ length input - length left' → k.used ≡ n
+    so_much e = used_is.1 ∙ ap (λ (u : List ℕ). length input - length u) (sym next.1) ∙ sym e
+
+    -- What is left at the end lies in the input.
+    pub lies : length left' ≤ length input
+    lies = omega (arith, used_is.0, ap length next.1)
+
+    some : front_line left' ≡ Bad → k.used < length input
+    unfolding front_line has_feed
+    some e = go left' next.1 e
+      where
+        go : (u : List ℕ) → u ≡ left → front_line u ≡ Bad → k.used < length input
+        go [] f e = absurd (open_bad e)
+        go (b ∷ u) f e = omega (arith, ap length f, ap length k.is, length-drop k.used input)
+
+    -- Where a bad line is left, `bad line` has room in the output.
+    pub room_for_last : {x : Front} → x ≡ front_line left' → x ≡ Bad → wrote + 9 ≤ length out
+    room_for_last is e = room_for_bad k.kept enough (some (sym is ∙ e))
+
+    -- A bad line ends the listing, and says so behind the answers.
+    pub left_bad : {x : Front} → x ≡ front_line left' → x ≡ Bad → {n e : ℕ} {out' : List ℕ} → n ≡ length input - length left' →
+        Put out wrote bad_line e out' → ListedLines r₀ m₀ input out₀ (record { registers = r; used = n; wrote = e; ended = true }) m out'
+    left_bad is f {n} {e} {out'} h x =
+        subst (λ (i : ℕ). ListedLines r₀ m₀ input out₀ (record { registers = r; used = i; wrote = e; ended = true }) m out')
+        (so_much h) (ends_bad k.kept enough (some (sym is ∙ f)) (last is ∙ f) x)
+
+    -- Another ends it with what was listed so far.
+    pub left_open : {x : Front} → x ≡ front_line left' → x ≢ Bad → {n : ℕ} → n ≡ length input - length left' →
+        ListedLines r₀ m₀ input out₀ (record { registers = r; used = n; wrote = wrote; ended = false }) m out
+    left_open {x} is f {n} h =
+        subst (λ (i : ℕ). ListedLines r₀ m₀ input out₀ (record { registers = r; used = i; wrote = wrote; ended = false }) m out)
+        (so_much h) (ends_open k.kept enough (last (is_open x is f)))
+      where
+        is_open : (x : Front) → x ≡ front_line left' → x ≢ Bad → Open ≡ front_line left'
+        is_open (Good a i) e g = absurd (true≢false (ap is_good (e ∙ ap front_line next.1) ∙ next.0))
+        is_open Bad e g = absurd (g refl)
+        is_open Open e g = e

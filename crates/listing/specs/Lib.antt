@@ -2,6 +2,7 @@
 pub mod Line
 pub mod Answer
 pub mod Listing
+pub mod Following
 -- the words of its laws
 pub mod Spelled
 pub mod Pieces

@@ -4,12 +4,12 @@ ghost use Rattle.listing.specs.Listing.{fitting, ListedPiece};
 ghost use Rattle.listing.specs.Parts.{AnsweredLine, ListedLines};
 
 use crate::answers::{put, put_answer};
+use crate::following::good_lines;
 use crate::lines::front_line;
 use crate::{Answered, Front, Listed};
 use port::host_access;
 use port_spec::Access;
 use registers::Registers;
-use words::least;
 
 // A good line: its access done, and its answer put after what was written so far.
 fn answer_line(
@@ -23,12 +23,9 @@ fn answer_line(
     ensures { AnsweredLine r memory.old a output.old wrote result memory.new output.new }
 {
     let done = host_access(r, memory, a);
-    let answer = done.answer;
-    let registers = done.registers;
-    let end = put_answer(output, wrote, a, answer);
     Answered {
-        registers,
-        wrote: end,
+        registers: done.registers,
+        wrote: put_answer(output, wrote, a, done.answer),
     }
 }
 
@@ -39,35 +36,21 @@ fn list_lines(r: Registers, memory: &mut [u16], input: &[u8], output: &mut [u8])
         output.new }
 {
     let mut registers = r;
-    let mut used = 0;
     let mut wrote = 0;
-    while used < input.len() {
-        let line = front_line(&input[used..]);
-        match line {
-            Front::Good(a, size) => {
-                let done = answer_line(registers, memory, a, output, wrote);
-                registers = done.registers;
-                wrote = done.wrote;
-                used += size;
-            }
-            Front::Bad => {
-                let end = put(output, wrote, b"bad line\n");
-                return Listed {
-                    registers,
-                    used,
-                    wrote: end,
-                    ended: true,
-                };
-            }
-            Front::Open => {
-                return Listed {
-                    registers,
-                    used,
-                    wrote,
-                    ended: false,
-                };
-            }
-        }
+    let mut lines = good_lines(input);
+    while let Some(a) = lines.next() {
+        let done = answer_line(registers, memory, a, output, wrote);
+        registers = done.registers;
+        wrote = done.wrote;
+    }
+    let used = input.len() - lines.left.len();
+    if let Front::Bad = front_line(lines.left) {
+        return Listed {
+            registers,
+            used,
+            wrote: put(output, wrote, b"bad line\n"),
+            ended: true,
+        };
     }
     Listed {
         registers,
@@ -82,11 +65,7 @@ fn list_lines(r: Registers, memory: &mut [u16], input: &[u8], output: &mut [u8])
 fn count_fitting(bytes: usize, room: usize) -> usize
     ensures { result ≡ min (fitting room) bytes }
 {
-    if room < 9 {
-        return 0;
-    }
-    let fits = (room - 9) / 10 * 3;
-    least(fits, bytes)
+    (room.saturating_sub(9) / 10 * 3).min(bytes)
 }
 
 // The whole lines of a piece of input, as far as their answers fit the output.

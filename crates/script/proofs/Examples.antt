@@ -13,7 +13,7 @@ use Rattle.script.specs.Script.{digits_from, number_from, has_number, shaped, is
 use Rattle.script.specs.Script.{in_place_letter, host_letter, processor_letter, field_letter, bus_letter, block_letter}
 use Rattle.script.specs.Script.{setting_letter, whole_letter, plain_letter, lent_letter, known}
 use Rattle.script.specs.declared.Done.{Done}
-use Rattle.script.specs.declared.Line.TheVariants.{Good, Bad}
+use Rattle.std.specs.Prelude.{Some, None}
 
 -- ---- the letters
 -- those below n, in their order
@@ -76,7 +76,7 @@ line =
     []
 
 -- A line says its call, "a letter, then four numbers a, b, c and d", here each with its own digits.
-pub says_its_call : line_in line ≡ Good (record { letter = 87; a = 0x7A6B5C4D; b = 0x3E2F1098; c = 0x89ABCDEF; d = 0x01234567 })
+pub says_its_call : line_in line ≡ Some (record { letter = 87; a = 0x7A6B5C4D; b = 0x3E2F1098; c = 0x89ABCDEF; d = 0x01234567 })
 unfolding
     line_in is_call shaped has_number digits_from number_from call_in known plain_letter whole_letter lent_letter
     host_letter in_place_letter processor_letter field_letter bus_letter block_letter setting_letter is_decimal value_of
@@ -85,12 +85,12 @@ says_its_call = refl
 -- One line that says a call, changed in one byte or in its length, is bad: with an unknown letter, a comma for a space, a lower-case digit,
 -- another byte at its end, a byte less, a byte more.
 pub others_are_bad :
-    (line_in (set line 0 88) ≡ Bad)
-    × (line_in (set line 10 44) ≡ Bad)
-    × (line_in (set line 27 102) ≡ Bad)
-    × (line_in (set line 37 32) ≡ Bad)
-    × (line_in (take 37 line) ≡ Bad)
-    × (line_in (line ++ (10 ∷ [])) ≡ Bad)
+    (line_in (set line 0 88) ≡ None)
+    × (line_in (set line 10 44) ≡ None)
+    × (line_in (set line 27 102) ≡ None)
+    × (line_in (set line 37 32) ≡ None)
+    × (line_in (take 37 line) ≡ None)
+    × (line_in (line ++ (10 ∷ [])) ≡ None)
 unfolding
     line_in is_call shaped has_number digits_from known plain_letter whole_letter lent_letter
     host_letter in_place_letter processor_letter field_letter bus_letter block_letter setting_letter is_decimal value_of

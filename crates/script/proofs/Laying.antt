@@ -1,10 +1,11 @@
 -- Texts laid down in a line or in the output, one after the other.
-use Prim.Native.Nat.{ℕ, ◌+◌, ◌-◌, ◌≤◌}
+use Prim.Native.Nat.{ℕ, ◌+◌, ◌-◌, ◌≤◌, ◌<◌}
+use native.Mathlib.Numerals.{add-one}
 use native.Mathlib.Omega.{arith}
 use mathlib.Core.Path.{◌≡◌, ap, sym, ◌∙◌}
-use mathlib.Core.List.{List, ◌++◌, append_assoc}
-use lib.ListN.{length, take, length-append}
-use lib.Seq.{length-take-le, take_at}
+use mathlib.Core.List.{List, [], ◌∷◌, ◌++◌, append_assoc}
+use lib.ListN.{length, take, set, length-append}
+use lib.Seq.{length-take-le, take_at, take-suc-set}
 use borrow.Author.Tests.{eq-eqb}
 use borrow.Rule.Slice.PartMut.{put_mid, post_of}
 use Rattle.script.specs.Answers.{line_of, with_line, Laid}
@@ -17,6 +18,10 @@ pushed a n l ys h e =
     let after : List ℕ = post_of a (a + n - a) l in
     let front : length (take a l ++ ys) ≡ a + n = simp (length-append, length-take-le a l (omega arith)) (omega (arith, e)) in
     ap (take (a + n)) (sym (append_assoc (take a l) ys after)) ∙ take_at (take a l ++ ys) after (a + n) front
+
+-- A byte set in its place is laid down there.
+pub byte_laid : (l : List ℕ) (at byte : ℕ) → at < length l → Laid at l (byte ∷ []) (at + 1) (set l at byte)
+byte_laid l at byte h = record { laid = rw add-one (take-suc-set l at byte h) }
 
 -- Two texts laid down one after the other are one.
 pub follows : {a b e : ℕ} {l x l' y l'' : List ℕ} → Laid a l x b l' → Laid b l' y e l'' → Laid a l (x ++ y) e l''

@@ -1,9 +1,8 @@
 -- What the contracts of the calls say, taken from the contracts themselves (`Contract`): each is a statement on the call's own arguments.
-use Prim.Native.Nat.{◌≤◌}
 use mathlib.Core.Path.{◌≡◌}
 use Rattle.script.specs.Script.{bus_letter, field_letter, host_letter, in_place_letter, line_in}
 use Rattle.script.specs.Script.{plain_letter, processor_letter, whole_letter}
-use Rattle.script.specs.Answers.{counted, with_line}
+use Rattle.script.specs.Answers.{with_line}
 use Rattle.words.proofs.Contracts.{Contract}
 use Rattle.script.proofs.letters.is_in_place_letter.Kinds as is_in_place_letter_kinds
 use Rattle.script.proofs.letters.is_in_place_letter.Reads as is_in_place_letter
@@ -19,8 +18,6 @@ use Rattle.script.proofs.letters.is_whole_letter.Kinds as is_whole_letter_kinds
 use Rattle.script.proofs.letters.is_whole_letter.Reads as is_whole_letter
 use Rattle.script.proofs.letters.is_plain_letter.Kinds as is_plain_letter_kinds
 use Rattle.script.proofs.letters.is_plain_letter.Reads as is_plain_letter
-use Rattle.script.proofs.printing.one_if.Kinds as one_if_kinds
-use Rattle.script.proofs.printing.one_if.Reads as one_if
 use Rattle.script.proofs.printing.put_line.Kinds as put_line_kinds
 use Rattle.script.proofs.printing.put_line.Reads as put_line
 use Rattle.script.proofs.reading.read_line.Kinds as read_line_kinds
@@ -76,13 +73,6 @@ pub is_plain_letter_contract : Contract is_plain_letter_kinds.ps is_plain_letter
     let l = args.0 in
     r ≡ plain_letter l)
 is_plain_letter_contract = record { takes_any = λ κs args. tt; says = λ κs args r left p. p }
-
--- `one_if` takes any mark, and all that its contract allows is `counted` of it, at most 1.
-pub one_if_contract : Contract one_if_kinds.ps one_if_kinds.r one_if.Pre one_if.Post
-    (λ κs args r left.
-    let mark = args.0 in
-    (r ≡ counted mark) × (r ≤ 1))
-one_if_contract = record { takes_any = λ κs args. tt; says = λ κs args r left p. p }
 
 -- `put_line` takes any line, letter and d, and all that its contract allows is that the line is left as `with_line` of them.
 pub put_line_contract : Contract put_line_kinds.ps put_line_kinds.r put_line.Pre put_line.Post

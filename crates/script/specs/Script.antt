@@ -5,12 +5,11 @@
 --   in_place_letter .. lent_letter, known   the letters, by what they are calls of
 --   shaped, is_call           a line has the shape, and is a call
 --   call_in s                 the call that it says
---   line_in s                 what any bytes say
-use Rattle.std.specs.Prelude.{ℕ, zero, suc, ◌+◌, ◌*◌, Bool, true, cond, ◌&&◌, ◌||◌, List, eqb, length, get_or}
+--   number_said s at          the number that stands at a place, if one does
+--   line_in s                 what any bytes say: a call, or none
+use Rattle.std.specs.Prelude.{ℕ, Option, Some, None, zero, suc, ◌+◌, ◌*◌, Bool, true, cond, ◌&&◌, ◌||◌, List, eqb, length, get_or}
 use Rattle.digits.specs.Digits.{value_of, is_hex}
 use Rattle.script.specs.declared.Call.{Call}
-use Rattle.script.specs.declared.Line.{Line}
-use Rattle.script.specs.declared.Line.TheVariants.{Good, Bad}
 
 -- "upper-case hexadecimal digits"
 unfoldable pub digits_from : List ℕ → ℕ → ℕ → Bool
@@ -24,6 +23,9 @@ number_from s at (suc n) = number_from s at n * 16 + value_of (get_or s (at + n)
 -- "each a space and eight upper-case hexadecimal digits"
 unfoldable pub has_number : List ℕ → ℕ → Bool
 has_number s at = eqb (get_or s at 0) 0x20 && digits_from s (at + 1) 8
+
+abbrev pub number_said : List ℕ → ℕ → Option ℕ
+number_said s at = cond (has_number s at) (Some (number_from s (at + 1) 8)) None
 
 -- ---- the letters
 
@@ -91,5 +93,5 @@ call_in s =
       d = number_from s 29 8;
     }
 
-unfoldable pub line_in : List ℕ → Line
-line_in s = cond (is_call s) (Good (call_in s)) Bad
+abbrev pub line_in : List ℕ → Option Call
+line_in s = cond (is_call s) (Some (call_in s)) None

@@ -65,18 +65,11 @@ pub use letters::{
     is_bus_letter, is_field_letter, is_host_letter, is_in_place_letter, is_plain_letter,
     is_processor_letter, is_whole_letter,
 };
-pub use printing::{one_if, put_line};
+pub use printing::put_line;
 pub use reading::read_line;
 use registers::Registers;
 
-// A line of a script.
-#[derive(Clone, Copy)]
-pub enum Line {
-    Good(Call),
-    Bad,
-}
-
-// A call of a script.
+// A call of a script. Its letter stays the byte that the line has: it is printed again, and the definitions of the letters are on bytes.
 #[derive(Clone, Copy)]
 pub struct Call {
     pub letter: u8,
@@ -95,7 +88,7 @@ pub struct State {
     pub size: usize,
 }
 
-// What a call answers, and the state that it leaves.
+// What a call answers, and the state that it leaves: the number as the call returned it, 0 or why it was refused.
 #[derive(Clone, Copy)]
 pub struct Done {
     pub state: State,

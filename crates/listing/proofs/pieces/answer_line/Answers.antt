@@ -8,8 +8,8 @@ use Rattle.listing.specs.Answer.{answer_text}
 use Rattle.listing.specs.Parts.{Put}
 use Rattle.listing.proofs.pieces.answer_line.Goals as goal
 
-pub put_answer-end-requires : goal.put_answer-end-requires
-put_answer-end-requires c =
+pub put_answer-requires : goal.put_answer-requires
+put_answer-requires c =
     let a = c.args in
     let listed = (numbered a.r a.memory.now a.a).listed in
     let same = ap (λ (o : Outcome). o.answer.number) c.host_access-done.ensures.outcome in
@@ -17,7 +17,7 @@ put_answer-end-requires c =
 
 pub returns : goal.returns
 returns c =
-    let put = c.put_answer-end in
+    let put = c.put_answer in
     let a = c.args in
     let outcome = c.host_access-done.ensures.outcome in
     record {

@@ -1,6 +1,6 @@
 -- `script::printing::put_digits` meets its contract: the digits of the value are those of what is left of it, before those already laid
 -- down.
-use Prim.Native.Nat.{ℕ, suc, ◌-◌, ◌/◌, ◌%◌, ◌≤◌, ◌<◌}
+use Prim.Native.Nat.{ℕ, suc, ◌+◌, ◌-◌, ◌/◌, ◌%◌, ◌≤◌, ◌<◌}
 use native.Mathlib.Omega.{arith}
 use mathlib.Core.Path.{◌≡◌, refl, sym, ap, ◌∙◌}
 use mathlib.Core.List.{List, [], ◌∷◌, ◌++◌, append-nil, append_assoc}
@@ -49,15 +49,20 @@ module _ {value : ℕ} {places₀ places : List ℕ} {rest i : ℕ} (k : Laid va
       sym (rw e at k.laid)
 
 pub loop-i-init : goal.loop-i-init
-loop-i-init c = begun _ _
+loop-i-init c =
+    let all : length c.args.places.now - 0 ≡ length c.args.places.now = omega arith in
+    rw all (begun c.args.value c.args.places.now)
 
-pub bounds-places-i : goal.bounds-places-i
-bounds-places-i c = omega (arith, c.loop-i.invariant.most, c.loop-i.invariant.room)
+pub bounds-places-count : goal.bounds-places-count
+bounds-places-count c = omega (arith, c.loop-i.invariant.room)
 
 pub loop-i-preserved : goal.loop-i-preserved
 loop-i-preserved c =
-    rw (c.digit_for.ensures, last_digit c.loop-i.rest)
-    (turned c.loop-i.invariant c.loop-i-test.true)
+    let n = length c.args.places.now in
+    let left = n - c.loop-i.i in
+    let here : n - 1 - c.loop-i.i ≡ left - 1 = omega arith in
+    let next : n - (c.loop-i.i + 1) ≡ left - 1 = omega arith in
+    rw (here, next, c.digit_for.ensures, last_digit c.loop-i.rest) (turned c.loop-i.invariant (omega (arith, c.loop-i-test.true)))
 
 pub shape_of-places : goal.shape_of-places
 shape_of-places c = c.loop-i.invariant.room

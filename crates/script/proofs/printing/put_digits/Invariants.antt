@@ -1,5 +1,5 @@
 -- `script::printing::put_digits`: the digits of the value are those of what is left of it, before those already laid down.
-use Rattle.std.proofs.Common.{◌≡◌, ℕ, ◌≤◌, List, ◌++◌, length, drop}
+use Rattle.std.proofs.Common.{◌≡◌, ℕ, ◌-◌, ◌≤◌, List, ◌++◌, length, drop}
 use Rattle.script.specs.Answers.{digits}
 use Rattle.script.proofs.printing.put_digits.Given as goal
 
@@ -9,7 +9,4 @@ pub record Laid (value : ℕ) (places₀ places : List ℕ) (rest i : ℕ) : Typ
   pub laid : digits (length places₀) value ≡ digits i rest ++ drop i places
 
 abbrev pub invariant-loop-i : goal.invariant-loop-i
-invariant-loop-i l = Laid l.value l.initial.places l.places l.rest l.i
-
-abbrev pub decreases-loop-i : goal.decreases-loop-i
-decreases-loop-i l = l.i
+invariant-loop-i l = Laid l.value l.initial.places l.places l.rest (length l.initial.places - l.i)

@@ -1,11 +1,8 @@
--- `script::reading::number_at` meets its contract: after i turns the number is that of the first i digits, which has room for another.
-use Prim.Native.Nat.{◌-◌, ◌≤◌}
-use mathlib.Core.Path.{◌≡◌}
-use Rattle.script.specs.Script.{number_from}
+-- `script::reading::number_at`: after i digits the number is what they say.
+use Rattle.std.proofs.Common.{◌≡◌, ◌+◌, true}
+use Rattle.script.specs.Script.{digits_from, number_from}
 use Rattle.script.proofs.reading.number_at.Given as goal
 
-abbrev pub invariant-loop-i : goal.invariant-loop-i
-invariant-loop-i l = (l.i ≤ 8) × (l.number ≡ number_from l.line l.at l.i)
-
-abbrev pub decreases-loop-i : goal.decreases-loop-i
-decreases-loop-i l = 8 - l.i
+abbrev pub invariant-loop-digit : goal.invariant-loop-digit
+invariant-loop-digit l =
+    (digits_from l.line (l.at + 1) l.digit-index ≡ true) × (l.number ≡ number_from l.line (l.at + 1) l.digit-index)
