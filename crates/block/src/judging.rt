@@ -1,24 +1,20 @@
-// The number of a block.
+// Whether a block is allowed.
 ghost use Rattle.std.specs.Prelude.{◌≡◌};
+ghost use Rattle.words.specs.Refusals.{number_returned};
 ghost use Rattle.block_spec.specs.Block.{block_refusal};
 
-use words::is_over_limit;
+use words::{Refusal, is_over_limit};
 
-// Number 1 or 10, or 0 where neither applies. Place plus count is never formed before it is known to fit.
-pub(crate) fn block_number_of(words: usize, room: usize, place: usize, count: usize) -> u8
-    ensures { result ≡ block_refusal words room place count }
+// Refused as number 1 or 10, where one applies. Place plus count is never formed before it is known to fit.
+#[tactic(auto, unfolding(block_spec::specs::Block::block_refusal))]
+pub(crate) fn judge(words: usize, room: usize, place: usize, count: usize) -> Result<(), Refusal>
+    ensures { number_returned result ≡ block_refusal words room place count }
 {
     if is_over_limit(words) {
-        return 1;
+        return Err(Refusal::MemoryOverLimit);
     }
-    if 4096 < count {
-        return 10;
+    if 4096 < count || room < count || room - count < place {
+        return Err(Refusal::BlockTooLong);
     }
-    if room < count {
-        return 10;
-    }
-    if room - count < place {
-        return 10;
-    }
-    0
+    Ok(())
 }

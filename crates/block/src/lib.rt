@@ -3,6 +3,9 @@
 //
 // A block is its single accesses, one after another. Those that step from word to word inside memory are done by
 // copying; the others, where the pointer stays or leaves memory, go one by one.
+//
+// Reading and writing stay two files: a read writes the list and a write the memory, and no step of the two is the same but what
+// `copying` and `judging` hold.
 #![tactic(auto)]
 
 mod copying;
@@ -10,15 +13,5 @@ mod judging;
 mod reading;
 mod writing;
 
-ghost use Rattle.std.specs.Prelude.{◌≡◌, ◌≤◌};
-ghost use Rattle.block_spec.specs.Block.{counted};
-
 pub use reading::block_read;
 pub use writing::block_write;
-
-// 1 for a yes, else 0.
-pub(crate) fn one_if(yes: bool) -> u16
-    ensures { (result ≡ counted yes) × (result ≤ 1) }
-{
-    if yes { 1 } else { 0 }
-}

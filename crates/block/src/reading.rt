@@ -6,9 +6,8 @@ ghost use Rattle.port_spec.specs.Sequences.{machine};
 ghost use Rattle.block_spec.specs.Block.{ReadBlock};
 ghost use Rattle.block_spec.specs.Parts.{first_fetched, straight_reads, GoesStraight, ReadInto};
 
-use crate::copying::{copy_words, inside_from, step_by};
-use crate::judging::block_number_of;
-use crate::one_if;
+use crate::copying::{inside_from, step_by};
+use crate::judging::judge;
 use block_spec::{BlockRead, Run};
 use control::steps_reading;
 use port::{settle_fetch, step_if};
@@ -16,13 +15,11 @@ use registers::Registers;
 use words::{WordNumber, fetch_word, word_of};
 
 // The registers after a fetch at the pointer.
+#[tactic(auto, using(port_spec::proofs::Leaves::fetched_here))]
 pub(crate) fn fetch_here(r: Registers, memory: &[u16]) -> Registers
     ensures { result ≡ standing memory.now r.control r.pointer }
 {
-    let a = r.pointer;
-    let c = settle_fetch(r, fetch_word(memory, word_of(a)));
-    let fetched = c.registers;
-    fetched
+    settle_fetch(r, fetch_word(memory, word_of(r.pointer))).registers
 }
 
 // Reads one by one: each hands out the word already held; then the pointer steps where INCR is set, and the fetch follows.
@@ -33,15 +30,10 @@ pub(crate) fn read_singly(r: Registers, memory: &[u16], part: &mut [u16]) -> Run
 {
     let mut q = r;
     let mut hollows: u16 = 0;
-    let mut i: usize = 0;
-    while i < part.len() {
-        part[i] = q.latch;
-        if q.hollow {
-            hollows += 1;
-        }
-        let stepped = step_if(steps_reading(q.control), q);
-        q = fetch_here(stepped, memory);
-        i += 1;
+    for place in part {
+        *place = q.latch;
+        hollows += u16::from(q.hollow);
+        q = fetch_here(step_if(steps_reading(q.control), q), memory);
     }
     Run {
         registers: q,
@@ -50,12 +42,12 @@ pub(crate) fn read_singly(r: Registers, memory: &[u16], part: &mut [u16]) -> Run
 }
 
 // How many of `count` reads step from word to word and fetch inside memory.
+#[tactic(auto, unfolding(block_spec::specs::Parts::straight_reads))]
 pub(crate) fn straight_reads(r: Registers, words: usize, count: usize) -> usize
     ensures { result ≡ straight_reads r words count }
 {
     if steps_reading(r.control) {
-        let a = r.pointer;
-        let next = word_of(a).0 + 1;
+        let next = word_of(r.pointer).0 + 1;
         return inside_from(WordNumber(next), words, count);
     }
     0
@@ -67,20 +59,19 @@ pub(crate) fn read_straight(r: Registers, memory: &[u16], part: &mut [u16]) -> R
     requires { GoesStraight (incr r.control) (first_fetched r) (length memory.now) (length part.old) }
     ensures { ReadInto (machine r memory.now) (length part.old) result part.new }
 {
-    let a = r.pointer;
-    let here = word_of(a).0 as usize;
+    let here = word_of(r.pointer).0 as usize;
     let count = part.len();
     let end = here + count;
-    copy_words(&memory[here..end], part);
+    part.copy_from_slice(&memory[here..end]);
     part[0] = r.latch;
     Run {
         registers: Registers {
-            pointer: step_by(a, count),
+            pointer: step_by(r.pointer, count),
             latch: memory[end],
-            control: r.control,
             hollow: false,
+            ..r
         },
-        tallied: one_if(r.hollow),
+        tallied: u16::from(r.hollow),
     }
 }
 
@@ -96,11 +87,9 @@ pub(crate) fn read_words(r: Registers, memory: &[u16], part: &mut [u16]) -> Run
     // The first place is named: a part without one asks more of the proof.
     let start = 0;
     let first = read_straight(r, memory, &mut part[start..n]);
-    let q = first.registers;
-    let rest = read_singly(q, memory, &mut part[n..]);
-    let last = rest.registers;
+    let rest = read_singly(first.registers, memory, &mut part[n..]);
     Run {
-        registers: last,
+        registers: rest.registers,
         tallied: first.tallied + rest.tallied,
     }
 }
@@ -115,20 +104,18 @@ pub fn block_read(
 ) -> BlockRead
     ensures { ReadBlock r memory.now list.old place count result list.new }
 {
-    let number = block_number_of(memory.len(), list.len(), place, count);
-    if number != 0 {
+    if let Err(refusal) = judge(memory.len(), list.len(), place, count) {
         return BlockRead {
-            number,
+            number: u8::from(refusal),
             hollows: 0,
             registers: r,
         };
     }
     let end = place + count;
     let run = read_words(r, memory, &mut list[place..end]);
-    let q = run.registers;
     BlockRead {
         number: 0,
         hollows: run.tallied,
-        registers: q,
+        registers: run.registers,
     }
 }

@@ -6,9 +6,8 @@ ghost use Rattle.port_spec.specs.Sequences.{machine};
 ghost use Rattle.block_spec.specs.Block.{WrittenBlock};
 ghost use Rattle.block_spec.specs.Parts.{straight_writes, GoesStraight, WrittenFrom};
 
-use crate::copying::{copy_words, inside_from, step_by};
-use crate::judging::block_number_of;
-use crate::one_if;
+use crate::copying::{inside_from, step_by};
+use crate::judging::judge;
 use block_spec::{BlockWrite, Run};
 use control::steps_writing;
 use port::step_if;
@@ -23,14 +22,10 @@ pub(crate) fn write_singly(r: Registers, memory: &mut [u16], part: &[u16]) -> Ru
 {
     let mut q = r;
     let mut empties: u16 = 0;
-    let mut i: usize = 0;
-    while i < part.len() {
-        let word = part[i];
-        let a = q.pointer;
-        let inside = store_word(memory, word_of(a), word);
-        empties += one_if(!inside);
+    for &word in part {
+        let inside = store_word(memory, word_of(q.pointer), word);
+        empties += u16::from(!inside);
         q = step_if(steps_writing(q.control), set_latch(q, word, false));
-        i += 1;
     }
     Run {
         registers: q,
@@ -39,12 +34,12 @@ pub(crate) fn write_singly(r: Registers, memory: &mut [u16], part: &[u16]) -> Ru
 }
 
 // How many of `count` writes step from word to word and store inside memory.
+#[tactic(auto, unfolding(block_spec::specs::Parts::straight_writes))]
 pub(crate) fn straight_writes(r: Registers, words: usize, count: usize) -> usize
     ensures { result ≡ straight_writes r words count }
 {
     if steps_writing(r.control) {
-        let a = r.pointer;
-        return inside_from(word_of(a), words, count);
+        return inside_from(word_of(r.pointer), words, count);
     }
     0
 }
@@ -54,18 +49,16 @@ pub(crate) fn write_straight(r: Registers, memory: &mut [u16], part: &[u16]) -> 
     requires { GoesStraight (incw r.control) (word_at r.pointer) (length memory.old) (length part.now) }
     ensures { WrittenFrom (machine r memory.old) part.now result memory.new }
 {
-    let a = r.pointer;
-    let here = word_of(a).0 as usize;
+    let here = word_of(r.pointer).0 as usize;
     let count = part.len();
     let end = here + count;
-    copy_words(part, &mut memory[here..end]);
-    let last = count - 1;
+    memory[here..end].copy_from_slice(part);
     Run {
         registers: Registers {
-            pointer: step_by(a, count),
-            latch: part[last],
-            control: r.control,
+            pointer: step_by(r.pointer, count),
+            latch: part[count - 1],
             hollow: false,
+            ..r
         },
         tallied: 0,
     }
@@ -83,11 +76,9 @@ pub(crate) fn write_words(r: Registers, memory: &mut [u16], part: &[u16]) -> Run
     // The first place is named: a part without one asks more of the proof.
     let start = 0;
     let first = write_straight(r, memory, &part[start..n]);
-    let q = first.registers;
-    let rest = write_singly(q, memory, &part[n..]);
-    let last = rest.registers;
+    let rest = write_singly(first.registers, memory, &part[n..]);
     Run {
-        registers: last,
+        registers: rest.registers,
         tallied: first.tallied + rest.tallied,
     }
 }
@@ -102,20 +93,18 @@ pub fn block_write(
 ) -> BlockWrite
     ensures { WrittenBlock r memory.old list.now place count result memory.new }
 {
-    let number = block_number_of(memory.len(), list.len(), place, count);
-    if number != 0 {
+    if let Err(refusal) = judge(memory.len(), list.len(), place, count) {
         return BlockWrite {
-            number,
+            number: u8::from(refusal),
             empties: 0,
             registers: r,
         };
     }
     let end = place + count;
     let run = write_words(r, memory, &list[place..end]);
-    let q = run.registers;
     BlockWrite {
         number: 0,
         empties: run.tallied,
-        registers: q,
+        registers: run.registers,
     }
 }

@@ -5,7 +5,7 @@ use mathlib.Core.List.{List}
 use mathlib.Core.Logic.{⊎_elim}
 use native.Mathlib.Nat.{add-zero}
 use lib.ListN.{take-append-drop}
-use Rattle.words.proofs.Choices.{same_or_not}
+use Rattle.std.proofs.lemmas.Bool.{cases_eq}
 use Rattle.registers.specs.declared.Registers.{Registers}
 use Rattle.port_spec.specs.Sequences.{answers, ends}
 use Rattle.port_spec.specs.Table.{reading}
@@ -24,7 +24,7 @@ module _ (r : Registers) (m l : List ℕ) (place : ℕ) where
       ⊎_elim
       (λ e. read_taken r m l place 0 e ∙ ap (λ (n : ℕ). record { number = n; hollows = 0; registers = r }) (sym e))
       (read_barred r m l place 0)
-      (same_or_not number 0)
+      (cases_eq number 0)
 
   -- A block read of no words leaves every place of the list.
   pub list_kept : list_after r m l place 0 ≡ l
@@ -33,7 +33,7 @@ module _ (r : Registers) (m l : List ℕ) (place : ℕ) where
       ⊎_elim
       (λ e. list_taken r m l place 0 e ∙ rw (add-zero place) (take-append-drop place l))
       (list_barred r m l place 0)
-      (same_or_not number 0)
+      (cases_eq number 0)
 
   -- A block write of no words counts nothing and leaves the registers.
   pub nothing_written : block_write r m l place 0 ≡ record { number = number; empties = 0; registers = r }
@@ -42,9 +42,9 @@ module _ (r : Registers) (m l : List ℕ) (place : ℕ) where
       ⊎_elim
       (λ e. write_taken r m l place 0 e ∙ ap (λ (n : ℕ). record { number = n; empties = 0; registers = r }) (sym e))
       (write_barred r m l place 0)
-      (same_or_not number 0)
+      (cases_eq number 0)
 
   -- A block write of no words leaves the memory.
   pub memory_kept : memory_left r m l place 0 ≡ m
   unfolding ends
-  memory_kept = ⊎_elim (memory_taken r m l place 0) (memory_barred r m l place 0) (same_or_not number 0)
+  memory_kept = ⊎_elim (memory_taken r m l place 0) (memory_barred r m l place 0) (cases_eq number 0)

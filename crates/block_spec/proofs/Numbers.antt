@@ -9,7 +9,7 @@ use mathlib.Core.Logic.{◌⊎◌, inl, inr, ⊎_elim, ◌↔◌, ◌≢◌}
 use lib.Dec.{ltb}
 use lib.ListN.{length}
 use borrow.Author.Tests.{ltb-true, ltb-false, eq-eqb, ne_eqb}
-use Rattle.words.proofs.Choices.{same_or_not}
+use Rattle.std.proofs.lemmas.Bool.{cases_eq}
 use Rattle.registers.specs.declared.Registers.{Registers}
 use Rattle.port_spec.specs.Sequences.{machine, words_in, Sixteen, answers, ends}
 use Rattle.port_spec.specs.Table.{reading}
@@ -133,7 +133,7 @@ module _ (r : Registers) (m l : List ℕ) (place count : ℕ) where
       ⊎_elim
       (λ e. ap (λ (o : BlockRead). o.number) (read_taken e) ∙ sym e)
       (λ n. ap (λ (o : BlockRead). o.number) (read_barred n))
-      (same_or_not number 0)
+      (cases_eq number 0)
 
   -- A block write answers the number that applies.
   pub write_number : (block_write r m l place count).number ≡ number
@@ -141,7 +141,7 @@ module _ (r : Registers) (m l : List ℕ) (place count : ℕ) where
       ⊎_elim
       (λ e. ap (λ (o : BlockWrite). o.number) (write_taken e) ∙ sym e)
       (λ n. ap (λ (o : BlockWrite). o.number) (write_barred n))
-      (same_or_not number 0)
+      (cases_eq number 0)
 
   -- The number of a block read is 0, 1 or 10: 1 exactly if memory has over 32,768 words; 10 exactly if not, and the count is over 4,096 or
   -- place plus count over the list's length; 0 exactly otherwise.

@@ -10,7 +10,7 @@ use mathlib.Core.Logic.{⊎_elim}
 use lib.ListN.{length}
 use Rattle.words.specs.Addresses.{word_at}
 use Rattle.words.specs.Memory.{in_memory, store_at}
-use Rattle.words.proofs.Choices.{either_way}
+use Rattle.std.proofs.lemmas.Bool.{cases_Bool}
 use Rattle.words.proofs.Lanes.{shown_whole, replaced_whole}
 use Rattle.control.specs.Control.{incw}
 use Rattle.control.proofs.ClosingByte.{both_close}
@@ -63,7 +63,7 @@ module _ (r : Registers) (m : List ℕ) (few : length m ≤ 32768) where
         ⊎_elim
         (λ e. rw (told.inside.1 (called, e), e) refl)
         (λ e. rw (told.empty.1 (called, e), e) refl)
-        (either_way (in_memory m (word_at r.pointer)))
+        (cases_Bool (in_memory m (word_at r.pointer)))
 
     -- With a memory of at most 32,768 words, a write of both bytes of HSTDATA stores the word, holds it, and then steps where INCW is set;
     -- beyond memory the store falls empty.

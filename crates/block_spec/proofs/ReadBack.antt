@@ -10,7 +10,7 @@ use lib.ListN.{length, get_or, drop, length-take, length-drop, get_or-eq_default
 use lib.Seq.{get_or-take, get_or-drop}
 use Rattle.words.specs.Addresses.{word_at}
 use Rattle.words.specs.Memory.{AreWords}
-use Rattle.words.proofs.Choices.{less_or_not}
+use Rattle.std.proofs.lemmas.Bool.{cases_lt}
 use Rattle.control.specs.Control.{incr, incw}
 use Rattle.registers.specs.declared.Registers.{Registers}
 use Rattle.port_spec.specs.Table.{Memory, loaded, table, Lies}
@@ -48,7 +48,7 @@ part_words l place n w j =
     ⊎_elim
     (λ h. rw (get_or-take n (drop place l) j 0 h ∙ get_or-drop place l j 0) (w (place + j)))
     (λ h. rw (get_or-eq_default (list_part l place n) 0 (none h)) (omega arith))
-    (less_or_not j n)
+    (cases_lt j n)
 
 module _ (r : Registers) (m l : List ℕ) (place n : ℕ) (k : Memory m) (i : incw r.control ≡ true) (w : AreWords l)
     (some : 0 < n) (most : n ≤ 4096) (room : place + n ≤ length l) (there : Lies m r.pointer n) where
@@ -105,8 +105,8 @@ module _ (r : Registers) (m l : List ℕ) (place n : ℕ) (k : Memory m) (i : in
       (λ h. ⊎_elim
       (λ q. let e : x + (j - x) ≡ j = omega arith in rw e at (inside (j - x) (omega arith)))
       (λ q. rw (words_laid.behind j q) (k.words j))
-      (less_or_not j (x + n)))
-      (less_or_not j x)
+      (cases_lt j (x + n)))
+      (cases_lt j x)
 
   -- With INCW and INCR set, words that a block write laid in memory are handed out by a block read from where they begin, none hollow, into
   -- any list with room for them.

@@ -6,6 +6,7 @@
 use registers::Registers;
 
 // What a block read leaves, besides the list. `hollows` counts the hollow words handed out.
+// (Two records whose `number` stays a number: `read_returns_number`, `write_returns_number` and docs/MANUAL.md speak of each by itself.)
 #[derive(Clone, Copy)]
 pub struct BlockRead {
     pub number: u8,

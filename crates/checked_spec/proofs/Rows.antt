@@ -3,12 +3,12 @@
 use Prim.Native.Nat.{ℕ}
 use mathlib.Core.Path.{◌≡◌, ap, sym, ◌∙◌}
 use mathlib.Core.List.{List, [], map}
+use lib.IntN.{ℤ}
 use lib.ListN.{get_or, get_or-map}
 use Rattle.port_spec.specs.Deeds.{woken}
 use Rattle.port_spec.specs.declared.Answer.{Answer}
 use Rattle.field_spec.specs.declared.Put.{Put}
 use Rattle.field_spec.specs.declared.Taken.{Taken}
-use Rattle.field_spec.specs.declared.SignedTaken.{SignedTaken}
 use Rattle.checked_spec.specs.Acts.{Seen, Step, Example, ◌⇒◌, memory, replay, replayed}
 use Rattle.checked_spec.specs.Acts.{answered, put_in, taken_out, taken_out_signed, granted_to, number, is, words}
 use Rattle.checked_spec.specs.Examples.{at_rest}
@@ -48,11 +48,11 @@ pub same_put : {x y : Put} → put_in x ≡ put_in y → x ≡ y
 same_put e = cc
 
 -- Two lines that tell the answer to a taking out are equal only if the answers are.
-pub same_taken : {x y : Taken} → taken_out x ≡ taken_out y → x ≡ y
+pub same_taken : {x y : Taken ℕ} → taken_out x ≡ taken_out y → x ≡ y
 same_taken e = cc
 
 -- Two lines that tell the answer to a taking out as signed are equal only if the answers are.
-pub same_signed : {x y : SignedTaken} → taken_out_signed x ≡ taken_out_signed y → x ≡ y
+pub same_signed : {x y : Taken ℤ} → taken_out_signed x ≡ taken_out_signed y → x ≡ y
 same_signed e = cc
 
 -- Two lines that tell a grant are equal only if its number and source are.

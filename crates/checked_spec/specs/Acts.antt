@@ -8,7 +8,7 @@
 --   Example            a world to start with, and steps
 --   replayed e         the example with its second column made anew by the definitions
 --   left e             the world at its end
-use Rattle.std.specs.Prelude.{ℕ, List, [], ◌∷◌, length}
+use Rattle.std.specs.Prelude.{ℕ, ℤ, List, [], ◌∷◌, length}
 use Rattle.words.specs.Addresses.{address}
 use Rattle.words.specs.Bytes.{lo}
 use Rattle.bus.specs.Order.{granted, released}
@@ -20,7 +20,6 @@ use Rattle.port_spec.specs.declared.Access.{Access}
 use Rattle.port_spec.specs.declared.Answer.{Answer}
 use Rattle.field_spec.specs.Answers.{taken, taken_signed, put_answer, put_memory}
 use Rattle.field_spec.specs.declared.Taken.{Taken}
-use Rattle.field_spec.specs.declared.SignedTaken.{SignedTaken}
 use Rattle.field_spec.specs.declared.Put.{Put}
 
 pub record World : Type 0 where
@@ -50,8 +49,8 @@ pub data Act : Type 0 where
 pub data Seen : Type 0 where
   answered : Answer → Seen
   put_in : Put → Seen
-  taken_out : Taken → Seen
-  taken_out_signed : SignedTaken → Seen
+  taken_out : Taken ℕ → Seen
+  taken_out_signed : Taken ℤ → Seen
   granted_to : (number source : ℕ) → Seen
   -- of the processor's write, and of a release
   number : ℕ → Seen

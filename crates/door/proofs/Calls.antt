@@ -1,5 +1,6 @@
 -- The two ways through a call, as both functions go them: refused with its number; or begun, carried out over the bytes and closed.
 use Prim.Native.Nat.{ℕ}
+use native.Mathlib.Omega.{arith}
 use mathlib.Core.Path.{◌≡◌, sym, ◌∙◌}
 use mathlib.Core.List.{List}
 use mathlib.Core.Logic.{◌≢◌}
@@ -14,9 +15,9 @@ use Rattle.port_spec.proofs.Taken.{taken, taken_memory}
 use Rattle.door_spec.specs.Bytes.{words_of}
 use Rattle.door_spec.specs.Image.{registers_of}
 use Rattle.door_spec.specs.Answer.{packed, refusing}
-use Rattle.door_spec.specs.Door.{call_number, call_tells, call_image, call_memory, Called}
+use Rattle.door_spec.specs.Door.{misfit, call_number, call_tells, call_image, call_memory, Called}
 use Rattle.door_spec.specs.InPlainWords.{Fitting}
-use Rattle.door_spec.proofs.Numbers.{numbered, fit_number}
+use Rattle.door_spec.proofs.Numbers.{numbered, fit_number, unfit_number}
 use Rattle.door.specs.Parts.{CycledBytes, Closed}
 use Rattle.door.proofs.CycleOverBytes.{cycled_bytes}
 
@@ -28,19 +29,19 @@ module _ (image memory : List ℕ) (a : Access) where
       let t = ne_eqb _ _ n in
       record { answered = rw t; image_left = rw t; memory_left = rw t }
 
+  -- A call that is lent an image of another length than nine is refused with number 11.
+  pub other_length : length image ≢ 9 → Called image memory a (packed (refusing 11)) image memory
+  unfolding misfit
+  other_length n =
+      let e : call_number image memory a ≡ 11 = unfit_number image memory a (rw (ne_eqb _ _ n)) in
+      rw e at (refused_call (λ z. omega (arith, e, z)))
+
   abbrev begun : Begun
   begun = begin_access (registers_of image) a
 
-  module _ {number : ℕ} (judged : number ≡ call_number image memory a) (none : number ≡ 0) where
-    unrefused : call_number image memory a ≡ 0
-    unrefused = sym judged ∙ none
-
+  module _ (unrefused : call_number image memory a ≡ 0) where
     accepted : Fitting image memory
     accepted = ((numbered image memory a).done.0 unrefused).0
-
-    -- A call that is accepted was lent nine bytes of image.
-    pub nine : length image ≡ 9
-    nine = accepted.good_image.nine_bytes
 
     -- A call that is accepted leaves what its statement says where the cycle of the access, on what the bytes stand for, is done over
     -- the bytes, and the call is closed.

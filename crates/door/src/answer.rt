@@ -1,35 +1,30 @@
 // An answer as one number.
-ghost use Rattle.std.specs.Prelude.{◌≡◌, ◌≤◌, cond};
+ghost use Rattle.std.specs.Prelude.{◌≡◌};
+ghost use Rattle.words.specs.Refusals.{refusal_number};
 ghost use Rattle.door_spec.specs.Answer.{packed, refusing};
 
-use port::number_of_cycle;
 use port_spec::{Answer, Cycle};
+use words::Refusal;
 
-// The hollow mark as a bit.
-fn bit_of_mark(hollow: bool) -> u64
-    ensures { (result ≡ cond hollow 1 0) × (result ≤ 1) }
-{
-    if hollow { 1 } else { 0 }
-}
-
-// The answer packed into one number.
+// The answer packed into one number: its parts lie side by side, so the sum fits.
+// (In 64 bits, since 32 to 59 are kept for a word number: `measured` sums the same parts in 32.)
+#[tactic(auto, unfolding(door_spec::specs::Answer::packed), using(crate::proofs::Marks::as_bit))]
 pub(crate) fn pack(a: Answer) -> u64
     ensures { result ≡ packed a }
 {
-    let c = a.cycle;
-    let word = a.word as u64;
-    let number = a.number as u64;
-    let mark = bit_of_mark(a.hollow);
-    let cycle = number_of_cycle(c) as u64;
+    let word = u64::from(a.word);
+    let number = u64::from(a.number);
+    let mark = u64::from(a.hollow);
+    let cycle = u64::from(u32::from(a.cycle));
     word + 65536 * number + 16777216 * mark + 33554432 * cycle
 }
 
-// What a call refused with this number answers.
-pub(crate) fn refuse(number: u8) -> u64
-    ensures { result ≡ packed (refusing number) }
+// What a call that is refused answers.
+pub(crate) fn refuse(refusal: Refusal) -> u64
+    ensures { result ≡ packed (refusing (refusal_number refusal)) }
 {
     pack(Answer {
-        number,
+        number: u8::from(refusal),
         word: 0,
         hollow: false,
         cycle: Cycle::None,

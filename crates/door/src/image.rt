@@ -1,54 +1,47 @@
 // The register image: nine bytes that stand for the registers.
-ghost use Rattle.std.specs.Prelude.{◌≡◌, length, cond};
+ghost use Rattle.std.specs.Prelude.{◌≡◌};
 ghost use Rattle.door_spec.specs.Image.{registers_of, image_of};
 
 use registers::Registers;
-use words::{BitAddress, high_byte, join_bytes, join_four, low_byte};
+use words::BitAddress;
 
 // The registers that an image stands for.
-pub(crate) fn load(image: &[u8]) -> Registers
-    requires { length image.now ≡ 9 }
+#[tactic(auto, unfolding(door_spec::specs::Image::registers_of))]
+pub(crate) fn load(image: &[u8; 9]) -> Registers
     ensures { result ≡ registers_of image.now }
 {
-    let pointer = join_four(image[0], image[1], image[2], image[3]);
     Registers {
-        pointer: BitAddress(pointer),
-        latch: join_bytes(image[4], image[5]),
-        control: join_bytes(image[6], image[7]),
+        pointer: BitAddress(u32::from_le_bytes([image[0], image[1], image[2], image[3]])),
+        latch: u16::from_le_bytes([image[4], image[5]]),
+        control: u16::from_le_bytes([image[6], image[7]]),
         hollow: image[8] == 1,
     }
 }
 
-// The hollow byte.
-fn hollow_byte(hollow: bool) -> u8
-    ensures { result ≡ cond hollow 1 0 }
-{
-    if hollow { 1 } else { 0 }
-}
-
 // The image of registers.
+#[tactic(auto, unfolding(door_spec::specs::Image::image_of), using(crate::proofs::Marks::as_bit))]
 fn image_of(r: Registers) -> [u8; 9]
     ensures { result ≡ image_of r }
 {
-    let a = r.pointer;
+    let [p0, p1, p2, p3] = r.pointer.0.to_le_bytes();
+    let [latch_low, latch_high] = r.latch.to_le_bytes();
+    let [control_low, control_high] = r.control.to_le_bytes();
     [
-        (a.0 % 256) as u8,
-        (a.0 / 256 % 256) as u8,
-        (a.0 / 65536 % 256) as u8,
-        (a.0 / 16777216 % 256) as u8,
-        low_byte(r.latch),
-        high_byte(r.latch),
-        low_byte(r.control),
-        high_byte(r.control),
-        hollow_byte(r.hollow),
+        p0,
+        p1,
+        p2,
+        p3,
+        latch_low,
+        latch_high,
+        control_low,
+        control_high,
+        u8::from(r.hollow),
     ]
 }
 
 // The image of registers, written over nine lent bytes.
-pub(crate) fn save(image: &mut [u8], r: Registers)
-    requires { length image.old ≡ 9 }
+pub(crate) fn save(image: &mut [u8; 9], r: Registers)
     ensures { image.new ≡ image_of r }
 {
-    let nine = image_of(r);
-    image.copy_from_slice(&nine);
+    *image = image_of(r);
 }

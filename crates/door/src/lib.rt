@@ -8,13 +8,15 @@
 // Both calls go alike: judged, and refused with nothing touched; or the image loaded, the access begun, and its cycle done over
 // the lent bytes. They are two functions down to `begin_read` and `begin_write`, so that each compiles to its own access alone; and
 // a read calls for no store, so its memory is lent for reading alone.
+// Register and lanes are numbers: a C program hands in any, and is answered by number. Image and memory are two, since C lends them apart.
 #![tactic(auto)]
 
 mod answer;
 mod image;
 mod memory;
 
-ghost use Rattle.std.specs.Prelude.{◌≡◌, length};
+ghost use Rattle.std.specs.Prelude.{◌≡◌};
+ghost use Rattle.words.specs.Refusals.{number_returned};
 ghost use Rattle.port_spec.specs.Host.{finished};
 ghost use Rattle.port_spec.specs.declared.Access.TheVariants.{Read, Write};
 ghost use Rattle.door_spec.specs.Door.{misfit, call_number, Called};
@@ -25,58 +27,48 @@ use image::{load, save};
 use memory::{carry_bytes, fetch_if_due};
 use port::{begin_read, begin_write};
 use port_spec::{Access, Begun, Carried};
-use words::{bit_of, join_bytes};
+use words::{Refusal, bit_of};
 
 // What is lent does not fit the door: number 11.
-fn is_misfit(image: &[u8], memory: &[u8]) -> bool
+#[tactic(auto, unfolding(door_spec::specs::Door::misfit, door_spec::specs::Image::registers_of))]
+fn is_misfit(image: &[u8; 9], memory: &[u8]) -> bool
     ensures { result ≡ misfit image.now memory.now }
 {
-    if image.len() != 9 {
-        return true;
-    }
-    if 1 < image[8] {
-        return true;
-    }
-    if bit_of(join_bytes(image[6], image[7]), 10) {
-        return true;
-    }
-    memory.len() % 2 == 1
+    1 < image[8] || bit_of(u16::from_le_bytes([image[6], image[7]]), 10) || memory.len() % 2 == 1
 }
 
-// The number of a call: 11, 1, 2 or 3, or 0 where none applies.
-fn number_of_call(image: &[u8], memory: &[u8], a: Access) -> u8
-    ensures { result ≡ call_number image.now memory.now a }
+// Whether a call is allowed: what is lent must fit, and then its access be one of the port's.
+#[tactic(auto, unfolding(door_spec::specs::Door::call_number), using(door_spec::proofs::WordsAndBytes::words_length))]
+fn judge_call(image: &[u8; 9], memory: &[u8], a: Access) -> Result<(), Refusal>
+    ensures { number_returned result ≡ call_number image.now memory.now a }
 {
     if is_misfit(image, memory) {
-        return 11;
+        return Err(Refusal::Misfit);
     }
-    port::number_of(memory.len() / 2, a)
+    port::judge(memory.len() / 2, a)
 }
 
 // What is left of an accepted call once its access is begun and its cycle done: the image and the answer.
-fn close_call(image: &mut [u8], b: Begun, c: Carried) -> u64
-    requires { length image.old ≡ 9 }
+fn close_call(image: &mut [u8; 9], b: Begun, c: Carried) -> u64
     ensures { Closed (finished b c) result image.new }
 {
     let done = port::finish(b, c);
-    let left = done.registers;
-    let answer = done.answer;
-    save(image, left);
-    pack(answer)
+    save(image, done.registers);
+    pack(done.answer)
 }
 
 // A read of a register, for a C program. The memory after it is the memory before it.
 pub fn host_port_read(image: &mut [u8], memory: &[u8], register: u32, lanes: u32) -> u64
     ensures { Called image.old memory.now (Read register lanes) result image.new memory.now }
 {
-    let number = number_of_call(image, memory, Access::Read { register, lanes });
-    if number != 0 {
-        return refuse(number);
+    let Some(image) = image.as_mut_array::<9>() else {
+        return refuse(Refusal::Misfit);
+    };
+    if let Err(refusal) = judge_call(image, memory, Access::Read { register, lanes }) {
+        return refuse(refusal);
     }
     let b = begin_read(load(image), register, lanes);
-    let q = b.registers;
-    let due = b.due;
-    close_call(image, b, fetch_if_due(q, due, memory))
+    close_call(image, b, fetch_if_due(b.registers, b.due, memory))
 }
 
 // A write of a word to a register, for a C program.
@@ -95,12 +87,12 @@ pub fn host_port_write(
         lanes,
         word,
     };
-    let number = number_of_call(image, memory, a);
-    if number != 0 {
-        return refuse(number);
+    let Some(image) = image.as_mut_array::<9>() else {
+        return refuse(Refusal::Misfit);
+    };
+    if let Err(refusal) = judge_call(image, memory, a) {
+        return refuse(refusal);
     }
     let b = begin_write(load(image), register, lanes, word);
-    let q = b.registers;
-    let due = b.due;
-    close_call(image, b, carry_bytes(q, due, memory))
+    close_call(image, b, carry_bytes(b.registers, b.due, memory))
 }

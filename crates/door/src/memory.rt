@@ -1,4 +1,6 @@
 // The memory cycle over lent bytes: the two bytes of its word are read or written, and no others.
+// Crate `port` does the same over words: here a word is two bytes, and a read's memory is lent for reading alone.
+// (No trait over both: a slice can't be given one, so that words, bytes, and bytes lent for reading alone would each be wrapped first.)
 ghost use Rattle.std.specs.Prelude.{false, ◌≡◌};
 ghost use Rattle.words.specs.Memory.{fetch_at};
 ghost use Rattle.door_spec.specs.Bytes.{words_of};
@@ -7,28 +9,23 @@ ghost use Rattle.door.specs.Parts.{is_store, StoredBytes, CycledBytes};
 use port::{settle_fetch, settle_store, step_if};
 use port_spec::{Carried, Cycle, Due};
 use registers::Registers;
-use words::{Fetched, WordNumber, high_byte, join_bytes, low_byte, word_of};
+use words::{WordNumber, high_byte, join_bytes, low_byte, word_of};
 
-// One word of memory as a fetch finds it.
-fn fetch_bytes(memory: &[u8], n: WordNumber) -> Fetched
+// One word of memory as a fetch finds it, or none where memory has no such word.
+// (The two bytes by their places, here and below, as `words_of` pairs them: a slice of two would be no plainer.)
+fn fetch_bytes(memory: &[u8], n: WordNumber) -> Option<u16>
     ensures { result ≡ fetch_at (words_of memory.now) n }
 {
     let k = n.0 as usize;
     if k < memory.len() / 2 {
         let i = 2 * k;
-        let w = join_bytes(memory[i], memory[i + 1]);
-        return Fetched {
-            word: w,
-            inside: true,
-        };
+        return Some(join_bytes(memory[i], memory[i + 1]));
     }
-    Fetched {
-        word: 0xffff,
-        inside: false,
-    }
+    None
 }
 
 // One word of memory replaced, and true; where it is not there, nothing and false.
+// (A bool, as `StoredBytes` says, which `settle_store` takes; and a test before, since two bytes are written by one word number.)
 fn store_bytes(memory: &mut [u8], n: WordNumber, w: u16) -> bool
     ensures { StoredBytes memory.old n w result memory.new }
 {
@@ -49,8 +46,7 @@ pub(crate) fn fetch_if_due(r: Registers, due: Due, memory: &[u8]) -> Carried
 {
     if let Due::Fetch { with_step } = due {
         let q = step_if(with_step, r);
-        let a = q.pointer;
-        return settle_fetch(q, fetch_bytes(memory, word_of(a)));
+        return settle_fetch(q, fetch_bytes(memory, word_of(q.pointer)));
     }
     Carried {
         registers: r,
@@ -63,8 +59,7 @@ pub(crate) fn carry_bytes(r: Registers, due: Due, memory: &mut [u8]) -> Carried
     ensures { CycledBytes r due memory.old result memory.new }
 {
     if let Due::Store { with_step } = due {
-        let a = r.pointer;
-        let inside = store_bytes(memory, word_of(a), r.latch);
+        let inside = store_bytes(memory, word_of(r.pointer), r.latch);
         return settle_store(r, with_step, inside);
     }
     fetch_if_due(r, due, memory)

@@ -1,5 +1,6 @@
 // The two calls of the C door under their C names: each is the call of crate `door`, with its contract.
 // `rt lib` makes the archive of it; its header is c/host_port.h.
+// Its numbers, its lent bytes and its two names are those of the C header.
 #![tactic(auto)]
 
 ghost use Rattle.port_spec.specs.declared.Access.TheVariants.{Read, Write};

@@ -5,7 +5,7 @@ use mathlib.Core.Path.{◌≡◌, sym, ap, subst, ◌∙◌}
 use mathlib.Core.Bool.{true}
 use mathlib.Core.Logic.{⊎_elim}
 use Rattle.words.specs.Bytes.{AreBytes}
-use Rattle.words.proofs.Choices.{either_way}
+use Rattle.std.proofs.lemmas.Bool.{cases_Bool}
 use Rattle.port_spec.specs.Sequences.{Machine, Sixteen, on, together, answer_of, after}
 use Rattle.port_spec.specs.declared.Access.{Access}
 use Rattle.port_spec.specs.declared.Answer.{Answer}
@@ -113,7 +113,7 @@ module _ (l : Lent) (s : AreBytes l.image) (t : AreBytes l.memory) (x : Sixteen)
   -- first byte call shows the number and the hollow mark of the single call, and no cycle.
   pub calls_alike : Alike l x
   calls_alike =
-      ⊎_elim alike_unfit (λ e. alike_fit (fitting l.image l.memory e)) (either_way (misfit l.image l.memory))
+      ⊎_elim alike_unfit (λ e. alike_fit (fitting l.image l.memory e)) (cases_Bool (misfit l.image l.memory))
 
 -- ---- what a call leaves is bytes again, fitting or not
 module _ (l : Lent) (s : AreBytes l.image) (t : AreBytes l.memory) (a : Access) where
@@ -123,7 +123,7 @@ module _ (l : Lent) (s : AreBytes l.image) (t : AreBytes l.memory) (a : Access) 
       ⊎_elim
       (λ e. subst (λ (k : Lent). AreBytes k.image) (sym (left_unfit l e a)) s)
       (λ e. image_bytes_again l.image l.memory (fitting l.image l.memory e) s t a)
-      (either_way (misfit l.image l.memory))
+      (cases_Bool (misfit l.image l.memory))
 
   -- The memory after any call is bytes, if what was lent is.
   pub memory_stays_bytes : AreBytes (left l a).memory
@@ -131,4 +131,4 @@ module _ (l : Lent) (s : AreBytes l.image) (t : AreBytes l.memory) (a : Access) 
       ⊎_elim
       (λ e. subst (λ (k : Lent). AreBytes k.memory) (sym (left_unfit l e a)) t)
       (λ e. memory_bytes_again l.image l.memory (fitting l.image l.memory e) s t a)
-      (either_way (misfit l.image l.memory))
+      (cases_Bool (misfit l.image l.memory))

@@ -11,7 +11,7 @@ use lib.ListN.{get_or}
 use borrow.Author.Tests.{eqb-true}
 use Rattle.words.specs.Addresses.{word_at}
 use Rattle.words.specs.Bytes.{lo, hi, AreBytes}
-use Rattle.words.proofs.Choices.{either_way, same_or_not}
+use Rattle.std.proofs.lemmas.Bool.{cases_Bool, cases_eq}
 use Rattle.words.proofs.MemoryWords.{stored_elsewhere}
 use Rattle.control.specs.Control.{closes, fetches}
 use Rattle.registers.specs.Registers.{written}
@@ -78,7 +78,7 @@ module _ (m n : List ℕ) where
       ⊎_elim
       (λ e. subst (λ (x : ℕ). byte (bytes_of m) x ≡ byte (bytes_of n) x) (omega arith) (even_byte (k / 2) h))
       (λ e. subst (λ (x : ℕ). byte (bytes_of m) x ≡ byte (bytes_of n) x) (omega arith) (odd_byte (k / 2) h))
-      (same_or_not (k % 2) 0)
+      (cases_eq (k % 2) 0)
 
 -- ---- a call
 module _ (image memory : List ℕ) (s : AreBytes image) (t : AreBytes memory) where
@@ -93,7 +93,7 @@ module _ (image memory : List ℕ) (s : AreBytes image) (t : AreBytes memory) wh
       ap (λ (b : List ℕ). byte b k) (memory_as_access image memory f s t a) ∙
       same_bytes _ _ k (elsewhere (registers_of image) (words_of memory) (k / 2) d a) ∙
       ap (λ (b : List ℕ). byte b k) (bytes_of_words memory f.even_memory t))
-      (either_way (misfit image memory))
+      (cases_Bool (misfit image memory))
 
   -- A read changes no byte of memory.
   pub read_keeps_bytes : (register lanes : ℕ) → call_memory image memory (Read register lanes) ≡ memory
@@ -105,4 +105,4 @@ module _ (image memory : List ℕ) (s : AreBytes image) (t : AreBytes memory) wh
       memory_as_access image memory f s t (Read register lanes) ∙
       ap bytes_of (read_keeps_memory (registers_of image) (words_of memory) register lanes) ∙
       bytes_of_words memory f.even_memory t)
-      (either_way (misfit image memory))
+      (cases_Bool (misfit image memory))

@@ -1,5 +1,6 @@
 // The bench keeps one register record for the day: a single host access that updates this record in place.
 // Document 01, "Blocks and the two doors".
+// Document 01 asks for one thin function over a lent record, above the access by value; so there are both.
 #![tactic(auto)]
 
 ghost use Rattle.in_place.specs.InPlace.{AccessedInPlace};

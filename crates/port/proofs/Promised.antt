@@ -1,9 +1,9 @@
 -- What the contracts of the calls say, taken from the contracts themselves (`Contract`): each is a statement on the call's own arguments.
-use Prim.Native.Nat.{◌≤◌}
 use mathlib.Core.Path.{◌≡◌}
 use Rattle.port_spec.specs.declared.Access.TheVariants.{Read, Write}
 use Rattle.port_spec.specs.Host.{Accessed, begin_access, finished, lanes_of, refusal, refused, register_of}
-use Rattle.port_spec.specs.Cycle.{cycle_number, Cycled, after_fetch, after_store, stepped}
+use Rattle.port_spec.specs.Cycle.{Cycled, after_fetch, after_store, stepped}
+use Rattle.words.specs.Refusals.{number_returned}
 use Rattle.words.proofs.Contracts.{Contract}
 use Rattle.port.proofs.access.begin_read.Kinds as begin_read_kinds
 use Rattle.port.proofs.access.begin_read.Reads as begin_read
@@ -11,8 +11,8 @@ use Rattle.port.proofs.access.begin_write.Kinds as begin_write_kinds
 use Rattle.port.proofs.access.begin_write.Reads as begin_write
 use Rattle.port.proofs.access.begin.Kinds as begin_kinds
 use Rattle.port.proofs.access.begin.Reads as begin
-use Rattle.port.proofs.access.number_of.Kinds as number_of_kinds
-use Rattle.port.proofs.access.number_of.Reads as number_of
+use Rattle.port.proofs.access.judge.Kinds as judge_kinds
+use Rattle.port.proofs.access.judge.Reads as judge
 use Rattle.port.proofs.access.refuse.Kinds as refuse_kinds
 use Rattle.port.proofs.access.refuse.Reads as refuse
 use Rattle.port.proofs.access.finish.Kinds as finish_kinds
@@ -27,8 +27,6 @@ use Rattle.port.proofs.cycles.settle_store.Kinds as settle_store_kinds
 use Rattle.port.proofs.cycles.settle_store.Reads as settle_store
 use Rattle.port.proofs.cycles.carry.Kinds as carry_kinds
 use Rattle.port.proofs.cycles.carry.Reads as carry
-use Rattle.port.proofs.cycles.number_of_cycle.Kinds as number_of_cycle_kinds
-use Rattle.port.proofs.cycles.number_of_cycle.Reads as number_of_cycle
 
 -- `begin_read` takes any r, register and lanes, and all that its contract allows is `begin_access` of that read.
 pub begin_read_contract : Contract begin_read_kinds.ps begin_read_kinds.r begin_read.Pre begin_read.Post
@@ -57,13 +55,14 @@ pub begin_contract : Contract begin_kinds.ps begin_kinds.r begin.Pre begin.Post
     b ≡ begin_access r a)
 begin_contract = record { takes_any = λ κs args. tt; says = λ κs args b left p. p }
 
--- `number_of` takes any words and a, and all that its contract allows is `refusal` of the words, the register and the lanes of a.
-pub number_of_contract : Contract number_of_kinds.ps number_of_kinds.r number_of.Pre number_of.Post
+-- `judge` takes any words and a, and all that its contract allows has as its number `refusal` of the words, the register and the
+-- lanes of a.
+pub judge_contract : Contract judge_kinds.ps judge_kinds.r judge.Pre judge.Post
     (λ κs args r left.
     let words = args.0 in
     let a = args.1.0 in
-    r ≡ refusal words (register_of a) (lanes_of a))
-number_of_contract = record { takes_any = λ κs args. tt; says = λ κs args r left p. p }
+    number_returned r ≡ refusal words (register_of a) (lanes_of a))
+judge_contract = record { takes_any = λ κs args. tt; says = λ κs args r left p. p }
 
 -- `refuse` takes any number and r, and all that its contract allows is `refused` of them.
 pub refuse_contract : Contract refuse_kinds.ps refuse_kinds.r refuse.Pre refuse.Post
@@ -115,13 +114,6 @@ pub settle_store_contract : Contract settle_store_kinds.ps settle_store_kinds.r 
     let inside = args.1.1.0 in
     c ≡ after_store r step inside)
 settle_store_contract = record { takes_any = λ κs args. tt; says = λ κs args c left p. p }
-
--- `number_of_cycle` takes any c, and all that its contract allows is `cycle_number` of it, at most 2.
-pub number_of_cycle_contract : Contract number_of_cycle_kinds.ps number_of_cycle_kinds.r number_of_cycle.Pre number_of_cycle.Post
-    (λ κs args n left.
-    let c = args.0 in
-    (n ≡ cycle_number c) × (n ≤ 2))
-number_of_cycle_contract = record { takes_any = λ κs args. tt; says = λ κs args n left p. p }
 
 -- `carry` takes any r, due and memory, and all that its contract allows is `Cycled` of them.
 pub carry_contract : Contract carry_kinds.ps carry_kinds.r carry.Pre carry.Post

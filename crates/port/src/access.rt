@@ -1,5 +1,7 @@
 // The host's side of the port: one access.
+// Registers and lanes are numbers, as `Access` has them: any may be given, and `judge` says which are refused.
 ghost use Rattle.std.specs.Prelude.{◌≡◌};
+ghost use Rattle.words.specs.Refusals.{number_returned};
 ghost use Rattle.port_spec.specs.declared.Access.TheVariants.{Read, Write};
 ghost use Rattle.port_spec.specs.Host.{read_due, write_due, begin_access, refusal, register_of, lanes_of, refused, finished, Accessed};
 
@@ -7,13 +9,14 @@ use crate::cycles::carry;
 use control::{closes_word, fetches_by, steps_reading, steps_writing};
 use port_spec::{Access, Answer, Begun, Carried, Cycle, Due, Outcome};
 use registers::{Registers, read_register, set_latch, write_register};
-use words::{both, is_over_limit, names_lanes, show_bytes};
+use words::{Refusal, is_over_limit, names_lanes, show_bytes};
 
 // The cycle that a read calls for: a fetch, for the closing byte of HSTDATA.
+#[tactic(auto, unfolding(port_spec::specs::Host::read_due))]
 fn due_of_read(c: u16, register: u32, lanes: u32) -> Due
     ensures { result ≡ read_due c register lanes }
 {
-    if both(register == 2, closes_word(c, lanes)) {
+    if register == 2 && closes_word(c, lanes) {
         Due::Fetch {
             with_step: steps_reading(c),
         }
@@ -23,6 +26,7 @@ fn due_of_read(c: u16, register: u32, lanes: u32) -> Due
 }
 
 // The cycle that a write calls for: for the closing byte, a store of HSTDATA, or a fetch at the loaded pointer.
+#[tactic(auto, unfolding(port_spec::specs::Host::write_due))]
 fn due_of_write(c: u16, register: u32, lanes: u32) -> Due
     ensures { result ≡ write_due c register lanes }
 {
@@ -39,19 +43,21 @@ fn due_of_write(c: u16, register: u32, lanes: u32) -> Due
     Due::Nothing
 }
 
-// A read on the registers alone. It refuses nothing: a register above 3 is taken for HSTCTL, so `number_of` comes first.
+// A read on the registers alone. It refuses nothing: a register above 3 is taken for HSTCTL, so `judge` comes first.
+#[tactic(auto, unfolding(port_spec::specs::Host::begin_access))]
 pub fn begin_read(r: Registers, register: u32, lanes: u32) -> Begun
     ensures { result ≡ begin_access r (Read register lanes) }
 {
     Begun {
         word: show_bytes(lanes, read_register(r, register)),
-        hollow: both(register == 2, r.hollow),
+        hollow: register == 2 && r.hollow,
         registers: r,
         due: due_of_read(r.control, register, lanes),
     }
 }
 
 // A write on the registers alone, which refuses nothing either.
+#[tactic(auto, unfolding(port_spec::specs::Host::begin_access))]
 pub fn begin_write(r: Registers, register: u32, lanes: u32, word: u16) -> Begun
     ensures { result ≡ begin_access r (Write register lanes word) }
 {
@@ -78,37 +84,30 @@ pub fn begin(r: Registers, a: Access) -> Begun
     }
 }
 
-// Number 1, 2 or 3, or 0 where none applies.
-fn refusal_of(words: usize, register: u32, lanes: u32) -> u8
-    ensures { result ≡ refusal words register lanes }
+// Whether a memory of so many words, and the register and lanes of an access, are allowed.
+#[tactic(auto, unfolding(port_spec::specs::Host::refusal))]
+pub fn judge(words: usize, a: Access) -> Result<(), Refusal>
+    ensures { number_returned result ≡ refusal words (register_of a) (lanes_of a) }
 {
+    let (Access::Read { register, lanes }
+    | Access::Write {
+        register,
+        lanes,
+        ..
+    }) = a;
     if is_over_limit(words) {
-        return 1;
+        return Err(Refusal::MemoryOverLimit);
     }
     if 3 < register {
-        return 2;
+        return Err(Refusal::UnknownRegister);
     }
-    if names_lanes(lanes) {
-        return 0;
+    if !names_lanes(lanes) {
+        return Err(Refusal::UnnamedLanes);
     }
-    3
+    Ok(())
 }
 
-// The number of an access on a memory of so many words.
-pub fn number_of(words: usize, a: Access) -> u8
-    ensures { result ≡ refusal words (register_of a) (lanes_of a) }
-{
-    match a {
-        Access::Read { register, lanes } => refusal_of(words, register, lanes),
-        Access::Write {
-            register,
-            lanes,
-            word: _,
-        } => refusal_of(words, register, lanes),
-    }
-}
-
-// A refusal: its number and zeros, and the registers as they stood.
+// A refusal: its number and zeros, and the registers as they stood. Any number may be given: `refuse_contract` says so.
 pub fn refuse(number: u8, r: Registers) -> Outcome
     ensures { result ≡ refused number r }
 {
@@ -127,16 +126,14 @@ pub fn refuse(number: u8, r: Registers) -> Outcome
 pub fn finish(b: Begun, c: Carried) -> Outcome
     ensures { result ≡ finished b c }
 {
-    let r = c.registers;
-    let cycle = c.cycle;
     Outcome {
         answer: Answer {
             number: 0,
             word: b.word,
             hollow: b.hollow,
-            cycle,
+            cycle: c.cycle,
         },
-        registers: r,
+        registers: c.registers,
     }
 }
 
@@ -148,17 +145,15 @@ pub fn finish(b: Begun, c: Carried) -> Outcome
 pub fn host_access(r: Registers, memory: &mut [u16], a: Access) -> Outcome
     ensures { Accessed r memory.old a result memory.new }
 {
-    let number = number_of(memory.len(), a);
+    let judged = judge(memory.len(), a);
     let s = set_latch(r, r.latch, r.hollow);
-    if number != 0 {
-        return refuse(number, s);
+    if let Err(refusal) = judged {
+        return refuse(u8::from(refusal), s);
     }
     match a {
         Access::Read { register, lanes } => {
             let b = begin_read(s, register, lanes);
-            let q = b.registers;
-            let due = b.due;
-            finish(b, carry(q, due, memory))
+            finish(b, carry(b.registers, b.due, memory))
         }
         Access::Write {
             register,
@@ -166,9 +161,8 @@ pub fn host_access(r: Registers, memory: &mut [u16], a: Access) -> Outcome
             word,
         } => {
             let b = begin_write(s, register, lanes, word);
-            let q = b.registers;
             let due = due_of_write(s.control, register, lanes);
-            finish(b, carry(q, due, memory))
+            finish(b, carry(b.registers, due, memory))
         }
     }
 }

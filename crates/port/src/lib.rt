@@ -11,5 +11,5 @@ mod cycles;
 pub use access::host_access;
 
 // The parts that another way to the port is made of: they judge nothing.
-pub use access::{begin, begin_read, begin_write, finish, number_of, refuse};
-pub use cycles::{carry, number_of_cycle, settle_fetch, settle_store, step_if};
+pub use access::{begin, begin_read, begin_write, finish, judge, refuse};
+pub use cycles::{carry, settle_fetch, settle_store, step_if};

@@ -11,7 +11,7 @@ use mathlib.Core.Logic.{◌≢◌, ⊎_elim}
 use lib.Dec.{eqb}
 use borrow.Author.Tests.{eqb-true, eqb-false}
 use Rattle.words.specs.Bytes.{are_lanes}
-use Rattle.words.proofs.Choices.{either_way}
+use Rattle.std.proofs.lemmas.Bool.{cases_Bool}
 use Rattle.control.specs.Control.{lbl, first_lane, last_lane}
 use Rattle.port_spec.specs.Cycle.{carried, memory_after}
 use Rattle.port_spec.specs.Host.{begin_access, refusal, number_for, refused, finished, done}
@@ -169,7 +169,7 @@ module _ (s : Machine) (a : Sixteen) where
   -- the two answers together are the whole answer (words added, number and both marks of the second); registers and memory end the same.
   pub alike : Alike s a
   alike =
-      ⊎_elim (λ e. alike_taken (eqb-true _ _ e)) (λ e. alike_barred (eqb-false _ _ e)) (either_way (eqb (number_for m (on 3 a)) 0))
+      ⊎_elim (λ e. alike_taken (eqb-true _ _ e)) (λ e. alike_barred (eqb-false _ _ e)) (cases_Bool (eqb (number_for m (on 3 a)) 0))
 
 -- Any sequence of accesses by bytes ends where the whole accesses end.
 pub ends_alike : (s : Machine) (l : List Sixteen) → byte_ends s l ≡ ends s l

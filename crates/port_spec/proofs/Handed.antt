@@ -12,21 +12,22 @@ use lib.ListN.{length}
 use borrow.Author.Tests.{le-ltb}
 use Rattle.words.specs.Addresses.{word_at, step}
 use Rattle.words.specs.Bytes.{takes_low, takes_high, are_lanes, replaced}
-use Rattle.words.specs.Memory.{fetch_at}
 use Rattle.words.specs.declared.BitAddress.{BitAddress}
 use Rattle.words.proofs.Addresses.{step_fits}
-use Rattle.words.proofs.Choices.{either_way}
+use Rattle.std.proofs.lemmas.Bool.{cases_Bool}
 use Rattle.words.proofs.Lanes.{shown_whole, replaced_whole}
-use Rattle.words.proofs.MemoryWords.{fetched_word}
+use Rattle.words.proofs.MemoryWords.{fetched_some, fetched_word}
 use Rattle.control.specs.Control.{lbl, incr, closes, fetches}
 use Rattle.control.proofs.ClosingByte.{both_close}
-use Rattle.registers.specs.Registers.{low_half, high_half, halves, register_word, half_written, written}
+use Rattle.registers.specs.declared.Registers.{Registers}
+use Rattle.registers.specs.Registers.{with_pointer, low_half, high_half, halves, register_word, half_written, written}
 use Rattle.port_spec.specs.Cycle.{stepped, after_fetch, carried, memory_after, shows, standing}
 use Rattle.port_spec.specs.Host.{read_due, write_due, begin_access, refusal, done, access, access_memory}
-use Rattle.port_spec.specs.Sequences.{Machine, answer_of, after, answers, ends}
+use Rattle.port_spec.specs.Sequences.{Machine, machine, answer_of, after, answers, ends}
 use Rattle.port_spec.specs.Table.{Memory, loading, loaded, stands, reading, hand, handed, on_by}
 use Rattle.port_spec.specs.declared.Access.TheVariants.{Read}
 use Rattle.port_spec.specs.declared.Outcome.{Outcome}
+use Rattle.port_spec.proofs.Leaves.{fetched_here}
 
 -- ---- the pointer
 -- The pointer n words on has gained 16 n modulo 2^32.
@@ -58,24 +59,25 @@ module _ (s : Machine) (k : Memory s.memory) where
   pub loads : (a : BitAddress) → a.0 < 2 ^ 32 → loaded s a ≡ stands s a
   unfolding
       loading ends after access access_memory refusal are_lanes done begin_access write_due half_written written closes fetches
-      takes_low takes_high carried memory_after stepped after_fetch fetch_at standing
+      takes_low takes_high carried memory_after stepped after_fetch standing
   loads a h =
+      let there = ap (λ (r : Registers). machine r s.memory) (fetched_here (with_pointer s.registers a) s.memory) in
       ⊎_elim
-      (λ e. rw e (rw (not_over, e) (rw (not_over, e, high_then_low a h))))
-      (λ e. rw e (rw (not_over, e) (rw (not_over, e, low_then_high a h))))
-      (either_way (lbl s.registers.control))
+      (λ e. rw e (rw (not_over, e) (rw (not_over, e, high_then_low a h) there)))
+      (λ e. rw e (rw (not_over, e) (rw (not_over, e, low_then_high a h) there)))
+      (cases_Bool (lbl s.registers.control))
 
   -- ---- reading
   -- What a fetch brings is a word.
   pub shows_word : (a : BitAddress) → shows s.memory a < 65536
-  shows_word a = fetched_word s.memory (word_at a) k.words
+  shows_word a = fetched_word s.memory (word_at a) k.words _ (omega arith)
 
   module _ (i : incr s.registers.control ≡ true) where
     one_read : (a : BitAddress) →
         access (stands s a).registers s.memory (Read 2 3)
         ≡ record { answer = hand s.memory a; registers = (stands s (step a)).registers }
-    unfolding access refusal are_lanes done begin_access register_word read_due carried stepped after_fetch fetch_at hand standing
-    one_read a = rw (not_over, both_close s.registers.control, i, shown_whole _ (shows_word a))
+    unfolding access refusal are_lanes done begin_access register_word read_due carried stepped after_fetch hand standing
+    one_read a = rw (not_over, both_close s.registers.control, i, fetched_some s.memory (word_at (step a)), shown_whole _ (shows_word a))
 
     -- A read hands out the word that the registers stand at.
     pub read_answer : (a : BitAddress) → answer_of (stands s a) (Read 2 3) ≡ hand s.memory a

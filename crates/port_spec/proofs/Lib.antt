@@ -1,5 +1,6 @@
 -- The laws of the port, in reading order. Proofs of single functions are in the folders beside them.
 -- ---- an access that is accepted, and one that is refused; demand 1
+pub mod Named
 pub mod Taken
 pub mod Numbers
 pub mod One

@@ -5,7 +5,7 @@ use mathlib.Core.Bool.{true, false}
 use mathlib.Core.Logic.{⊎_elim}
 use lib.Dec.{eqb}
 use Rattle.words.specs.declared.BitAddress.{BitAddress}
-use Rattle.words.proofs.Choices.{either_way, same_or_not}
+use Rattle.std.proofs.lemmas.Bool.{cases_Bool, cases_eq}
 use Rattle.control.specs.Control.{lbl, fetches}
 use Rattle.registers.specs.Registers.{low_half, high_half}
 use Rattle.port_spec.specs.Host.{access}
@@ -18,7 +18,7 @@ use Rattle.port_spec.proofs.OtherRegisters.{load_keeps_memory}
 -- ---- the order
 low_fetches : (c : ℕ) → fetches c 0 ≡ lbl c
 unfolding fetches
-low_fetches c = ⊎_elim (λ e. rw e) (λ e. rw e) (either_way (lbl c))
+low_fetches c = ⊎_elim (λ e. rw e) (λ e. rw e) (cases_Bool (lbl c))
 
 module _ (s : Machine) (a : BitAddress) where
   run_low_last : lbl s.registers.control ≡ true → loaded s a ≡ after (after s (Write 1 3 (high_half a))) (Write 0 3 (low_half a))
@@ -51,7 +51,7 @@ half_keeps_memory s k w h =
     ⊎_elim
     (λ n. load_keeps_memory r m k 3 w h n)
     (λ n. barred_memory r m a (λ e. n (number_is r m a ∙ e)))
-    (same_or_not (access r m a).answer.number 0)
+    (cases_eq (access r m a).answer.number 0)
 
 -- Loading the pointer leaves the memory, also where the memory is over the limit and both writes are refused.
 pub loading_keeps_memory : (s : Machine) (a : BitAddress) → (loaded s a).memory ≡ s.memory
@@ -59,4 +59,4 @@ loading_keeps_memory s a =
     ⊎_elim
     (λ e. ap (λ (t : Machine). t.memory) (run_low_last s a e) ∙ half_keeps_memory _ 0 _ refl ∙ half_keeps_memory s 1 _ refl)
     (λ e. ap (λ (t : Machine). t.memory) (run_high_last s a e) ∙ half_keeps_memory _ 1 _ refl ∙ half_keeps_memory s 0 _ refl)
-    (either_way (lbl s.registers.control))
+    (cases_Bool (lbl s.registers.control))

@@ -14,12 +14,13 @@ use Rattle.words.specs.Addresses.{word_at, stepped_from}
 use Rattle.words.specs.Bytes.{replaced}
 use Rattle.words.specs.Memory.{in_memory, fetch_at}
 use Rattle.words.specs.declared.WordNumber.{WordNumber}
+use Rattle.words.proofs.MemoryWords.{fetched_some}
 use Rattle.control.specs.Control.{incw, incr, closes, fetches}
 use Rattle.registers.specs.Registers.{written}
 use Rattle.registers.specs.Processor.{processor_written, processor_writes}
 use Rattle.registers.specs.declared.Registers.{Registers}
 use Rattle.registers.specs.declared.ProcessorWrite.{ProcessorWrite}
-use Rattle.port_spec.specs.Cycle.{stepped, cycle_of, after_fetch, after_store, carried}
+use Rattle.port_spec.specs.Cycle.{stepped, cycle_of, word_or_filler, after_fetch, after_store, carried}
 use Rattle.port_spec.specs.Host.{read_due, write_due, begin_access, done}
 use Rattle.port_spec.specs.Sequences.{Machine, answer_of, after}
 use Rattle.port_spec.specs.Deeds.{Deed, host, processor, reset, elsewhere, does, Content, content, reads_data, writes_data, has_cycle}
@@ -36,7 +37,7 @@ use Rattle.port_spec.proofs.Taken.{either_done}
 
 -- HSTDATA after a fetch of word n: hollow where memory does not have it
 abbrev pub found : List ℕ → WordNumber → Content
-found m n = record { word = (fetch_at m n).word; hollow = not (in_memory m n) }
+found m n = record { word = word_or_filler (fetch_at m n); hollow = not (in_memory m n) }
 
 -- HSTDATA after a store: the word that it has, held
 abbrev pub kept : Registers → Content
@@ -52,11 +53,13 @@ module _ (r : Registers) (m : List ℕ) where
   pub leaves : (a : Access) →
       CycleLeaves (begin_access r a).registers m (has_cycle r a) (writes_data a) (word_used r a)
       (carried (begin_access r a).registers (begin_access r a).due m)
-  unfolding begin_access read_due write_due has_cycle word_used carried after_fetch after_store stepped fetch_at
+  unfolding begin_access read_due write_due has_cycle word_used carried after_fetch after_store stepped
   leaves (Read register lanes) = go (eqb register 2 && closes r.control lanes) (incr r.control)
     where
       go : (t s : Bool) → CycleLeaves r m t false (word_at (stepped_from s r.pointer)) (carried r (cond t (Fetch s) Nothing) m)
-      go true s = record { cycle = refl; data_left = refl }
+      go true s =
+          let there = fetched_some m (word_at (stepped_from s r.pointer)) in
+          record { cycle = rw there refl; data_left = rw there refl }
       go false s = record { cycle = refl; data_left = refl }
   leaves (Write register lanes w) =
       go (written r register lanes w) (closes r.control lanes) (eqb register 2) (fetches r.control register) (incw r.control) _
@@ -66,7 +69,9 @@ module _ (r : Registers) (m : List ℕ) where
           CycleLeaves q m (t && (b || f)) b (word_at q.pointer)
           (carried q (cond t (cond b (Store s) (cond f (Fetch u) Nothing)) Nothing) m)
       go q true true f s u e = record { cycle = refl; data_left = refl }
-      go q true false true s u e = record { cycle = rw e; data_left = rw e }
+      go q true false true s u e =
+          let there = fetched_some m (word_at q.pointer) in
+          record { cycle = rw (e, there); data_left = rw (e, there) }
       go q true false false s u e = record { cycle = refl; data_left = refl }
       go q false b f s u e = record { cycle = refl; data_left = refl }
 

@@ -7,8 +7,9 @@ use mathlib.Core.List.{List, [], ◌∷◌}
 use lib.Dec.{eqb}
 use lib.ListN.{get_or}
 use Rattle.words.specs.Bytes.{replaced}
-use Rattle.words.specs.Memory.{in_memory, fetch_at}
+use Rattle.words.specs.Memory.{in_memory}
 use Rattle.words.specs.declared.WordNumber.{WordNumber}
+use Rattle.words.proofs.MemoryWords.{fetched_or}
 use Rattle.registers.specs.declared.Registers.{Registers}
 use Rattle.port_spec.specs.Host.{begin_access, number_for, refused, done, access}
 use Rattle.port_spec.specs.Sequences.{Machine, after}
@@ -33,8 +34,8 @@ landed_told r (Write register lanes w) o k = data_begun r (Write register lanes 
     go false = k
 
 looked_told : (m : List ℕ) (n : WordNumber) → found m n ≡ as_content (looked m n)
-unfolding looked value is_held fetch_at
-looked_told m n = go (in_memory m n)
+unfolding looked value is_held
+looked_told m n = rw (fetched_or m n 0xffff) (go (in_memory m n))
   where
     go : (t : Bool) → record { word = cond t (get_or m n.0 0) 0xffff; hollow = not t } ≡ as_content
         (cond t (memory n (get_or m n.0 0)) missed)

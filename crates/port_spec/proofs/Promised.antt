@@ -1,7 +1,7 @@
 -- What the contract of an access by the host promises, said of any outcome that `Accessed` allows, with the call's own arguments: the
 -- number when and only then; what a refusal returns and leaves; of an access that is done what is answered and left, register by register;
 -- its cycle's mark. And of a cycle, of any outcome that `Cycled` allows. `CallAfterCall` goes on with calls in sequence.
-use Prim.Native.Nat.{ℕ}
+use Prim.Native.Nat.{ℕ, ◌≤◌}
 use mathlib.Core.Path.{◌≡◌, refl, sym, ap, ◌∙◌}
 use mathlib.Core.Bool.{Bool, true, false, cond, ◌&&◌}
 use mathlib.Core.List.{List}
@@ -10,11 +10,13 @@ use lib.ListN.{length}
 use borrow.Author.Tests.{ne_eqb}
 use Rattle.words.specs.Addresses.{word_at, stepped_from}
 use Rattle.words.specs.Bytes.{replaced, shown}
-use Rattle.words.specs.Memory.{in_memory, fetch_at, store_at}
+use Rattle.words.specs.Memory.{in_memory, store_at}
+use Rattle.words.proofs.Contracts.{Contract}
+use Rattle.words.proofs.MemoryWords.{fetched_some}
 use Rattle.control.specs.Control.{incw, closes, fetches, host_low, control_laid}
 use Rattle.registers.specs.Registers.{with_latch, with_control, register_word, written}
 use Rattle.registers.specs.declared.Registers.{Registers}
-use Rattle.port_spec.specs.Cycle.{stepped, cycle_of, after_fetch, after_store, carried, memory_after, Cycled, standing}
+use Rattle.port_spec.specs.Cycle.{cycle_number, stepped, cycle_of, after_fetch, after_store, carried, memory_after, Cycled, standing}
 use Rattle.port_spec.specs.Host.{register_of, lanes_of, access, Accessed}
 use Rattle.port_spec.specs.Deeds.{content, Says, writes_data, has_cycle, ahead, word_used}
 use Rattle.port_spec.specs.declared.Access.{Access}
@@ -29,6 +31,8 @@ use Rattle.port_spec.proofs.OpenByte.{open_has_no_cycle, open_keeps_memory}
 use Rattle.port_spec.proofs.Leaves.{after_storing, fetch_leaves, store_leaves}
 use Rattle.port_spec.proofs.DataRegister.{read_fetches, read_open, write_stores, write_steps, write_open, read_keeps_memory}
 use Rattle.port_spec.proofs.OtherRegisters.{read_changes_nothing, load_fetches, load_open, load_keeps_memory, control_written}
+use Rattle.port_spec.proofs.U32FromCycle.from.Kinds as from_kinds
+use Rattle.port_spec.proofs.U32FromCycle.from.Reads as from
 use Rattle.port_spec.proofs.NoMiss.{TrueMark, true_mark, rule, hollow_filler, miss_leaves}
 
 -- ---- any access
@@ -162,9 +166,12 @@ module _ {r : Registers} {m : List ℕ} {c : Carried} {m' : List ℕ} where
       (c.registers ≡ standing m r.control (stepped_from s r.pointer))
       × (c.cycle ≡ cond (in_memory m (word_at (stepped_from s r.pointer))) Inside Empty)
       × (m' ≡ m)
-  unfolding carried memory_after after_fetch stepped fetch_at cycle_of
-  fetch_done {s} k =
-      (ap (λ (x : Carried). x.registers) k.outcome ∙ fetch_leaves r m s, ap (λ (x : Carried). x.cycle) k.outcome, k.memory)
+  unfolding carried memory_after after_fetch stepped cycle_of
+  fetch_done {s} k = (
+    ap (λ (x : Carried). x.registers) k.outcome ∙ fetch_leaves r m s,
+    ap (λ (x : Carried). x.cycle) k.outcome ∙ ap cycle_of (fetched_some m (word_at (stepped_from s r.pointer))),
+    k.memory,
+  )
 
   -- A store leaves HSTDATA held, and steps or not, is marked by whether its word is there, and stores HSTDATA at the pointer.
   pub store_done : {s : Bool} → Cycled r (Store s) m c m' →
@@ -174,3 +181,11 @@ module _ {r : Registers} {m : List ℕ} {c : Carried} {m' : List ℕ} where
   unfolding carried memory_after after_store cycle_of
   store_done {s} k =
       (ap (λ (x : Carried). x.registers) k.outcome ∙ store_leaves r m s, ap (λ (x : Carried). x.cycle) k.outcome, k.memory)
+
+-- ---- the number of a cycle
+-- `u32::from` takes any c, a cycle, and all that its contract allows is `cycle_number` of it, at most 2.
+pub number_of_cycle_contract : Contract from_kinds.ps from_kinds.r from.Pre from.Post
+    (λ κs args n left.
+    let c = args.0 in
+    (n ≡ cycle_number c) × (n ≤ 2))
+number_of_cycle_contract = record { takes_any = λ κs args. tt; says = λ κs args n left p. p }

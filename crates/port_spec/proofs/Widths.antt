@@ -54,7 +54,7 @@ carried_fits r Nothing m f h = f
 carried_fits r (Fetch s) m f h =
     record {
       pointer_width = stepped_fits s r.pointer f.pointer_width;
-      data_width = fetched_word m (word_at (stepped_from s r.pointer)) h;
+      data_width = fetched_word m (word_at (stepped_from s r.pointer)) h _ (omega arith);
       control_width = f.control_width;
     }
 carried_fits r (Store s) m f h =

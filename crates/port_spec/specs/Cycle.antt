@@ -2,16 +2,17 @@
 --   cycle_number c      the number of a cycle: 0 none, 1 inside, 2 empty
 --   stepped s r         the registers with the pointer stepped, where s says so
 --   cycle_of inside     what the answer says of a cycle that was called for
+--   word_or_filler f    the word that a fetch found, or the filler where it found none
 --   after_fetch r f     the registers and the cycle after a fetch that found f
 --   after_store r s i   the registers and the cycle after a store
 --   carried, memory_after   the cycle that is due, done on a memory
 --   shows m a           the word that a fetch at bit address a brings, or the filler
 --   standing m c a      the registers after a fetch at a
-use Rattle.std.specs.Prelude.{ℕ, Bool, false, cond, not, List, ◌≡◌}
+use Rattle.std.specs.Prelude.{ℕ, Bool, false, cond, not, Option, List, ◌≡◌}
+use Rattle.std.specs.Option.{is_some, is_none, unwrap_or}
 use Rattle.words.specs.Addresses.{word_at, stepped_from}
 use Rattle.words.specs.Memory.{in_memory, fetch_at, store_at}
 use Rattle.words.specs.declared.BitAddress.{BitAddress}
-use Rattle.words.specs.declared.Fetched.{Fetched}
 use Rattle.registers.specs.Registers.{with_pointer, with_latch}
 use Rattle.registers.specs.declared.Registers.{Registers}
 use Rattle.port_spec.specs.declared.Due.{Due}
@@ -35,8 +36,11 @@ unfoldable pub cycle_of : Bool → Cycle
 cycle_of inside = cond inside Inside Empty
 
 -- "An empty fetch puts FFFFh in HSTDATA and makes it hollow" (house); "A fetch inside memory clears the hollow mark"
-unfoldable pub after_fetch : Registers → Fetched → Carried
-after_fetch r f = record { registers = with_latch r f.word (not f.inside); cycle = cycle_of f.inside }
+abbrev pub word_or_filler : Option ℕ → ℕ
+word_or_filler f = unwrap_or f 0xffff
+
+unfoldable pub after_fetch : Registers → Option ℕ → Carried
+after_fetch r f = record { registers = with_latch r (word_or_filler f) (is_none f); cycle = cycle_of (is_some f) }
 
 -- "the hollow mark clears, then with INCW 1 the pointer gains 16", also where the store was dropped
 unfoldable pub after_store : Registers → Bool → Bool → Carried
@@ -60,7 +64,7 @@ pub record Cycled (r : Registers) (due : Due) (m : List ℕ) (c : Carried) (m' :
 
 -- ---- what a fetch at bit address a brings, and the registers that it leaves with control word c: hollow exactly if it missed
 abbrev pub shows : List ℕ → BitAddress → ℕ
-shows m a = (fetch_at m (word_at a)).word
+shows m a = word_or_filler (fetch_at m (word_at a))
 
 unfoldable pub standing : List ℕ → ℕ → BitAddress → Registers
 standing m c a = record { pointer = a; latch = shows m a; control = c; hollow = not (in_memory m (word_at a)) }

@@ -1,10 +1,14 @@
 // The host port of the TMS34010: an access by the host, what it is made of and what it answers. Document 01, "The four host registers".
 // Here stand its types, what it means (specs/) and the laws of that (proofs/); the code is crate `port`.
+// `Due` and `Cycle` are no Options: document 01 names their three cases alike, and each `match` here names all three.
 #![tactic(auto)]
+
+ghost use Rattle.std.specs.Prelude.{◌≡◌, ◌≤◌};
+ghost use Rattle.port_spec.specs.Cycle.{cycle_number};
 
 use registers::Registers;
 
-// An access by the host, of register 0 to 3 on lanes 1 to 3; any other number is refused.
+// An access by the host, of register 0 to 3 on lanes 1 to 3; any other number is refused, so both stay plain numbers.
 #[derive(Clone, Copy)]
 pub enum Access {
     Read {
@@ -29,12 +33,21 @@ pub enum Due {
 // The memory cycle that an access had: none, one at a word of the lent memory, or one at a word that isn't there.
 #[derive(Clone, Copy)]
 pub enum Cycle {
-    None,
-    Inside,
-    Empty,
+    None = 0,
+    Inside = 1,
+    Empty = 2,
 }
 
-// What the host is told.
+// The number of a cycle, for a caller that can't be handed an enum.
+impl From<Cycle> for u32 {
+    fn from(c: Cycle) -> u32
+        ensures { (result ≡ cycle_number c) × (result ≤ 2) }
+    {
+        c as u32
+    }
+}
+
+// What the host is told. `number` is 0 or a refusal's, and beside it stand word, mark and cycle: document 01, "Each host answer has".
 #[derive(Clone, Copy)]
 pub struct Answer {
     pub number: u8,
@@ -51,6 +64,7 @@ pub struct Outcome {
 }
 
 // An access before its cycle: what it will answer, the registers with the written bytes, the cycle that is due.
+// What it will answer has word and mark beside each other, as `Answer` has them: document 01, "Each host answer has".
 #[derive(Clone, Copy)]
 pub struct Begun {
     pub word: u16,

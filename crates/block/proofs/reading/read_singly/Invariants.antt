@@ -1,5 +1,5 @@
 -- What the loop of `block::reading::read_singly` keeps: after i turns registers, count and the first i places are those of i reads.
-use Rattle.std.proofs.Common.{◌≡◌, ℕ, ◌+◌, ◌-◌, ◌<◌, ◌≤◌, Bool, true, false, List, [], ◌∷◌, ◌++◌, length, take, set, sym, refl, ◌∙◌, add-zero, add-one, arith, length-set, take-suc-set}
+use Rattle.std.proofs.Common.{◌≡◌, ℕ, ◌+◌, ◌<◌, ◌≤◌, List, [], ◌∷◌, ◌++◌, length, take, set, refl, ◌∙◌, add-one, arith, length-set, take-suc-set}
 use lib.Seq.{take-length}
 use Rattle.registers.specs.declared.Registers.{Registers}
 use Rattle.port_spec.specs.Cycle.{standing}
@@ -51,15 +51,5 @@ module _ {r : Registers} {m part₀ part : List ℕ} {q : Registers} {h i : ℕ}
       let places : take i part ≡ part = rw e (take-length part) in
       rw k.room at (rw (places, e) at k.read)
 
--- the count after the test of the mark
-pub count_one : (b : Bool) (h : ℕ) {h' : ℕ} → b ≡ true → h' ≡ h + 1 → h' ≡ h + counted b
-count_one b h e q = rw e q
-
-pub count_none : (b : Bool) (h : ℕ) {h' : ℕ} → b ≡ false → h' ≡ h → h' ≡ h + counted b
-count_none b h e q = rw e (q ∙ sym (add-zero h))
-
-abbrev pub invariant-loop-i : goal.invariant-loop-i
-invariant-loop-i l = Reading l.initial.q l.memory l.initial.part l.part l.q l.hollows l.i
-
-abbrev pub decreases-loop-i : goal.decreases-loop-i
-decreases-loop-i l = length l.initial.part - l.i
+abbrev pub invariant-loop-place : goal.invariant-loop-place
+invariant-loop-place l = Reading l.initial.q l.memory l.initial.place-items l.place-items l.q l.hollows l.place-index

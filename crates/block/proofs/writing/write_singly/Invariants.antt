@@ -1,5 +1,5 @@
 -- What the loop of `block::writing::write_singly` keeps: after i turns registers, count and memory are those of the first i words' writes.
-use Rattle.std.proofs.Common.{◌≡◌, ℕ, ◌+◌, ◌-◌, ◌<◌, ◌≤◌, Bool, false, not, List, [], ◌∷◌, ◌++◌, length, get_or, take, refl, ◌∙◌, add-one, arith, length-take-le, take_all, take-suc}
+use Rattle.std.proofs.Common.{◌≡◌, ℕ, ◌+◌, ◌<◌, ◌≤◌, Bool, false, not, List, [], ◌∷◌, ◌++◌, length, get_or, take, refl, ◌∙◌, add-one, arith, length-take-le, take_all, take-suc}
 use Rattle.words.specs.Addresses.{word_at}
 use Rattle.words.specs.Memory.{in_memory, store_at}
 use Rattle.words.proofs.MemoryWords.{stored_length}
@@ -54,8 +54,5 @@ module _ {r : Registers} {m₀ part m : List ℕ} {q : Registers} {e i : ℕ} (k
       let words : take i part ≡ part = take_all i part all in
       rw words at k.written
 
-abbrev pub invariant-loop-i : goal.invariant-loop-i
-invariant-loop-i l = Writing l.initial.q l.initial.memory l.part l.memory l.q l.empties l.i
-
-abbrev pub decreases-loop-i : goal.decreases-loop-i
-decreases-loop-i l = length l.part - l.i
+abbrev pub invariant-loop-word : goal.invariant-loop-word
+invariant-loop-word l = Writing l.initial.q l.initial.memory l.part l.memory l.q l.empties l.word-index

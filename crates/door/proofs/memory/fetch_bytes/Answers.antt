@@ -12,7 +12,7 @@ unfolding fetch_at
 returns-then-k-memory c =
     let a = c.args in
     let t : a.n.0 < length (words_of a.memory.now) = rw words_length c.if-k-memory.true in
-    rw (lt-ltb _ _ t, word_is_two_bytes _ _ t, c.join_bytes-w.ensures)
+    rw (lt-ltb _ _ t, word_is_two_bytes _ _ t, c.join_bytes.ensures)
 
 pub returns : goal.returns
 unfolding fetch_at

@@ -1,15 +1,18 @@
 -- `port::access::host_access` meets its contract: refused, or begun, carried and finished, by cases on reading and writing. The record
 -- made anew at entry is the record that was passed.
+use mathlib.Core.Path.{sym, ◌∙◌}
 use borrow.Author.Tests.{eq-eqb, ne_eqb}
 use Rattle.port_spec.specs.Host.{begin_access, done, access, access_memory}
+use Rattle.port_spec.proofs.Named.{never_0}
 use Rattle.port.proofs.access.host_access.Goals as goal
 
-pub returns-then-number-ne0 : goal.returns-then-number-ne0
+pub returns-in-Err : goal.returns-in-Err
 unfolding access access_memory
-returns-then-number-ne0 c =
-    let t = ne_eqb _ _ (rw c.number_of-number.ensures at c.if-number-ne0.true) in
+returns-in-Err c =
+    let n = c.in-Err.ensures in
+    let t = ne_eqb _ _ (λ e. never_0 _ (n ∙ e)) in
     record {
-      outcome = rw (t, c.refuse.ensures, c.set_latch-s.ensures, c.number_of-number.ensures);
+      outcome = rw (t, c.refuse.ensures, c.set_latch-s.ensures, c.from.ensures, n);
       memory = rw t;
     }
 
@@ -18,7 +21,7 @@ unfolding done access access_memory
 returns-in-Read c =
     let b = rw c.set_latch-s.ensures at c.begin_read-b.ensures in
     let e = rw b at c.carry.ensures in
-    let t = eq-eqb _ _ (rw c.number_of-number.ensures at c.if-number-ne0.false) in
+    let t = eq-eqb _ _ (sym c.in_default.ensures) in
     record {
       outcome = rw (t, c.finish.ensures, c.in-Read.is, b, e.outcome);
       memory = rw (t, c.in-Read.is) e.memory;
@@ -30,7 +33,7 @@ returns-in-Write c =
     let b = rw c.set_latch-s.ensures at c.begin_write-b.ensures in
     let d = rw c.set_latch-s.ensures at c.due_of_write-due.ensures in
     let e = rw (b, d) at c.carry-in-Write.ensures in
-    let t = eq-eqb _ _ (rw c.number_of-number.ensures at c.if-number-ne0.false) in
+    let t = eq-eqb _ _ (sym c.in_default.ensures) in
     record {
       outcome = rw (t, c.finish-in-Write.ensures, c.in-Write.is, b, e.outcome);
       memory = rw (t, c.in-Write.is) e.memory;
