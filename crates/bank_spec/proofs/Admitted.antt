@@ -5,7 +5,7 @@ use mathlib.Core.Path.{◌≡◌, refl, sym}
 use mathlib.Core.Bool.{Bool, true, false, not}
 use mathlib.Core.Logic.{◌↔◌}
 use Rattle.words.specs.declared.BitAddress.{BitAddress}
-use Rattle.words.proofs.Choices.{both_true}
+use Rattle.std.proofs.lemmas.Bool.{and_parts}
 use Rattle.bank_spec.specs.Decode.{bdrd, admits}
 use Rattle.bank_spec.specs.InPlainWords.{Admits, ordinary, refresh, special}
 use Rattle.bank_spec.proofs.Refresh.{in_turn_exactly}
@@ -17,7 +17,7 @@ module _ (c : ℕ) (a : BitAddress) (n : ℕ) where
   unfolding admits
   admits_exactly h zero l = (λ _. ordinary refl, λ _. refl)
   admits_exactly h (suc zero) l = (
-    λ t. let u = both_true _ _ t in refresh refl (cleared (bdrd c n) u.0) ((in_turn_exactly c a n h).0 u.1),
+    λ t. let u = and_parts _ _ t in refresh refl (cleared (bdrd c n) u.0) ((in_turn_exactly c a n h).0 u.1),
     refreshed,
   )
     where

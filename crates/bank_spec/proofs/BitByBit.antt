@@ -10,7 +10,8 @@ use lib.Dec.{eqb}
 use borrow.Author.Tests.{eq-eqb, eqb-true}
 use Rattle.words.specs.Bytes.{bit}
 use Rattle.words.proofs.Bits.{bit_above, same_bits}
-use Rattle.words.proofs.Choices.{both_true, same_test, come_out_alike, same_or_not}
+use Rattle.std.proofs.lemmas.Bool.{and_parts, cases_eq}
+use Rattle.words.proofs.Choices.{same_test, come_out_alike}
 use Rattle.words.proofs.Digits.{bit_left}
 use Rattle.bank_spec.specs.Decode.{agrees_at, agrees_below, agrees}
 use Rattle.bank_spec.specs.InPlainWords.{Agrees}
@@ -32,8 +33,8 @@ module _ (m v a : ℕ) where
   below (suc n) =
       let lower = below n in (
         λ e i l.
-            let t = both_true _ _ e in
-            ⊎_elim (λ s. rw s t.1) (λ d. lower.0 t.0 i (omega (arith, l, d))) (same_or_not i n),
+            let t = and_parts _ _ e in
+            ⊎_elim (λ s. rw s t.1) (λ d. lower.0 t.0 i (omega (arith, l, d))) (cases_eq i n),
         λ f. rw (lower.1 (λ i l. f i (omega (arith, l)))) (f n (omega arith)),
       )
 

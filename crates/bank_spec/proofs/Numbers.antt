@@ -7,7 +7,7 @@ use mathlib.Core.Logic.{◌⊎◌, inl, inr, ⊎_elim, ◌↔◌, ◌≢◌}
 use lib.Dec.{eqb}
 use borrow.Author.Tests.{eq-eqb, ne_eqb, lt-ltb, le-ltb}
 use Rattle.words.specs.Bytes.{are_lanes}
-use Rattle.words.proofs.Choices.{either_way, same_or_not, less_or_not}
+use Rattle.std.proofs.lemmas.Bool.{cases_Bool, cases_eq, cases_lt}
 use Rattle.words.proofs.Lanes.{lanes_named, lanes_unnamed}
 use Rattle.bank_spec.specs.Access.{refusal, refused, read_answer, write_answer}
 use Rattle.bank_spec.specs.Decode.{decoded}
@@ -36,7 +36,7 @@ pub record BankWhen (lanes v : ℕ) : Type 0 where
 -- The number for some lanes is 3 exactly if they are 0 or over 3, 30 exactly if they are 1 or 2, 0 exactly if they are 3, and no other.
 pub when : (lanes : ℕ) → BankWhen lanes (refusal lanes)
 unfolding refusal
-when lanes = ⊎_elim (λ p. ⊎_elim (whole p) (byte p) (same_or_not lanes 3)) none (either_way (are_lanes lanes))
+when lanes = ⊎_elim (λ p. ⊎_elim (whole p) (byte p) (cases_eq lanes 3)) none (cases_Bool (are_lanes lanes))
   where
     none : are_lanes lanes ≡ false → BankWhen lanes (refusal lanes)
     none p =
@@ -44,7 +44,7 @@ when lanes = ⊎_elim (λ p. ⊎_elim (whole p) (byte p) (same_or_not lanes 3)) 
         rw p
         (record {
           listed = inr (inl refl);
-          no_lanes = stated refl (⊎_elim inl (λ d. inr (omega (arith, d, u))) (same_or_not lanes 0));
+          no_lanes = stated refl (⊎_elim inl (λ d. inr (omega (arith, d, u))) (cases_eq lanes 0));
           of_bytes = unstated (omega arith) (⊎_elim u.0 u.1);
           done = unstated (omega arith) u.2;
         })
@@ -56,7 +56,7 @@ when lanes = ⊎_elim (λ p. ⊎_elim (whole p) (byte p) (same_or_not lanes 3)) 
         (record {
           listed = inr (inr refl);
           no_lanes = unstated (omega arith) (⊎_elim (λ z. omega (arith, k, z)) (λ l. omega (arith, k, l)));
-          of_bytes = stated refl (⊎_elim inl (λ n. inr (omega (arith, k, d, n))) (same_or_not lanes 1));
+          of_bytes = stated refl (⊎_elim inl (λ n. inr (omega (arith, k, d, n))) (cases_eq lanes 1));
           done = unstated (omega arith) d;
         })
 
@@ -79,7 +79,7 @@ pub record AccessNumbers (p : BankPort) (lanes : ℕ) (o : BankAnswer) : Type 0 
 module _ (p : BankPort) (lanes : ℕ) where
   -- an access that is o where its lanes are not refused
   judged : (o : BankAnswer) → o.number ≡ 0 → AccessNumbers p lanes (cond (eqb (refusal lanes) 0) o (refused (refusal lanes) p))
-  judged o z = ⊎_elim accepted barred (same_or_not (refusal lanes) 0)
+  judged o z = ⊎_elim accepted barred (cases_eq (refusal lanes) 0)
     where
       accepted : refusal lanes ≡ 0 → AccessNumbers p lanes (cond (eqb (refusal lanes) 0) o (refused (refusal lanes) p))
       accepted e =
@@ -114,7 +114,7 @@ pub record DecodeNumbers (kind : ℕ) (o : Decoded) : Type 0 where
 -- Of a decode, the number is 31 exactly if the kind is over 2, and 0 exactly otherwise; refused, no bank is shown.
 pub decode_numbers : (b : Banks) (c : ℕ) (a : BitAddress) (kind : ℕ) → DecodeNumbers kind (decoded b c a kind)
 unfolding decoded
-decode_numbers b c a kind = ⊎_elim unknown known (less_or_not 2 kind)
+decode_numbers b c a kind = ⊎_elim unknown known (cases_lt 2 kind)
   where
     unknown : 2 < kind → DecodeNumbers kind (decoded b c a kind)
     unknown l =

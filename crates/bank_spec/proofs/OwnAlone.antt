@@ -9,7 +9,7 @@ use borrow.Author.Tests.{lt-ltb}
 use Rattle.words.specs.Bytes.{bit}
 use Rattle.words.specs.declared.BitAddress.{BitAddress}
 use Rattle.words.proofs.Bits.{bit_of_quotient}
-use Rattle.words.proofs.Choices.{less_or_not}
+use Rattle.std.proofs.lemmas.Bool.{cases_lt}
 use Rattle.words.proofs.Digits.{same_digit, two_digits}
 use Rattle.bank_spec.specs.Registers.{bank_at}
 use Rattle.bank_spec.specs.Decode.{rm, in_turn, admits, selects, decoded}
@@ -44,7 +44,7 @@ module _ (n c c' kind : ℕ)
   pub own_alone : (b b' : Banks) (a : BitAddress) → n < 4 → bank_at b n ≡ bank_at b' n →
       shows (decoded b c a kind) n ≡ shows (decoded b' c' a kind) n
   unfolding decoded
-  own_alone b b' a h e = ⊎_elim (λ l. rw (lt-ltb 2 kind l)) known (less_or_not 2 kind)
+  own_alone b b' a h e = ⊎_elim (λ l. rw (lt-ltb 2 kind l)) known (cases_lt 2 kind)
     where
       known : kind ≤ 2 → shows (decoded b c a kind) n ≡ shows (decoded b' c' a kind) n
       known l =
@@ -56,7 +56,7 @@ module _ (n c c' kind : ℕ)
 -- The six low bits of the control word, ABE, BPNT and bit 0, change nothing.
 pub rest_plays_no_part : (b : Banks) (c c' : ℕ) (a : BitAddress) (kind : ℕ) → c / 64 ≡ c' / 64 → decoded b c a kind ≡ decoded b c' a kind
 unfolding decoded
-rest_plays_no_part b c c' a kind e = ⊎_elim (λ l. rw (lt-ltb 2 kind l)) known (less_or_not 2 kind)
+rest_plays_no_part b c c' a kind e = ⊎_elim (λ l. rw (lt-ltb 2 kind l)) known (cases_lt 2 kind)
   where
     upper : (i : ℕ) → bit c (6 + i) ≡ bit c' (6 + i)
     upper i = sym (bit_of_quotient c 6 i) ∙ ap (λ (x : ℕ). bit x i) e ∙ bit_of_quotient c' 6 i

@@ -7,7 +7,8 @@ use mathlib.Core.Bool.{Bool, true, false, cond, ◌&&◌, beq}
 use mathlib.Core.Logic.{⊎_elim, ◌≢◌}
 use lib.Dec.{eqb}
 use borrow.Author.Tests.{eq-eqb, ne_eqb, eqb-true, eqb-false, ltb-true, ltb-false}
-use Rattle.words.proofs.Choices.{either_way, both_true, come_out_alike, same_or_not}
+use Rattle.std.proofs.lemmas.Bool.{and_parts, cases_Bool, cases_eq}
+use Rattle.words.proofs.Choices.{come_out_alike}
 use Rattle.bank_spec.specs.Registers.{bank, bank_at, with_bank, half, with_half, bank_of, is_mask, is_high, value_of, with_value}
 use Rattle.bank_spec.specs.Registers.{half_at, with_half_at}
 use Rattle.bank_spec.specs.declared.Bank.{Bank}
@@ -80,14 +81,14 @@ one_place i j hi hj b m h =
     ⊎_elim
     (λ e. omega (arith, b, parity, masks_above i e, masks_above j (sym m ∙ e)))
     (λ e. omega (arith, b, parity, addresses_below i e, addresses_below j (sym m ∙ e)))
-    (either_way (is_mask i))
+    (cases_Bool (is_mask i))
   where
     parity : i % 2 ≡ j % 2
     parity =
         ⊎_elim
         (λ e. highs_odd i e ∙ sym (highs_odd j (sym h ∙ e)))
         (λ e. lows_even i e ∙ sym (lows_even j (sym h ∙ e)))
-        (either_way (is_high i))
+        (cases_Bool (is_high i))
 
 -- the same value and the same half of a bank
 abbrev same_spot : ℕ → ℕ → Bool
@@ -116,14 +117,14 @@ others_stay b i w j l hi hj d =
     ⊎_elim
     (λ e. this_bank b i w l j e ∙ rw (elsewhere e))
     (another b i w l j)
-    (same_or_not (bank_of i) (bank_of j))
+    (cases_eq (bank_of i) (bank_of j))
   where
     elsewhere : bank_of i ≡ bank_of j → same_spot i j ≡ false
     elsewhere e =
         ⊎_elim
-        (λ t. let u = both_true _ _ t in absurd (d (one_place i j hi hj e ((come_out_alike _ _).0 u.0) ((come_out_alike _ _).0 u.1))))
+        (λ t. let u = and_parts _ _ t in absurd (d (one_place i j hi hj e ((come_out_alike _ _).0 u.0) ((come_out_alike _ _).0 u.1))))
         (λ f. f)
-        (either_way (same_spot i j))
+        (cases_Bool (same_spot i j))
 
 -- ---- a place written as it stands
 

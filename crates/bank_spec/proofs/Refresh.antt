@@ -10,7 +10,7 @@ use borrow.Author.Tests.{eq-eqb, ne_eqb, eqb-true}
 use Rattle.words.specs.Addresses.{address}
 use Rattle.words.specs.Bytes.{bit}
 use Rattle.words.specs.declared.BitAddress.{BitAddress}
-use Rattle.words.proofs.Choices.{either_way, same_or_not}
+use Rattle.std.proofs.lemmas.Bool.{cases_Bool, cases_eq}
 use Rattle.words.proofs.Digits.{is_set, is_clear, same_digit, two_digits, made_of_two}
 use Rattle.bank_spec.specs.Decode.{rm, in_turn}
 use Rattle.bank_spec.specs.InPlainWords.{InTurn, with_all, in_a_pair, alone}
@@ -47,7 +47,7 @@ module _ (c : ℕ) (a : BitAddress) (n : ℕ) where
   -- ---- all of them
 
   in_words : in_turn c a n ≡ true → InTurn c a n
-  in_words t = ⊎_elim rm1_set rm1_clear (either_way (bit c 7))
+  in_words t = ⊎_elim rm1_set rm1_clear (cases_Bool (bit c 7))
     where
       in_pair : bit c 7 ≡ false → bit c 6 ≡ true → InTurn c a n
       in_pair r s =
@@ -61,10 +61,10 @@ module _ (c : ℕ) (a : BitAddress) (n : ℕ) where
           alone r s ((same_digit n 0 a.0 16).1 (omega (arith, e, two))) ((same_digit n 1 a.0 17).1 (omega (arith, e, two)))
 
       rm1_set : bit c 7 ≡ true → InTurn c a n
-      rm1_set r = ⊎_elim (λ s. absurd (true≢false (sym t ∙ no_refresh r s))) (by_itself r) (either_way (bit c 6))
+      rm1_set r = ⊎_elim (λ s. absurd (true≢false (sym t ∙ no_refresh r s))) (by_itself r) (cases_Bool (bit c 6))
 
       rm1_clear : bit c 7 ≡ false → InTurn c a n
-      rm1_clear r = ⊎_elim (in_pair r) (with_all r) (either_way (bit c 6))
+      rm1_clear r = ⊎_elim (in_pair r) (with_all r) (cases_Bool (bit c 6))
 
   from_words : n < 4 → InTurn c a n → in_turn c a n ≡ true
   from_words h (with_all r s) = all_at_once r s
@@ -83,4 +83,4 @@ pairs_alternate c a n r s =
     (⊎_elim
     (λ e. rw (eq-eqb (n % 2) (a.0 / 65536 % 2) e, ne_eqb (n % 2) ((a.0 + 65536) / 65536 % 2) (omega (arith, e))))
     (λ d. rw (ne_eqb (n % 2) (a.0 / 65536 % 2) d, eq-eqb (n % 2) ((a.0 + 65536) / 65536 % 2) (omega (arith, d))))
-    (same_or_not (n % 2) (a.0 / 65536 % 2)))
+    (cases_eq (n % 2) (a.0 / 65536 % 2)))

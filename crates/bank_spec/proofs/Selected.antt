@@ -5,7 +5,7 @@ use mathlib.Core.Bool.{true, false, true≢false}
 use mathlib.Core.Logic.{⊎_elim, ◌↔◌}
 use borrow.Author.Tests.{lt-ltb, le-ltb}
 use Rattle.words.specs.declared.BitAddress.{BitAddress}
-use Rattle.words.proofs.Choices.{both_true, less_or_not}
+use Rattle.std.proofs.lemmas.Bool.{and_parts, cases_lt}
 use Rattle.bank_spec.specs.Registers.{bank, bank_at}
 use Rattle.bank_spec.specs.Decode.{selects, decoded_as, decoded}
 use Rattle.bank_spec.specs.InPlainWords.{mask_for, Agrees, Admits, shows}
@@ -36,7 +36,7 @@ module _ (b : Banks) (c : ℕ) (a : BitAddress) (kind n : ℕ) (h : n < 4) where
   pub selected_exactly :
       shows (decoded b c a kind) n ≡ true ↔ Agrees (bank_at b n).mask (bank_at b n).compare a.0 × Admits c a kind n
   unfolding selects
-  selected_exactly = ⊎_elim unknown known (less_or_not 2 kind)
+  selected_exactly = ⊎_elim unknown known (cases_lt 2 kind)
     where
       unknown : 2 < kind →
           shows (decoded b c a kind) n ≡ true ↔ Agrees (bank_at b n).mask (bank_at b n).compare a.0 × Admits c a kind n
@@ -46,7 +46,7 @@ module _ (b : Banks) (c : ℕ) (a : BitAddress) (kind n : ℕ) (h : n < 4) where
           shows (decoded b c a kind) n ≡ true ↔ Agrees (bank_at b n).mask (bank_at b n).compare a.0 × Admits c a kind n
       known l = (
         λ e.
-            let t = both_true _ _ (sym (shown b c a kind l n h) ∙ e) in
+            let t = and_parts _ _ (sym (shown b c a kind l n h) ∙ e) in
             ((agrees_exactly _ _ _).0 t.0, (admits_exactly c a n h kind l).0 t.1),
         λ t. shown b c a kind l n h ∙ rw ((agrees_exactly _ _ _).1 t.0, (admits_exactly c a n h kind l).1 t.1),
       )

@@ -5,7 +5,7 @@ use mathlib.Core.Path.{◌≡◌, ◌∙◌}
 use mathlib.Core.List.{List, [], ◌∷◌}
 use mathlib.Core.Logic.{⊎_elim, ◌≢◌}
 use borrow.Author.Tests.{eq-eqb, ne_eqb}
-use Rattle.words.proofs.Choices.{same_or_not}
+use Rattle.std.proofs.lemmas.Bool.{cases_eq}
 use Rattle.bank_spec.specs.Access.{next, read_answer, write_answer}
 use Rattle.bank_spec.specs.InPlainWords.{Access, read, write, answer_to, after, lanes_of, counted}
 use Rattle.bank_spec.specs.declared.BankPort.{BankPort}
@@ -34,14 +34,14 @@ index_after p (x ∷ xs) =
     ∙ ⊎_elim
     (λ e. rw (steps p x e, eq-eqb (lanes_of x) 3 e) (omega arith))
     (λ d. rw (stays p x d, ne_eqb (lanes_of x) 3 d))
-    (same_or_not (lanes_of x) 3)
+    (cases_eq (lanes_of x) 3)
 
 -- Once it has stepped it is one of 0 to 15.
 stays_small : (p : BankPort) (xs : List Access) → p.index < 16 → (after p xs).index < 16
 stays_small p [] h = h
 stays_small p (x ∷ xs) h =
     stays_small (answer_to p x).port xs
-    (⊎_elim (λ e. rw (steps p x e) (omega arith)) (λ d. rw (stays p x d) h) (same_or_not (lanes_of x) 3))
+    (⊎_elim (λ e. rw (steps p x e) (omega arith)) (λ d. rw (stays p x d) h) (cases_eq (lanes_of x) 3))
 
 -- After the first access of sixteen bits the index is 0 to 15.
 pub index_small : (p : BankPort) (xs : List Access) → 0 < counted xs → (after p xs).index < 16
@@ -50,7 +50,7 @@ index_small p (x ∷ xs) h =
     ⊎_elim
     (λ e. stays_small (answer_to p x).port xs (rw (steps p x e) (omega arith)))
     (λ d. index_small (answer_to p x).port xs (rw (ne_eqb (lanes_of x) 3 d) at h))
-    (same_or_not (lanes_of x) 3)
+    (cases_eq (lanes_of x) 3)
 
 -- Sixteen accesses of sixteen bits, whatever others are refused between them, return the index to its start, modulo 16.
 pub sixteen_return : (p : BankPort) (xs : List Access) → counted xs ≡ 16 → (after p xs).index ≡ p.index % 16

@@ -1,6 +1,7 @@
 -- Putting an accepted field in, in one word, in two and in three: its parts, put in one after the other, are the field, and the
 -- cycles are the sum over its words.
-use Prim.Native.Nat.{ℕ, ◌+◌, ◌-◌, ◌*◌, ◌%◌, ◌≤◌, ◌<◌}
+use Prim.Native.Nat.{ℕ, ◌+◌, ◌-◌, ◌*◌, ◌/◌, ◌%◌, ◌^◌, ◌≤◌, ◌<◌}
+use native.Mathlib.Nat.{div-one}
 use native.Mathlib.Omega.{arith}
 use mathlib.Core.Path.{◌≡◌, refl, sym, ap, ap₂, ◌∙◌}
 use mathlib.Core.Bool.{Bool, true, false, ◌&&◌}
@@ -9,7 +10,7 @@ use mathlib.Core.Logic.{◌≢◌, ⊎_elim}
 use lib.Dec.{leb, eqb}
 use lib.ListN.{length, length-set}
 use borrow.Author.Tests.{le-leb, lt-leb, leb-true, eq-eqb, ne_eqb}
-use Rattle.words.proofs.Choices.{same_or_not}
+use Rattle.std.proofs.lemmas.Bool.{cases_eq}
 use Rattle.words.specs.Addresses.{word_at}
 use Rattle.words.specs.declared.BitAddress.{BitAddress}
 use Rattle.words.specs.declared.WordNumber.{WordNumber}
@@ -48,7 +49,7 @@ module _ (a : BitAddress) (n : ℕ) (w : WordNumber) where
       → (k ≢ 16 → a.0 ≤ w.0 * 16 → a.0 + n < w.0 * 16 + 16) → put_cost (wholly_covered a n w) ≡ put_cost (eqb k 16)
   cost_by k f g =
       ap put_cost
-      (⊎_elim (λ e. whole (f e).0 (f e).1 ∙ sym (eq-eqb k 16 e)) (λ d. partial (g d) ∙ sym (ne_eqb k 16 d)) (same_or_not k 16))
+      (⊎_elim (λ e. whole (f e).0 (f e).1 ∙ sym (eq-eqb k 16 e)) (λ d. partial (g d) ∙ sym (ne_eqb k 16 d)) (cases_eq k 16))
 
 -- ---- the cycles
 
@@ -86,6 +87,11 @@ module _ (a : BitAddress) (n : ℕ) where
 pub part_length : (m : List ℕ) (w o k v d : ℕ) → length (with_part m w o k v d) ≡ length m
 unfolding with_part
 part_length m w o k v d = length-set m w _
+
+-- The low bits of what is left of a value beyond its d low bits are the value's from bit d on.
+pub rest_of_value : (m : List ℕ) (w o k v d : ℕ) → with_part m w o k (v / 2 ^ d) 0 ≡ with_part m w o k v d
+unfolding with_part
+rest_of_value m w o k v d = rw (div-one (v / 2 ^ d))
 
 module _ (m : List ℕ) (a : BitAddress) (v : ℕ) where
   -- With d bits put in, the field goes on at bit o of word w: with k bits more put in there, e are.

@@ -12,7 +12,7 @@ use Rattle.words.specs.Addresses.{address, word_at}
 use Rattle.words.specs.Bytes.{bit}
 use Rattle.words.specs.Memory.{AreWords}
 use Rattle.words.specs.declared.BitAddress.{BitAddress}
-use Rattle.words.proofs.Choices.{less_or_not}
+use Rattle.std.proofs.lemmas.Bool.{cases_lt}
 use Rattle.words.proofs.Bits.{bit_of_quotient, bit_of_remainder}
 use Rattle.field_spec.specs.Field.{memory_bit, field_at}
 use Rattle.field_spec.specs.Count.{touched}
@@ -66,7 +66,7 @@ module _ (m : List ℕ) (h : AreWords m) where
       ∙ ap (λ (y : ℕ). bit y c) (high rest 16 (h i))
       ∙ window_bit k (suc i) c (omega (arith, s))
       ∙ ap (λ (j : ℕ). memory_bit m (address j)) f))
-      (less_or_not b 16)
+      (cases_lt b 16)
 
   -- The field is the window of the words that it touches, without the bits before it in its first word, modulo 2^n.
   pub field_in_window : (a : BitAddress) (n : ℕ) → field_at m a n ≡ window m (word_at a).0 (touched a n) / 2 ^ (a.0 % 16) % 2 ^ n

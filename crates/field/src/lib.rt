@@ -3,6 +3,11 @@
 //
 // A call judges its numbers first, and refuses by number. An accepted field is then taken out of the words touched, read as
 // one number of 64 bits, or put in word by word, in numbers of 32 bits.
+//
+// A place and a size stay two numbers, in the calls and below them, as `refusal`, `touched` and `field_at` have them: any size may be
+// handed in, and is refused by number. `as` stands where there is no `From`: where a number gets narrower, which is proved to lose
+// nothing, and where a `u32` becomes a place in memory.
+// Taking out is two calls: docs/MANUAL.md names both, and `taken` and `taken_signed` read the same bits each in its own way.
 #![tactic(auto)]
 
 mod bits;

@@ -6,7 +6,7 @@ use mathlib.Core.Bool.{Bool, true, false, cond, ◌||◌}
 use mathlib.Core.Logic.{◌↔◌, ◌≢◌}
 use lib.Dec.{ltb, leb}
 use borrow.Author.Tests.{ltb-true, ltb-false, leb-true, leb-false}
-use Rattle.words.proofs.Choices.{both_false}
+use Rattle.std.proofs.lemmas.Bool.{or_parts}
 use Rattle.words.specs.declared.BitAddress.{BitAddress}
 use Rattle.field_spec.specs.Count.{last_word, touched}
 use Rattle.field_spec.specs.Answers.{no_size, refusal, Accepted}
@@ -51,5 +51,5 @@ none_applies words a n e =
 pub sized : (n : ℕ) → no_size n ≡ false → (1 ≤ n) × (n ≤ 32)
 unfolding no_size
 sized n e =
-    let b = both_false (ltb n 1) (ltb 32 n) e in
+    let b = or_parts (ltb n 1) (ltb 32 n) e in
     (ltb-false n 1 b.0, ltb-false 32 n b.1)

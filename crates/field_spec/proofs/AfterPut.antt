@@ -9,7 +9,7 @@ use Rattle.words.specs.Addresses.{address}
 use Rattle.words.specs.Bytes.{bit}
 use Rattle.words.specs.Memory.{AreWords}
 use Rattle.words.specs.declared.BitAddress.{BitAddress}
-use Rattle.words.proofs.Choices.{same_or_not}
+use Rattle.std.proofs.lemmas.Bool.{cases_eq}
 use Rattle.field_spec.specs.Field.{memory_bit}
 use Rattle.field_spec.specs.Count.{take_cycles}
 use Rattle.field_spec.specs.InPlainWords.{Covers}
@@ -37,7 +37,7 @@ module _ {m m' : List ℕ} {a : BitAddress} {n v : ℕ} {r : Put} (p : PutIn m a
       ⊎_elim
       (λ z. rw (p.memory, memory_done m a n z v) (put_elsewhere m a n v b h))
       (λ d. rw (p.memory, memory_refused m a n d v))
-      (same_or_not (refusal (length m) a n) 0)
+      (cases_eq (refusal (length m) a n) 0)
 
   -- After putting in, done or refused, a memory of sixteen-bit words is one still, and has as many as before.
   pub then_words : AreWords m → AreWords m' × (length m' ≡ length m)
@@ -45,7 +45,7 @@ module _ {m m' : List ℕ} {a : BitAddress} {n v : ℕ} {r : Put} (p : PutIn m a
       ⊎_elim
       (λ z. rw (p.memory, memory_done m a n z v) (put_words m a n v w, put_length m a n v))
       (λ d. rw (p.memory, memory_refused m a n d v) (w, refl))
-      (same_or_not (refusal (length m) a n) 0)
+      (cases_eq (refusal (length m) a n) 0)
 
   -- If putting in said done, the next taking out of the same field answers the value, modulo 2^size.
   pub then_taken : r.number ≡ 0 → taken m' a n ≡ record { number = 0; value = v % 2 ^ n; cycles = take_cycles a n }

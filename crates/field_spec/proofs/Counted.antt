@@ -7,7 +7,7 @@ use mathlib.Core.Bool.{true}
 use mathlib.Core.Logic.{◌↔◌}
 use lib.Dec.{leb}
 use borrow.Author.Tests.{le-leb, leb-true}
-use Rattle.words.proofs.Choices.{both_true}
+use Rattle.std.proofs.lemmas.Bool.{and_parts}
 use Rattle.words.specs.Addresses.{address, word_at}
 use Rattle.words.specs.declared.BitAddress.{BitAddress}
 use Rattle.words.specs.declared.WordNumber.{WordNumber}
@@ -64,7 +64,7 @@ module _ (a : BitAddress) (n : ℕ) (w : WordNumber) where
   covers_all : wholly_covered a n w ≡ true → (b : BitAddress) → word_at b ≡ w → Covers a n b
   unfolding wholly_covered
   covers_all e b i =
-      let t = both_true (leb a.0 (w.0 * 16)) (leb (w.0 * 16 + 16) (a.0 + n)) e in
+      let t = and_parts (leb a.0 (w.0 * 16)) (leb (w.0 * 16 + 16) (a.0 + n)) e in
       let p : a.0 ≤ w.0 * 16 = leb-true _ _ t.0 in
       let q : w.0 * 16 + 16 ≤ a.0 + n = leb-true _ _ t.1 in
       let j : b.0 / 16 ≡ w.0 = ap (λ (x : WordNumber). x.0) i in

@@ -5,9 +5,9 @@ use native.Mathlib.Omega.{arith}
 use mathlib.Core.Path.{◌≡◌, refl, sym, ap, ◌∙◌}
 use mathlib.Core.List.{List}
 use mathlib.Core.Logic.{◌↔◌, ◌≢◌, ◌⊎◌, inl, inr, ⊎_elim}
-use lib.IntN.{pos}
+use lib.IntN.{ℤ, pos}
 use lib.ListN.{length}
-use Rattle.words.proofs.Choices.{less_or_not, same_or_not}
+use Rattle.std.proofs.lemmas.Bool.{cases_eq, cases_lt}
 use Rattle.words.specs.Addresses.{word_at}
 use Rattle.words.specs.declared.BitAddress.{BitAddress}
 use Rattle.field_spec.specs.Count.{last_word, touched}
@@ -15,7 +15,6 @@ use Rattle.field_spec.specs.InPlainWords.{Missing}
 use Rattle.field_spec.proofs.Counted.{missing_last, last_missing}
 use Rattle.field_spec.specs.Answers.{refusal, taken, taken_signed, put_answer, put_memory}
 use Rattle.field_spec.specs.declared.Taken.{Taken}
-use Rattle.field_spec.specs.declared.SignedTaken.{SignedTaken}
 use Rattle.field_spec.specs.declared.Put.{Put}
 use Rattle.field_spec.proofs.Answered.{taken_done, signed_done, put_done, taken_refused, signed_refused, put_refused, memory_refused}
 use Rattle.field_spec.proofs.Accepted.{tested}
@@ -40,7 +39,7 @@ when words a n =
       listed = t.listed;
       over = t.over;
       no_size = (
-        λ e. ((t.no_size e).0, ⊎_elim (λ l. inl l) (λ s. inr ((t.no_size e).1 s)) (less_or_not n 1)),
+        λ e. ((t.no_size e).0, ⊎_elim (λ l. inl l) (λ s. inr ((t.no_size e).1 s)) (cases_lt n 1)),
         λ h. ⊎_elim (t.small h.0) (t.large h.0) h.1,
       );
       too_wide = t.too_wide;
@@ -52,7 +51,7 @@ when words a n =
         λ e. let g = t.done.0 e in (g.0, g.1, g.2, g.3, λ m. omega (arith, g.4, missing_last words a n m)),
         λ h.
             let there : (last_word a n).0 < words =
-            ⊎_elim (λ l. l) (λ k. absurd (h.4 (last_missing words a n h.1 k))) (less_or_not (last_word a n).0 words)
+            ⊎_elim (λ l. l) (λ k. absurd (h.4 (last_missing words a n h.1 k))) (cases_lt (last_word a n).0 words)
             in t.done.1 (h.0, h.1, h.2, h.3, there),
       );
     }
@@ -63,14 +62,14 @@ when words a n =
 answer_number : {A : Type 0} (number : A → ℕ) (k : ℕ) {answer done refused : A} → (k ≡ 0 → answer ≡ done) → number done ≡ 0
     → (k ≢ 0 → answer ≡ refused) → number refused ≡ k → number answer ≡ k
 answer_number number k d z r e =
-    ⊎_elim (λ q. ap number (d q) ∙ z ∙ sym q) (λ q. ap number (r q) ∙ e) (same_or_not k 0)
+    ⊎_elim (λ q. ap number (d q) ∙ z ∙ sym q) (λ q. ap number (r q) ∙ e) (cases_eq k 0)
 
 module _ (m : List ℕ) (a : BitAddress) (n : ℕ) where
   taken_number : (taken m a n).number ≡ refusal (length m) a n
-  taken_number = answer_number (λ (r : Taken). r.number) _ (taken_done m a n) refl (taken_refused m a n) refl
+  taken_number = answer_number (λ (r : Taken ℕ). r.number) _ (taken_done m a n) refl (taken_refused m a n) refl
 
   signed_number : (taken_signed m a n).number ≡ refusal (length m) a n
-  signed_number = answer_number (λ (r : SignedTaken). r.number) _ (signed_done m a n) refl (signed_refused m a n) refl
+  signed_number = answer_number (λ (r : Taken ℤ). r.number) _ (signed_done m a n) refl (signed_refused m a n) refl
 
   -- A putting in answers the number that applies.
   pub put_number : (put_answer (length m) a n).number ≡ refusal (length m) a n
@@ -86,13 +85,13 @@ module _ (m : List ℕ) (a : BitAddress) (n : ℕ) where
   pub refused_taking : (taken m a n).number ≢ 0 → ((taken m a n).value ≡ 0) × ((taken m a n).cycles ≡ 0)
   refused_taking d =
       let e = taken_refused m a n (λ q. d (taken_number ∙ q)) in
-      (ap (λ (r : Taken). r.value) e, ap (λ (r : Taken). r.cycles) e)
+      (ap (λ (r : Taken ℕ). r.value) e, ap (λ (r : Taken ℕ). r.cycles) e)
 
   -- A taking out as signed that answers another number than 0 answers value 0 and no cycles.
   pub refused_signed : (taken_signed m a n).number ≢ 0 → ((taken_signed m a n).value ≡ pos 0) × ((taken_signed m a n).cycles ≡ 0)
   refused_signed d =
       let e = signed_refused m a n (λ q. d (signed_number ∙ q)) in
-      (ap (λ (r : SignedTaken). r.value) e, ap (λ (r : SignedTaken). r.cycles) e)
+      (ap (λ (r : Taken ℤ). r.value) e, ap (λ (r : Taken ℤ). r.cycles) e)
 
   -- A putting in that answers another number than 0 has no cycles, and leaves the memory as it stood, whatever the value.
   pub refused_put : (put_answer (length m) a n).number ≢ 0

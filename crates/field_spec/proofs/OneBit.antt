@@ -9,7 +9,7 @@ use mathlib.Core.Logic.{⊎_elim, ◌≢◌}
 use lib.Pow.{pow_pos, high, low}
 use Rattle.words.specs.Bytes.{bit}
 use Rattle.words.proofs.Bits.{bit_above, split_at_bit, bit_of_quotient, bit_of_remainder}
-use Rattle.words.proofs.Choices.{less_or_not}
+use Rattle.std.proofs.lemmas.Bool.{cases_lt}
 use Rattle.field_spec.specs.Field.{with_bit}
 use Rattle.field_spec.specs.WithBits.{with_bits}
 use Rattle.field_spec.proofs.WordBits.{bits_above, bits_below, bits_fit}
@@ -70,7 +70,7 @@ module _ (w i : ℕ) where
 
   -- Where bit i of a number is replaced, every other bit stays.
   pub bit_kept : (v : Bool) (j : ℕ) → j ≢ i → bit (with_bit w i v) j ≡ bit w j
-  bit_kept v j n = ⊎_elim (lower_bit v j) (λ l. upper_bit v j (omega (arith, l, n))) (less_or_not j i)
+  bit_kept v j n = ⊎_elim (lower_bit v j) (λ l. upper_bit v j (omega (arith, l, n))) (cases_lt j i)
 
   -- A bit made what it is changes nothing.
   pub bit_as_it_is : with_bit w i (bit w i) ≡ w

@@ -11,7 +11,7 @@ use Rattle.words.specs.Addresses.{address}
 use Rattle.words.specs.Bytes.{bit}
 use Rattle.words.specs.Memory.{AreWords}
 use Rattle.words.specs.declared.BitAddress.{BitAddress}
-use Rattle.words.proofs.Choices.{less_or_not}
+use Rattle.std.proofs.lemmas.Bool.{cases_lt}
 use Rattle.words.proofs.Bits.{bit_above, bit_of_quotient, bit_of_remainder}
 use Rattle.field_spec.specs.Field.{memory_bit, field_at}
 use Rattle.field_spec.specs.InPlainWords.{number_of}
@@ -37,7 +37,7 @@ number_bit (w ∷ m) b h =
     ∙ ap (λ (y : ℕ). bit y c) (high (number_of m) 16 (h 0))
     ∙ number_bit m c (λ i. h (suc i))
     ∙ sym (bit_in (w ∷ m) (address b) (suc (c / 16)) (c % 16) (omega (arith, l)) (omega arith))))
-    (less_or_not b 16)
+    (cases_lt b 16)
 
 -- With memory as one number, first word lowest, the field is that number without its a low bits, modulo 2^n.
 pub field_of_number : (m : List ℕ) (a : BitAddress) (n : ℕ) → AreWords m → field_at m a n ≡ number_of m / 2 ^ a.0 % 2 ^ n

@@ -14,7 +14,7 @@ use Rattle.words.specs.Addresses.{address, word_at}
 use Rattle.words.specs.Bytes.{bit}
 use Rattle.words.specs.Memory.{AreWords}
 use Rattle.words.specs.declared.BitAddress.{BitAddress}
-use Rattle.words.proofs.Choices.{less_or_not, same_or_not}
+use Rattle.std.proofs.lemmas.Bool.{cases_eq, cases_lt}
 use Rattle.words.proofs.Bits.{bit_above, bit_of_remainder, one_bit_more}
 use Rattle.field_spec.specs.Field.{bits_after, memory_bit, with_bit, set_memory_bit, field_at, with_field}
 use Rattle.field_spec.specs.InPlainWords.{Covers}
@@ -60,9 +60,9 @@ module _ (m : List ℕ) (b : BitAddress) where
       ∙ bit_kept (get_or m w 0) (b.0 % 16) v (c.0 % 16) (λ f. d (omega (arith, e, f)))
       ∙ ap (λ (k : ℕ). bit (get_or m k 0) (c.0 % 16)) (sym e))
       (λ l. rw (set_out m w x l))
-      (less_or_not w (length m)))
+      (cases_lt w (length m)))
       (λ n. rw (get_or-set_other m w (c.0 / 16) x 0 n))
-      (same_or_not (c.0 / 16) w)
+      (cases_eq (c.0 / 16) w)
 
   -- A bit made what it is changes nothing.
   pub as_it_is : set_memory_bit m b (memory_bit m b) ≡ m
@@ -96,7 +96,7 @@ field_bit m a (suc n) i l =
     (λ d. let k : i < n = omega (arith, d) in
     sym (bit_of_remainder (cond t (2 ^ n) 0 + f) n i k)
     ∙ ap (λ (x : ℕ). bit x i) (rest_is n f (field_fits m a n) t) ∙ field_bit m a n i k)
-    (same_or_not i n))
+    (cases_eq i n))
 
 -- A field has no bit beyond its size.
 pub field_bit_beyond : (m : List ℕ) (a : BitAddress) (n i : ℕ) → n ≤ i → bit (field_at m a n) i ≡ false
@@ -132,7 +132,7 @@ put_bit m a (suc n) v i l h =
     (λ e. rw e (made (with_field m a n v) (bits_after a n) (bit v n) (rw put_length (rw e at h))))
     (λ d. kept (with_field m a n v) (bits_after a n) (bit v n) (bits_after a i) (λ f. d (omega (arith, f)))
     ∙ put_bit m a n v i (omega (arith, d)) h)
-    (same_or_not i n)
+    (cases_eq i n)
 
 -- Putting in changes no bit outside the field.
 pub put_elsewhere : (m : List ℕ) (a : BitAddress) (n v : ℕ) (b : BitAddress) → (Covers a n b → ⊥)
@@ -154,9 +154,9 @@ set_words m b v h i =
     (λ e. ⊎_elim
     (λ l. rw e (rw (get_or-set_same m w x 0 l) (bit_fits (get_or m w 0) (b.0 % 16) 16 v (h w) (omega arith))))
     (λ l. rw (set_out m w x l) (h i))
-    (less_or_not w (length m)))
+    (cases_lt w (length m)))
     (λ n. rw (get_or-set_other m w i x 0 n) (h i))
-    (same_or_not i w)
+    (cases_eq i w)
 
 -- Putting in leaves a memory of sixteen-bit words one of sixteen-bit words.
 pub put_words : (m : List ℕ) (a : BitAddress) (n v : ℕ) → AreWords m → AreWords (with_field m a n v)

@@ -8,7 +8,7 @@ use mathlib.Core.Logic.{⊎_elim}
 use lib.ListN.{length}
 use Rattle.words.specs.Bytes.{bit}
 use Rattle.words.specs.declared.BitAddress.{BitAddress}
-use Rattle.words.proofs.Choices.{same_or_not}
+use Rattle.std.proofs.lemmas.Bool.{cases_eq}
 use Rattle.words.proofs.Bits.{bit_of_remainder}
 use Rattle.field_spec.specs.Field.{bits_after, memory_bit, field_at, with_field, signed}
 use Rattle.field_spec.specs.Count.{last_word, take_cycles}
@@ -63,7 +63,7 @@ module _ (m : List ℕ) (a : BitAddress) (n : ℕ) where
       ⊎_elim
       (λ e. rw (memory_done m a n e (taken m a n).value, taken_done m a n e) (put_as_it_is m a n (field_at m a n) (field_bit m a n)))
       (λ d. memory_refused m a n d (taken m a n).value)
-      (same_or_not (refusal (length m) a n) 0)
+      (cases_eq (refusal (length m) a n) 0)
 
   -- What was taken out as signed, put in again as the 32 bits that it has, changes nothing; nor does a refused call.
   pub put_after_signed : put_memory m a n (same_bits (taken_signed m a n).value) ≡ m
@@ -76,7 +76,7 @@ module _ (m : List ℕ) (a : BitAddress) (n : ℕ) where
       (put_as_it_is m a n (same_bits (signed n f))
       (λ j l. sym (bit_of_remainder (same_bits (signed n f)) n j l) ∙ ap (λ (x : ℕ). bit x j) back ∙ field_bit m a n j l)))
       (λ d. memory_refused m a n d (same_bits (taken_signed m a n).value))
-      (same_or_not (refusal (length m) a n) 0)
+      (cases_eq (refusal (length m) a n) 0)
 
   -- Putting in uses the value modulo 2^size.
   pub put_modulo : (v : ℕ) → put_memory m a n v ≡ put_memory m a n (v % 2 ^ n)

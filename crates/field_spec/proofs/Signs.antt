@@ -10,7 +10,7 @@ use lib.Pow.{pow_pos, pow-add, suc_ones, low}
 use mathlib.Core.Logic.{⊎_elim}
 use borrow.Author.Tests.{lt-ltb}
 use Rattle.words.specs.Bytes.{bit}
-use Rattle.words.proofs.Choices.{less_or_not}
+use Rattle.std.proofs.lemmas.Bool.{cases_lt}
 use Rattle.words.proofs.Bits.{bit_above, one_bit_more}
 use Rattle.field_spec.specs.Field.{signed}
 use Rattle.field_spec.specs.InPlainWords.{InRange, at_least_zero, below_zero, same_bits}
@@ -64,7 +64,7 @@ in_range n x s l =
     ⊎_elim
     (λ h. rw (reads_low n x h) (at_least_zero h))
     (λ h. rw (reads_high n x s l h) (below_zero {k = 2 ^ n - suc x} (omega (arith, twice n s, h, l))))
-    (less_or_not x (2 ^ (n - 1)))
+    (cases_lt x (2 ^ (n - 1)))
 
 -- ---- back again
 
@@ -83,4 +83,4 @@ same_low_bits n x s m l =
     ap (λ (k : ℕ). 2 ^ k) w ∙ pow-add 2 (32 - n) n
     ∙ ap (λ (k : ℕ). k * 2 ^ n) (sym (suc_ones (32 - n))) ∙ suc-mul q (2 ^ n)
     in rw (reads_high n x s l h, e, lacking q (2 ^ n) x l) (low q n l))
-    (less_or_not x (2 ^ (n - 1)))
+    (cases_lt x (2 ^ (n - 1)))

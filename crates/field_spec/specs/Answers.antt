@@ -7,13 +7,12 @@
 --   taken_signed m a n      what taking out signed answers
 --   put_answer words a n    what putting in answers
 --   put_memory m a n v      the memory after putting in
-use Rattle.std.specs.Prelude.{ℕ, ◌≤◌, ◌<◌, Bool, cond, ◌||◌, List, ◌≡◌, eqb, ltb, leb, pos, length}
+use Rattle.std.specs.Prelude.{ℕ, ◌≤◌, ◌<◌, Bool, cond, ◌||◌, List, ◌≡◌, eqb, ltb, leb, ℤ, pos, length}
 use Rattle.words.specs.Memory.{over_limit}
 use Rattle.words.specs.declared.BitAddress.{BitAddress}
 use Rattle.field_spec.specs.Field.{field_at, with_field, signed}
 use Rattle.field_spec.specs.Count.{last_word, touched, take_cycles, put_cycles}
 use Rattle.field_spec.specs.declared.Taken.{Taken}
-use Rattle.field_spec.specs.declared.SignedTaken.{SignedTaken}
 use Rattle.field_spec.specs.declared.Put.{Put}
 
 -- "field size not 1 to 32"
@@ -37,15 +36,15 @@ pub record Accepted (words : ℕ) (a : BitAddress) (n : ℕ) : Type 0 where
 
 -- ---- "The answer counts memory cycles"; "A refusal returns zeros"
 
-abbrev pub done_taking : List ℕ → BitAddress → ℕ → Taken
+abbrev pub done_taking : List ℕ → BitAddress → ℕ → Taken ℕ
 done_taking m a n = record { number = 0; value = field_at m a n; cycles = take_cycles a n }
 
-unfoldable pub taken : List ℕ → BitAddress → ℕ → Taken
+unfoldable pub taken : List ℕ → BitAddress → ℕ → Taken ℕ
 taken m a n =
     cond (eqb (refusal (length m) a n) 0) (done_taking m a n)
     (record { number = refusal (length m) a n; value = 0; cycles = 0 })
 
-unfoldable pub taken_signed : List ℕ → BitAddress → ℕ → SignedTaken
+unfoldable pub taken_signed : List ℕ → BitAddress → ℕ → Taken ℤ
 taken_signed m a n =
     cond (eqb (refusal (length m) a n) 0) (record { number = 0; value = signed n (field_at m a n); cycles = take_cycles a n })
     (record { number = refusal (length m) a n; value = pos 0; cycles = 0 })

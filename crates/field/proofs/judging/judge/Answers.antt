@@ -1,41 +1,19 @@
--- `field::judging::refusal_of` meets its contract: each test is the definition's.
-use borrow.Author.Rules.{rules}
+-- `field::judging::judge` meets its contract: each test is the definition's.
 use mathlib.Core.Path.{◌≡◌, sym, ◌∙◌}
 use mathlib.Core.Bool.{Bool, false}
 use native.Mathlib.Omega.{arith}
-use borrow.Author.Tests.{lt-ltb, le-ltb, le-leb, lt-leb}
+use borrow.Author.Tests.{le-ltb, le-leb, lt-leb}
 use Rattle.field_spec.proofs.Counted.{touched_is, last_is}
 use Rattle.field_spec.specs.Answers.{refusal}
 use Rattle.field_spec.proofs.Accepted.{sized}
-use Rattle.field.proofs.judging.refusal_of.Goals as goal
+use Rattle.field.proofs.judging.judge.Goals as goal
 
 -- A test that has come out false is false as the definition's.
 passed : {t d : Bool} → t ≡ d → t ≡ false → d ≡ false
 passed is came = sym is ∙ came
 
-pub returns-then-is_over_limit : goal.returns-then-is_over_limit
-unfolding refusal
-returns-then-is_over_limit c = rw (sym c.is_over_limit.ensures ∙ c.if-is_over_limit.true)
-
-pub returns-then-is_no_size : goal.returns-then-is_no_size
-unfolding refusal
-returns-then-is_no_size c =
-    rw (sym c.is_over_limit.ensures ∙ c.if-is_over_limit.false, sym c.is_no_size.ensures ∙ c.if-is_no_size.true)
-
 pub touched_by-count-requires : goal.touched_by-count-requires
 touched_by-count-requires c = sized _ (passed c.is_no_size.ensures c.if-is_no_size.false)
-
-pub returns-then-count-gt3 : goal.returns-then-count-gt3
-unfolding refusal
-returns-then-count-gt3 c =
-    rw (
-      passed c.is_over_limit.ensures c.if-is_over_limit.false,
-      passed c.is_no_size.ensures c.if-is_no_size.false,
-      lt-ltb _ _ (rw c.touched_by-count.ensures at c.if-count-gt3.true),
-    )
-
-pub overflow_add-last : goal.overflow_add-last
-overflow_add-last c = rw c.word_of.ensures (search rules)
 
 pub overflow_sub-last : goal.overflow_sub-last
 overflow_sub-last c =
