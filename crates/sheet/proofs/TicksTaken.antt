@@ -34,13 +34,15 @@ module _ {s : Machine} {n : ℕ} {o : TicksRead} {m ticks : List ℕ} (k : ReadT
       }
 
   -- Of ticks that are not refused, one or more, the first lies before the last or is it.
-  pub first_then_last : number ≡ 0 → 1 ≤ n → get_or ticks 0 0 ≤ get_or ticks (n - 1) 0
+  pub first_then_last : number ≡ 0 → 1 ≤ n → get_or ticks 0 0 ≤ get_or ticks (length ticks - 1) 0
   first_then_last h some =
-      none_before_first (λ j. get_or ticks j 0) (length ticks) (rises ticks (unrefused_rise o.hollow ticks (sym e ∙ h))) (n - 1)
-      (omega (arith, read_length k))
+      let long = read_length k in
+      none_before_first (λ j. get_or ticks j 0) (length ticks) (rises ticks (unrefused_rise o.hollow ticks (sym e ∙ h)))
+      (length ticks - 1) (omega arith)
 
   -- Of ticks that are not refused the rule and the strokes are shown, and the list takes their times.
-  pub ticks_taken : number ≡ 0 → (rule : ℕ) (l l' : List Float) → l' ≡ with_times (get_or ticks 0 0) (get_or ticks (n - 1) 0) n l →
+  pub ticks_taken : number ≡ 0 → (rule : ℕ) (l l' : List Float) →
+      l' ≡ with_times (get_or ticks 0 0) (get_or ticks (length ticks - 1) 0) n l →
       TookTicks s rule n l (record { number = 0; rule = rule; strokes = n; registers = o.registers }) m l'
   unfolding ticks_sheet ticks_list
   ticks_taken h rule l l' x =
@@ -49,5 +51,5 @@ module _ {s : Machine} {n : ℕ} {o : TicksRead} {m ticks : List ℕ} (k : ReadT
       record {
         outcome = rw (t, z, ap (λ (u : Machine). u.registers) k.ends_at);
         memory = memory_kept k;
-        list = rw t (rw k.words at x);
+        list = rw t (rw k.words at (rw (read_length k) at x));
       }

@@ -1,98 +1,116 @@
 // The refusals of a sheet, each by what it is judged by.
-ghost use Rattle.std.specs.Prelude.{◌≡◌, false, ◌≤◌};
+// A rule is a number: `strike_sheet` is given any, and refuses those that it doesn't know. Of memory and list their lengths alone are
+// judged, as `refusal_before` says.
+ghost use Rattle.std.specs.Prelude.{◌≡◌, false, ◌≤◌, IfOk};
 ghost use Rattle.sheet_spec.specs.Reading.{rising};
 ghost use Rattle.sheet_spec.specs.Sheet.{unknown_rule, out_of_range, strokes_of, refusal_before, count_refusal, ticks_refusal};
+ghost use Rattle.words.specs.Refusals.{number_returned};
 
 use control::steps_reading;
 use sheet_spec::TimeStruck;
-use words::{either, is_over_limit};
+use words::{Refusal, is_over_limit};
+
+// The strokes of a time, and the rule by which they were counted: no time that is in range has more than 32.
+#[derive(Clone, Copy, Debug, PartialEq, Eq)]
+pub(crate) struct Strokes {
+    pub(crate) rule: u32,
+    pub(crate) count: u16,
+    ghost few: { (1 ≤ count) × (count ≤ 32) },
+}
 
 // The rule is neither 1 nor 2.
+#[tactic(auto, unfolding(sheet_spec::specs::Sheet::unknown_rule))]
 fn is_unknown(rule: u32) -> bool
     ensures { result ≡ unknown_rule rule }
 {
-    !either(rule == 1, rule == 2)
+    !(rule == 1 || rule == 2)
 }
 
 // No watch strikes this time.
+#[tactic(auto, unfolding(sheet_spec::specs::Sheet::out_of_range))]
 fn is_out_of_range(t: TimeStruck) -> bool
     ensures { result ≡ out_of_range t }
 {
-    either(
-        either(t.hours == 0, 12 < t.hours),
-        either(3 < t.quarters, 14 < t.minutes),
-    )
+    t.hours == 0 || 12 < t.hours || 3 < t.quarters || 14 < t.minutes
 }
 
 // The strokes of a time that is in range, by a rule: from one to 32.
-pub(crate) fn count_strokes(rule: u32, t: TimeStruck) -> u16
+#[tactic(auto, using(crate::proofs::FewStrokes::small))]
+fn count_strokes(rule: u32, t: TimeStruck) -> u16
     requires { out_of_range t ≡ false }
     ensures { (result ≡ strokes_of rule t) × (1 ≤ result) × (result ≤ 32) }
 {
-    if rule == 2 {
-        return (t.hours + 2 * t.quarters + t.minutes) as u16;
+    match rule {
+        2 => (t.hours + 2 * t.quarters + t.minutes) as u16,
+        _ => (t.hours + t.quarters + t.minutes) as u16,
     }
-    (t.hours + t.quarters + t.minutes) as u16
 }
 
-// Number 1, 45, 40, 41 or 46, or 0 where none applies.
-pub(crate) fn number_before(words: usize, rule: u32, t: TimeStruck, room: usize, control: u16) -> u8
-    ensures { result ≡ refusal_before words rule t room control }
+// Refusal 1, 45, 40, 41 or 46; where none applies, the strokes, for which the list has room.
+#[tactic(auto, unfolding(sheet_spec::specs::Sheet::refusal_before))]
+pub(crate) fn judge_before(
+    words: usize,
+    rule: u32,
+    t: TimeStruck,
+    room: usize,
+    control: u16,
+) -> Result<Strokes, Refusal>
+    ensures number { number_returned result ≡ refusal_before words rule t room control }
+    ensures strokes { IfOk result (λ s. (s.rule ≡ rule) × (s.count ≡ strokes_of rule t) × (s.count ≤ room)) }
 {
     if is_over_limit(words) {
-        return 1;
+        return Err(Refusal::MemoryOverLimit);
     }
     if is_unknown(rule) {
-        return 45;
+        return Err(Refusal::UnknownRule);
     }
     if is_out_of_range(t) {
-        return 40;
+        return Err(Refusal::TimeOutOfRange);
     }
-    if room < count_strokes(rule, t) as usize {
-        return 41;
+    let strokes = Strokes {
+        rule,
+        count: count_strokes(rule, t),
+    };
+    if room < strokes.count as usize {
+        return Err(Refusal::ListTooShort);
     }
     if steps_reading(control) {
-        return 0;
+        return Ok(strokes);
     }
-    46
+    Err(Refusal::NoIncrement)
 }
 
-// Number 42 or 43, or 0, by what was said of the count word.
-pub(crate) fn number_of_count(strokes: u16, hollow: bool, word: u16) -> u8
-    ensures { result ≡ count_refusal strokes hollow word }
+// Refusal 42 or 43, or none, by what was said of the count word.
+#[tactic(auto, unfolding(sheet_spec::specs::Sheet::count_refusal))]
+pub(crate) fn judge_count(strokes: u16, hollow: bool, word: u16) -> Result<(), Refusal>
+    ensures { number_returned result ≡ count_refusal strokes hollow word }
 {
     if hollow {
-        return 42;
+        return Err(Refusal::HollowWord);
     }
     if word == strokes {
-        return 0;
+        return Ok(());
     }
-    43
+    Err(Refusal::WrongCount)
 }
 
 // Each tick lies after the one before it.
 fn are_rising(ticks: &[u16]) -> bool
     ensures { result ≡ rising ticks.now }
 {
-    let mut k: usize = 1;
-    while k < ticks.len() {
-        if ticks[k] <= ticks[k - 1] {
-            return false;
-        }
-        k += 1;
-    }
-    true
+    ticks.is_sorted_by(|tick, next| *tick < *next)
 }
 
-// Number 42 or 44, or 0, by what was said of the ticks.
-pub(crate) fn number_of_ticks(hollow: bool, ticks: &[u16]) -> u8
-    ensures { result ≡ ticks_refusal hollow ticks.now }
+// Refusal 42 or 44, or none, by what was said of the ticks.
+#[tactic(auto, unfolding(sheet_spec::specs::Sheet::ticks_refusal))]
+pub(crate) fn judge_ticks(hollow: bool, ticks: &[u16]) -> Result<(), Refusal>
+    ensures { number_returned result ≡ ticks_refusal hollow ticks.now }
 {
     if hollow {
-        return 42;
+        return Err(Refusal::HollowWord);
     }
     if are_rising(ticks) {
-        return 0;
+        return Ok(());
     }
-    44
+    Err(Refusal::TicksNotRising)
 }

@@ -10,8 +10,9 @@ mod timing;
 use registers::Registers;
 pub use sheets::strike_sheet;
 
-// What the reads of some ticks leave, besides the memory and the ticks themselves: whether any of them was hollow.
-#[derive(Clone, Copy)]
+// What the reads of some ticks leave, besides the memory and the ticks themselves: whether any of them was hollow. The registers have moved
+// whether one was or not, and all ticks are read before any is judged, so this is no Result.
+#[derive(Clone, Copy, Debug, PartialEq, Eq)]
 pub(crate) struct TicksRead {
     pub(crate) registers: Registers,
     pub(crate) hollow: bool,

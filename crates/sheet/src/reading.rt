@@ -1,4 +1,6 @@
 // The reader's accesses: the pointer loaded, and the ticks read.
+// Registers and memory go beside each other, as `host_access` and `strike_sheet` take them: a struct of both would be taken apart and put
+// together again at each access. Registers and lanes are numbers, as `Access` has them.
 ghost use Rattle.std.specs.Prelude.{◌≡◌, length};
 ghost use Rattle.port_spec.specs.declared.Access.TheVariants.{Write};
 ghost use Rattle.port_spec.specs.Sequences.{machine, after};
@@ -10,13 +12,13 @@ use control::fetches_by;
 use port::host_access;
 use port_spec::Access;
 use registers::{Registers, high_half_of, low_half_of};
-use words::{BitAddress, either};
+use words::BitAddress;
 
 // One half of the pointer, written on two lanes.
 fn write_half(r: Registers, memory: &mut [u16], register: u32, half: u16) -> Registers
     ensures { machine result memory.new ≡ after (machine r memory.old) (Write register 3 half) }
 {
-    let o = host_access(
+    host_access(
         r,
         memory,
         Access::Write {
@@ -24,8 +26,8 @@ fn write_half(r: Registers, memory: &mut [u16], register: u32, half: u16) -> Reg
             lanes: 3,
             word: half,
         },
-    );
-    o.registers
+    )
+    .registers
 }
 
 // The pointer loaded with an address: the half that fetches goes last.
@@ -49,8 +51,7 @@ pub(crate) fn read_ticks(r: Registers, memory: &mut [u16], ticks: &mut [u16]) ->
 {
     let mut q = r;
     let mut hollow = false;
-    let mut i: usize = 0;
-    while i < ticks.len() {
+    for tick in ticks.iter_mut() {
         let o = host_access(
             q,
             memory,
@@ -59,11 +60,9 @@ pub(crate) fn read_ticks(r: Registers, memory: &mut [u16], ticks: &mut [u16]) ->
                 lanes: 3,
             },
         );
-        let x = o.answer;
-        ticks[i] = x.word;
-        hollow = either(hollow, x.hollow);
+        *tick = o.answer.word;
+        hollow |= o.answer.hollow;
         q = o.registers;
-        i += 1;
     }
     TicksRead {
         registers: q,

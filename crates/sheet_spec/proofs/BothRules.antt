@@ -10,7 +10,7 @@ use lib.Ieee.{Float}
 use lib.ListN.{length}
 use borrow.Author.Tests.{eq-eqb, ne_eqb, lt-ltb, le-ltb}
 use Rattle.words.specs.declared.BitAddress.{BitAddress}
-use Rattle.words.proofs.Choices.{same_or_not}
+use Rattle.std.proofs.lemmas.Bool.{cases_eq}
 use Rattle.registers.specs.declared.Registers.{Registers}
 use Rattle.port_spec.specs.Sequences.{Machine}
 use Rattle.sheet_spec.specs.InPlainWords.{Begins}
@@ -70,7 +70,7 @@ module _ (w : Way) (s : Machine) (a : BitAddress) where
         let one = sheet_barred w s a 1 t room d in
         let two = sheet_barred w s a 2 t room (λ z. d (judged_alike room ∙ z)) in
         rw (one, two, sym (judged_alike room)) (refused_alike (number_before s 1 t room) d s.registers))
-        (same_or_not (number_before s 1 t room) 0)
+        (cases_eq (number_before s 1 t room) 0)
 
     -- For a time with quarters 0, a table passes under both rules or under neither.
     pub both_or_neither : (room : ℕ) → (sheet_of w s a 1 t room).number ≡ 0 ↔ (sheet_of w s a 2 t room).number ≡ 0

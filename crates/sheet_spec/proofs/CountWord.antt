@@ -6,7 +6,7 @@ use mathlib.Core.Bool.{Bool, true, false, or-false}
 use mathlib.Core.Logic.{⊎_elim, ◌≢◌}
 use borrow.Author.Tests.{ne_eqb}
 use Rattle.words.specs.declared.BitAddress.{BitAddress}
-use Rattle.words.proofs.Choices.{same_or_not}
+use Rattle.std.proofs.lemmas.Bool.{cases_eq}
 use Rattle.port_spec.specs.Sequences.{Machine, answer_of, answers}
 use Rattle.port_spec.specs.Table.{loaded, reading}
 use Rattle.port_spec.specs.declared.Access.TheVariants.{Read}
@@ -21,7 +21,7 @@ one_count false word m n z d =
     ⊎_elim
     (λ e. rw (ne_eqb word n (λ x. d (sym e ∙ x))))
     (λ e. let x : ◌≡◌ {A = ℕ} 43 0 = rw (ne_eqb word m e) at z in absurd (omega (arith, x)))
-    (same_or_not word m)
+    (cases_eq word m)
 
 module _ (s : Machine) (a : BitAddress) where
   -- the answer to the read of the count word
@@ -42,4 +42,4 @@ module _ (s : Machine) (a : BitAddress) where
   pub right_count : (n : ℕ) → read_number whole s a n ≡ 0 → count_number whole s a n ≡ 0
   unfolding read_number
   right_count n z =
-      ⊎_elim (λ e. e) (λ d. rw (ne_eqb (count_number whole s a n) 0 d) at z) (same_or_not (count_number whole s a n) 0)
+      ⊎_elim (λ e. e) (λ d. rw (ne_eqb (count_number whole s a n) 0 d) at z) (cases_eq (count_number whole s a n) 0)

@@ -13,7 +13,7 @@ use Rattle.words.specs.Addresses.{word_at, step}
 use Rattle.words.specs.Memory.{fetch_at}
 use Rattle.words.specs.declared.BitAddress.{BitAddress}
 use Rattle.words.proofs.Addresses.{step_next}
-use Rattle.words.proofs.Choices.{less_or_not}
+use Rattle.std.proofs.lemmas.Bool.{cases_lt}
 use Rattle.control.specs.Control.{incr}
 use Rattle.port_spec.specs.Sequences.{Machine, words_in}
 use Rattle.port_spec.specs.Table.{Memory, hand, handed, table, Lies}
@@ -58,7 +58,7 @@ module _ (m : List ℕ) (k : length m ≤ 32768) where
       (λ x. let next = next_word b x in
       rw (held_first b x) (some_hollow n (step b) (rw next (omega arith)) (rw next (omega arith))))
       (λ x. rw (hollow_first b x))
-      (less_or_not (word_at b).0 (length m))
+      (cases_lt (word_at b).0 (length m))
 
   -- The answers that hand memory out from b on hand out the words of the table there, if all these lie in memory.
   pub words_handed : (n : ℕ) (b : BitAddress) → Lies m b n → words_in (handed m b n) ≡ table m b n

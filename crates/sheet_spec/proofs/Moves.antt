@@ -11,7 +11,7 @@ use lib.ListN.{length, take}
 use borrow.Author.Tests.{eq-eqb, ne_eqb}
 use Rattle.words.specs.Addresses.{word_at}
 use Rattle.words.specs.declared.BitAddress.{BitAddress}
-use Rattle.words.proofs.Choices.{either_way, same_or_not}
+use Rattle.std.proofs.lemmas.Bool.{cases_Bool, cases_eq}
 use Rattle.registers.specs.declared.Registers.{Registers}
 use Rattle.port_spec.specs.Cycle.{standing}
 use Rattle.port_spec.specs.Sequences.{Machine, answers, ends}
@@ -40,12 +40,12 @@ Late v = (v ≡ 0) ⊎ ((42 ≤ v) × (v ≤ 44))
 count_late : (n : ℕ) (hollow : Bool) (word : ℕ) → Late (count_refusal n hollow word)
 unfolding count_refusal
 count_late n true word = inr (omega arith, omega arith)
-count_late n false word = ⊎_elim (λ e. inl (rw e)) (λ e. inr (rw e (omega arith, omega arith))) (either_way (eqb word n))
+count_late n false word = ⊎_elim (λ e. inl (rw e)) (λ e. inr (rw e (omega arith, omega arith))) (cases_Bool (eqb word n))
 
 ticks_late : (hollow : Bool) (ticks : List ℕ) → Late (ticks_refusal hollow ticks)
 unfolding ticks_refusal
 ticks_late true ticks = inr (omega arith, omega arith)
-ticks_late false ticks = ⊎_elim (λ e. inl (rw e)) (λ e. inr (rw e (omega arith, omega arith))) (either_way (rising ticks))
+ticks_late false ticks = ⊎_elim (λ e. inl (rw e)) (λ e. inr (rw e (omega arith, omega arith))) (cases_Bool (rising ticks))
 
 late : (w : Way) (s : Machine) (a : BitAddress) (n : ℕ) → Late (read_number w s a n)
 unfolding read_number
@@ -53,7 +53,7 @@ late w s a n =
     ⊎_elim
     (λ e. rw (eq-eqb (count_number w s a n) 0 e) (ticks_late _ _))
     (λ e. rw (ne_eqb (count_number w s a n) 0 e) (count_late _ _ _))
-    (same_or_not (count_number w s a n) 0)
+    (cases_eq (count_number w s a n) 0)
 
 -- Refused with 1, 45, 40, 41 or 46, that is with another number than 42 to 44, a sheet leaves the registers as they stood.
 pub untouched : (w : Way) (s : Machine) (a : BitAddress) (rule : ℕ) (t : TimeStruck) (room : ℕ) →
@@ -70,12 +70,12 @@ untouched w s a rule t room d out =
     (λ r. ⊎_elim (λ x. omega (arith, b, r.0)) (λ x. omega (arith, b, r.1)) out)
     (late w s a (strokes_of rule t))))
     (λ n. ap (λ (o : Sheet). o.registers) (sheet_barred w s a rule t room n))
-    (same_or_not (number_before s rule t room) 0)
+    (cases_eq (number_before s rule t room) 0)
 
 -- ---- the accesses, and what is judged
 
 no_more : (s : Machine) (a : BitAddress) (n : ℕ) → words_read whole s a n ≤ suc n
-no_more s a n = ⊎_elim (λ e. rw e (omega arith)) (λ e. rw e (omega arith)) (either_way (eqb (count_number whole s a n) 0))
+no_more s a n = ⊎_elim (λ e. rw e (omega arith)) (λ e. rw e (omega arith)) (cases_Bool (eqb (count_number whole s a n) 0))
 
 -- What is judged is what the accesses of a sheet answer: after the two that load the pointer, one answer for each word read.
 pub answers_judged : (s : Machine) (a : BitAddress) (n : ℕ) →

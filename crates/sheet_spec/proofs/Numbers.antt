@@ -11,7 +11,7 @@ use lib.ListN.{length, drop}
 use borrow.Author.Tests.{lt-ltb, le-ltb}
 use Rattle.words.specs.Addresses.{word_at}
 use Rattle.words.specs.declared.BitAddress.{BitAddress}
-use Rattle.words.proofs.Choices.{either_way, less_or_not, same_or_not}
+use Rattle.std.proofs.lemmas.Bool.{cases_Bool, cases_eq, cases_lt}
 use Rattle.control.specs.Control.{incr}
 use Rattle.port_spec.specs.Sequences.{Machine}
 use Rattle.port_spec.specs.Table.{Memory, Lies}
@@ -53,11 +53,11 @@ module _ (s : Machine) (k : Memory s.memory) (i : incr s.registers.control ≡ t
 
   -- The ticks of a table that lies in memory are found to rise if each lies after the one before it.
   pub found_rising : Rises s.memory a n → rising ticks ≡ true
-  found_rising r = ⊎_elim (λ e. e) (λ e. absurd (not_both r (they_fall e))) (either_way (rising ticks))
+  found_rising r = ⊎_elim (λ e. e) (λ e. absurd (not_both r (they_fall e))) (cases_Bool (rising ticks))
 
   -- The ticks of a table that lies in memory are found not to rise if one does not lie after the one before it.
   pub found_falling : Falls s.memory a n → rising ticks ≡ false
-  found_falling f = ⊎_elim (λ e. absurd (not_both (they_rise e) f)) (λ e. e) (either_way (rising ticks))
+  found_falling f = ⊎_elim (λ e. absurd (not_both (they_rise e) f)) (λ e. e) (cases_Bool (rising ticks))
 
 -- ---- any sheet
 module _ (s : Machine) (a : BitAddress) (p : PassedIn s a) (rule : ℕ) (t : TimeStruck) (room : ℕ) where
@@ -133,41 +133,41 @@ module _ (s : Machine) (a : BitAddress) (p : PassedIn s a) (rule : ℕ) (t : Tim
       ⊎_elim
       (λ e. (0, passes b c (they_rise s (good_memory b) b.steps a p.address n c.lies e)))
       (λ e. (44, not_rising b c (they_fall s (good_memory b) b.steps a p.address n c.lies e)))
-      (either_way (rising (ticks_heard whole s a n)))
+      (cases_Bool (rising (ticks_heard whole s a n)))
 
   with_count : (b : Begins s rule t room) → (word_at a).0 < length s.memory → count_word s.memory a ≡ n → Some
   with_count b h e =
       ⊎_elim
       (λ l. (42, tick_missed b h e l))
       (λ l. with_table b (record { lies = l; count = e }))
-      (less_or_not (length s.memory) ((word_at a).0 + suc n))
+      (cases_lt (length s.memory) ((word_at a).0 + suc n))
 
   with_port : Begins s rule t room → Some
   with_port b =
       ⊎_elim
-      (λ h. ⊎_elim (with_count b h) (λ d. (43, count_wrong b h d)) (same_or_not (count_word s.memory a) n))
+      (λ h. ⊎_elim (with_count b h) (λ d. (43, count_wrong b h d)) (cases_eq (count_word s.memory a) n))
       (λ h. (42, count_missed b h))
-      (less_or_not (word_at a).0 (length s.memory))
+      (cases_lt (word_at a).0 (length s.memory))
 
   with_time : length s.memory ≤ 32768 → KnownRule rule → InRange t → Some
   with_time h u r =
       ⊎_elim
       (λ f. (41, list_short h u r f))
       (λ f. ⊎_elim (λ i. with_port (record { size = h; known = u; time = r; fits = f; steps = i })) (λ i. (46, not_stepping h u r f i))
-      (either_way (incr s.registers.control)))
-      (less_or_not room n)
+      (cases_Bool (incr s.registers.control)))
+      (cases_lt room n)
 
   with_rule : length s.memory ≤ 32768 → KnownRule rule → Some
   with_rule h u =
-      ⊎_elim (λ o. (40, no_such_time h u (refused_time t o))) (λ o. with_time h u (accepted_time t o)) (either_way (out_of_range t))
+      ⊎_elim (λ o. (40, no_such_time h u (refused_time t o))) (λ o. with_time h u (accepted_time t o)) (cases_Bool (out_of_range t))
 
   some : Some
   some =
       ⊎_elim
       (λ h. (1, too_long h))
       (λ h. ⊎_elim (λ u. (45, no_such_rule h (refused_rule rule u))) (λ u. with_rule h (accepted_rule rule u))
-      (either_way (unknown_rule rule)))
-      (less_or_not 32768 (length s.memory))
+      (cases_Bool (unknown_rule rule)))
+      (cases_lt 32768 (length s.memory))
 
   -- The number of a sheet is v exactly if v's row of the table of refusals holds, or for 0 none of them: the rows go by the memory, the
   -- rule, the time, the list, INCR and the table as it lies in memory (`Verdict`).

@@ -6,7 +6,7 @@ use mathlib.Core.Bool.{Bool, true, false, ◌||◌}
 use mathlib.Core.Logic.{◌⊎◌, inl, inr, ⊎_elim}
 use lib.Dec.{eqb, ltb}
 use borrow.Author.Tests.{eqb-true, eqb-false, ltb-true, ltb-false, ne_eqb, le-ltb}
-use Rattle.words.proofs.Choices.{either_way, both_false}
+use Rattle.std.proofs.lemmas.Bool.{cases_Bool, or_parts}
 use Rattle.sheet_spec.specs.InPlainWords.{time, InRange, OffRange}
 use Rattle.sheet_spec.specs.Sheet.{out_of_range}
 use Rattle.sheet_spec.specs.declared.TimeStruck.{TimeStruck}
@@ -20,9 +20,9 @@ module _ (t : TimeStruck) where
   pub accepted_time : out_of_range t ≡ false → InRange t
   unfolding out_of_range
   accepted_time e =
-      let p = both_false (eqb t.hours 0 || ltb 12 t.hours) (ltb 3 t.quarters || ltb 14 t.minutes) e in
-      let h = both_false (eqb t.hours 0) (ltb 12 t.hours) p.0 in
-      let q = both_false (ltb 3 t.quarters) (ltb 14 t.minutes) p.1 in
+      let p = or_parts (eqb t.hours 0 || ltb 12 t.hours) (ltb 3 t.quarters || ltb 14 t.minutes) e in
+      let h = or_parts (eqb t.hours 0) (ltb 12 t.hours) p.0 in
+      let q = or_parts (ltb 3 t.quarters) (ltb 14 t.minutes) p.1 in
       let some = eqb-false t.hours 0 h.0 in
       record {
         an_hour = omega (arith, some);
@@ -63,7 +63,7 @@ module _ (t : TimeStruck) where
 
   -- A time with hours 0 or over 12, quarters over 3 or minutes over 14 is refused.
   pub time_refused : OffRange t → out_of_range t ≡ true
-  time_refused o = ⊎_elim (λ e. e) (λ e. absurd (never_both (accepted_time e) o)) (either_way (out_of_range t))
+  time_refused o = ⊎_elim (λ e. e) (λ e. absurd (never_both (accepted_time e) o)) (cases_Bool (out_of_range t))
 
 -- ---- the same in the paper's numbers
 

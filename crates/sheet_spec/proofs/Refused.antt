@@ -7,7 +7,7 @@ use lib.Ieee.{Float}
 use lib.ListN.{length, get_or}
 use borrow.Author.Tests.{eq-eqb, ne_eqb}
 use Rattle.words.specs.declared.BitAddress.{BitAddress}
-use Rattle.words.proofs.Choices.{same_or_not}
+use Rattle.std.proofs.lemmas.Bool.{cases_eq}
 use Rattle.port_spec.specs.Sequences.{Machine}
 use Rattle.tempo_spec.specs.Tempo.{with_times}
 use Rattle.sheet_spec.specs.Reading.{Way}
@@ -52,7 +52,7 @@ module _ (w : Way) (s : Machine) (a : BitAddress) (rule : ℕ) (t : TimeStruck) 
         strokes = ap (λ (o : Sheet). o.strokes) b;
         list = list_barred w s a rule t l n;
       })
-      (same_or_not (number_before s rule t (length l)) 0)
+      (cases_eq (number_before s rule t (length l)) 0)
 
   -- what a sheet that passes shows, and the list that it leaves
   pub record Fills : Type 0 where

@@ -8,7 +8,7 @@ use mathlib.Core.Logic.{⊎_elim}
 use lib.Dec.{ltb}
 use lib.ListN.{length, get_or}
 use borrow.Author.Tests.{ltb-true, ltb-false}
-use Rattle.words.proofs.Choices.{either_way, both_true}
+use Rattle.std.proofs.lemmas.Bool.{and_parts, cases_Bool}
 use Rattle.sheet_spec.specs.Reading.{rising}
 
 -- Of ticks that are found to rise, each lies after the one before it.
@@ -16,8 +16,8 @@ pub rises : (ts : List ℕ) → rising ts ≡ true → (k : ℕ) → suc k < len
 unfolding rising
 rises [] e k h = absurd (omega arith)
 rises (t ∷ []) e k h = absurd (omega arith)
-rises (t ∷ u ∷ rest) e zero h = ltb-true t u (both_true (ltb t u) (rising (u ∷ rest)) e).0
-rises (t ∷ u ∷ rest) e (suc k) h = rises (u ∷ rest) (both_true (ltb t u) (rising (u ∷ rest)) e).1 k (omega arith)
+rises (t ∷ u ∷ rest) e zero h = ltb-true t u (and_parts (ltb t u) (rising (u ∷ rest)) e).0
+rises (t ∷ u ∷ rest) e (suc k) h = rises (u ∷ rest) (and_parts (ltb t u) (rising (u ∷ rest)) e).1 k (omega arith)
 
 -- Of ticks that are found not to rise, some tick does not lie after the one before it.
 pub falls : (ts : List ℕ) → rising ts ≡ false → (k : ℕ) × (suc k < length ts) × (get_or ts (suc k) 0 ≤ get_or ts k 0)
@@ -28,7 +28,7 @@ falls (t ∷ u ∷ rest) e =
     ⊎_elim
     (λ x. let r = falls (u ∷ rest) (rw x at e) in (suc r.0, omega (arith, r.1), r.2))
     (λ x. (0, omega arith, ltb-false t u x))
-    (either_way (ltb t u))
+    (cases_Bool (ltb t u))
 
 -- What rises from each number to the next lies nowhere below its first.
 pub none_before_first : (f : ℕ → ℕ) (n : ℕ) → ((k : ℕ) → suc k < n → f k < f (suc k)) → (k : ℕ) → k < n → f 0 ≤ f k

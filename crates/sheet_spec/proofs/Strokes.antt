@@ -5,7 +5,7 @@ use native.Mathlib.Omega.{arith}
 use mathlib.Core.Path.{◌≡◌, refl}
 use mathlib.Core.Logic.{⊎_elim}
 use lib.Dec.{eqb}
-use Rattle.words.proofs.Choices.{either_way}
+use Rattle.std.proofs.lemmas.Bool.{cases_Bool}
 use Rattle.sheet_spec.specs.InPlainWords.{time, InRange}
 use Rattle.sheet_spec.specs.Sheet.{strokes_of}
 use Rattle.sheet_spec.specs.declared.TimeStruck.{TimeStruck}
@@ -24,7 +24,7 @@ by_rule_two t = refl
 pub of_both : (P : ℕ → Type 0) (rule : ℕ) (t : TimeStruck) →
     P (t.hours + t.quarters + t.minutes) → P (t.hours + 2 * t.quarters + t.minutes) → P (strokes_of rule t)
 unfolding strokes_of
-of_both P rule t one two = ⊎_elim (λ e. rw e two) (λ e. rw e one) (either_way (eqb rule 2))
+of_both P rule t one two = ⊎_elim (λ e. rw e two) (λ e. rw e one) (cases_Bool (eqb rule 2))
 
 -- ---- what each hour, quarter and minute adds
 
@@ -41,8 +41,8 @@ pub one_each : (rule h q m : ℕ) → OneEach rule h q m
 unfolding strokes_of
 one_each rule h q m =
     record {
-      hour = ⊎_elim (λ e. rw e (omega arith)) (λ e. rw e (omega arith)) (either_way (eqb rule 2));
-      minute = ⊎_elim (λ e. rw e (omega arith)) (λ e. rw e (omega arith)) (either_way (eqb rule 2));
+      hour = ⊎_elim (λ e. rw e (omega arith)) (λ e. rw e (omega arith)) (cases_Bool (eqb rule 2));
+      minute = ⊎_elim (λ e. rw e (omega arith)) (λ e. rw e (omega arith)) (cases_Bool (eqb rule 2));
       nothing = of_both (λ n. n ≡ 0) rule (time 0 0 0) refl refl;
       quarter_by_one = omega arith;
       quarter_by_two = omega arith;

@@ -7,7 +7,7 @@ use lib.Ieee.{Float}
 use lib.ListN.{length}
 use borrow.Author.Tests.{eq-eqb, ne_eqb}
 use Rattle.words.specs.declared.BitAddress.{BitAddress}
-use Rattle.words.proofs.Choices.{same_or_not}
+use Rattle.std.proofs.lemmas.Bool.{cases_eq}
 use Rattle.port_spec.specs.Sequences.{Machine}
 use Rattle.sheet_spec.specs.InPlainWords.{Begins}
 use Rattle.sheet_spec.specs.Reading.{Way}
@@ -48,7 +48,7 @@ module _ (w : Way) (s : Machine) (a : BitAddress) (rule : ℕ) (t : TimeStruck) 
       ⊎_elim
       (λ e. e)
       (λ d. absurd (d (sym (ap (λ (o : Sheet). o.number) (sheet_barred room d)) ∙ z)))
-      (same_or_not (number_before s rule t room) 0)
+      (cases_eq (number_before s rule t room) 0)
 
   -- To a sheet that passes none of the early refusals applies: its memory is not too long, its rule is 1 or 2, its time in range, its list
   -- long enough for its strokes, and INCR set.

@@ -6,7 +6,7 @@
 use registers::Registers;
 
 // The time that a watch strikes: hours 1 to 12, quarters 0 to 3, minutes 0 to 14. Any other is refused.
-#[derive(Clone, Copy)]
+#[derive(Clone, Copy, Debug, PartialEq, Eq)]
 pub struct TimeStruck {
     pub hours: u32,
     pub quarters: u32,
@@ -15,7 +15,8 @@ pub struct TimeStruck {
 
 // What a sheet leaves, besides the list of times. `rule` is the rule by which its strokes were counted, 1 or 2; `strokes` counts the
 // places of the list that took a time. A refused sheet has 0 for both.
-#[derive(Clone, Copy)]
+// (`number` and `rule` stay numbers: `numbered` speaks of the one, and `strike_sheet` is given any rule and refuses by number.)
+#[derive(Clone, Copy, Debug, PartialEq, Eq)]
 pub struct Sheet {
     pub number: u8,
     pub rule: u32,

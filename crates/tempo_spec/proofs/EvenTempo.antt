@@ -11,7 +11,7 @@ use lib.Dec.{T}
 use lib.Ieee.{Float, nan, inf, fin, binary64, le, of_int, is_nan}
 use lib.Ieee.Order.{round_mono}
 use borrow.Author.Tests.{lt-ltb, le-ltb}
-use Rattle.words.proofs.Choices.{less_or_not}
+use Rattle.std.proofs.lemmas.Bool.{cases_lt}
 use Rattle.tempo_spec.specs.Tempo.{double, even_time}
 use Rattle.tempo_spec.proofs.WholeNumbers.{sum_exact}
 use Rattle.tempo_spec.proofs.Quotients.{quotient_even, even_within, sum_never_falls}
@@ -63,7 +63,7 @@ module _ (first last strokes : ℕ) (order : first ≤ last) (tick : last < 6553
       ⊎_elim
       (λ two. on_a_tick 0 0 two (omega arith) (omega arith) ∙ ap double (add-zero first))
       (single first last strokes 0)
-      (less_or_not 1 strokes)
+      (cases_lt 1 strokes)
 
   among_more : (j k : ℕ) → 1 < strokes → j ≤ k → k < strokes → T (le (even_time first last strokes j) (even_time first last strokes k))
   unfolding even_time
@@ -77,7 +77,7 @@ module _ (first last strokes : ℕ) (order : first ≤ last) (tick : last < 6553
       ⊎_elim
       (λ two. among_more j k two earlier inside)
       (λ one. rw (single first last strokes j one, single first last strokes k one) (double_same first))
-      (less_or_not 1 strokes)
+      (cases_lt 1 strokes)
 
   -- No time lies before the first tick.
   pub not_before : (k : ℕ) → k < strokes → T (le (double first) (even_time first last strokes k))
@@ -95,7 +95,7 @@ module _ (first last strokes : ℕ) (order : first ≤ last) (tick : last < 6553
         ⊎_elim
         (λ two. on_a_tick (strokes - 1) (last - first) two (omega arith) refl ∙ ap double (add-sub_of_le order))
         (λ one. single first last strokes (strokes - 1) one ∙ ap double (own one))
-        (less_or_not 1 strokes)
+        (cases_lt 1 strokes)
 
     -- No time lies after the last tick.
     pub not_after : (k : ℕ) → k < strokes → T (le (even_time first last strokes k) (double last))

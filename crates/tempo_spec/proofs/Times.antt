@@ -8,7 +8,7 @@ use mathlib.Core.List.{List, [], ◌∷◌, ◌++◌}
 use lib.ListN.{length, drop, set, get_or, length-append, length-drop}
 use lib.Seq.{drop-cons, set_at, append_snoc, get_or_at, get_or-take, get_or-drop, take_at, drop_at}
 use lib.Ieee.{Float, nan}
-use Rattle.words.proofs.Choices.{less_or_not}
+use Rattle.std.proofs.lemmas.Bool.{cases_lt}
 use Rattle.tempo_spec.specs.Tempo.{even_time, even_times, with_times}
 
 module _ (first last strokes : ℕ) where
@@ -38,7 +38,7 @@ module _ (first last strokes : ℕ) where
       let here : n ≡ k = omega arith in
       subst (λ (i : ℕ). get_or (times ++ (newest ∷ [])) i d ≡ even_time first last strokes i) here
       (get_or_at times newest [] d n (times_length n)))
-      (less_or_not k n)
+      (cases_lt k n)
 
   -- ---- a list with times laid into its first places
 

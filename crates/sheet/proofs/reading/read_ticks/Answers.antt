@@ -25,16 +25,16 @@ begun r m ticks = record { most = omega arith; room = refl; read = record { ends
 
 module _ {s : Machine} {ticks₀ m ticks : List ℕ} {q : Registers} {h : Bool} {i : ℕ} (k : Reading s ticks₀ m ticks q h i) where
   -- one read more
-  turned : {o : Outcome} {m' : List ℕ} {h' : Bool} → i < length ticks₀ → Accessed q m (Read 2 3) o m' → h' ≡ (h || o.answer.hollow) →
-      Reading s ticks₀ m' (set ticks i o.answer.word) o.registers h' (i + 1)
-  turned {o} more e mark =
+  turned : {o : Outcome} {m' : List ℕ} → i < length ticks₀ → Accessed q m (Read 2 3) o m' →
+      Reading s ticks₀ m' (set ticks i o.answer.word) o.registers (h || o.answer.hollow) (i + 1)
+  turned {o} more e =
       let w = o.answer.word in
       let there : i < length ticks = omega (arith, k.room) in
       let places : take (i + 1) (set ticks i w) ≡ take i ticks ++ (w ∷ []) = rw add-one (take-suc-set ticks i w there) in
       record {
         most = omega arith;
         room = length-set ticks i w ∙ k.room;
-        read = rw (places, mark) (read_more k.read e);
+        read = rw places (read_more k.read e);
       }
 
   -- all of them
@@ -44,18 +44,18 @@ module _ {s : Machine} {ticks₀ m ticks : List ℕ} {q : Registers} {h : Bool} 
       let places : take i ticks ≡ ticks = take_all i ticks (omega (arith, k.room)) in
       rw e at (rw places at k.read)
 
-pub loop-i-init : goal.loop-i-init
-loop-i-init c = begun _ _ _
+pub loop-tick-init : goal.loop-tick-init
+loop-tick-init c = begun _ _ _
 
-pub loop-i-preserved : goal.loop-i-preserved
-loop-i-preserved c =
-    turned c.loop-i.invariant (omega arith) c.host_access-o.ensures c.either-hollow.ensures
+pub loop-tick-preserved : goal.loop-tick-preserved
+loop-tick-preserved c =
+    turned c.loop-tick.invariant c.loop-tick-test.true c.host_access-o.ensures
 
 pub shape_of-memory : goal.shape_of-memory
-shape_of-memory c = ap length (memory_kept c.loop-i.invariant.read)
+shape_of-memory c = ap length (memory_kept c.loop-tick.invariant.read)
 
 pub shape_of-ticks : goal.shape_of-ticks
-shape_of-ticks c = c.loop-i.invariant.room
+shape_of-ticks c = c.loop-tick.invariant.room
 
 pub returns : goal.returns
-returns c = ended c.loop-i.invariant (omega arith)
+returns c = ended c.loop-tick.invariant (omega arith)

@@ -1,5 +1,5 @@
 -- `sheet::reading::read_ticks` meets its contract: after i turns machine, mark and the first i places are those of i reads.
-use Prim.Native.Nat.{ℕ, ◌-◌, ◌≤◌}
+use Prim.Native.Nat.{ℕ, ◌≤◌}
 use mathlib.Core.Path.{◌≡◌}
 use mathlib.Core.Bool.{Bool}
 use mathlib.Core.List.{List}
@@ -14,8 +14,5 @@ pub record Reading (s : Machine) (ticks₀ m ticks : List ℕ) (q : Registers) (
   pub room : length ticks ≡ length ticks₀
   pub read : ReadTicks s i (record { registers = q; hollow = hollow }) m (take i ticks)
 
-abbrev pub invariant-loop-i : goal.invariant-loop-i
-invariant-loop-i l = Reading (machine l.fn.r l.fn.memory) l.fn.ticks l.memory l.ticks l.q l.hollow l.i
-
-abbrev pub decreases-loop-i : goal.decreases-loop-i
-decreases-loop-i l = length l.fn.ticks - l.i
+abbrev pub invariant-loop-tick : goal.invariant-loop-tick
+invariant-loop-tick l = Reading (machine l.fn.r l.fn.memory) l.fn.ticks l.memory l.ticks l.q l.hollow l.tick-index

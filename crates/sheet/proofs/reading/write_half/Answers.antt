@@ -3,4 +3,4 @@ use Rattle.port_spec.proofs.OneAccess.{leaves}
 use Rattle.sheet.proofs.reading.write_half.Goals as goal
 
 pub returns : goal.returns
-returns c = leaves c.host_access-o.ensures
+returns c = leaves c.host_access.ensures
