@@ -6,6 +6,7 @@ ghost use Rattle.salvage_spec.specs.Salvage.{SalvagedTranscript};
 
 use salvage_spec::Salvaged;
 use transcript_scan::scan;
+use words::Refusal;
 
 // Writes the longest run of whole good records from the start of a damaged transcript into the first places of the bytes that are lent.
 // The places behind it stay. Nothing is written before the whole run is known to fit.
@@ -16,7 +17,7 @@ pub fn salvage_transcript(damaged: &[u8], sound: &mut [u8]) -> Salvaged
     let n = found.place;
     if sound.len() < n {
         return Salvaged {
-            number: 24,
+            number: u8::from(Refusal::ListTooSmall),
             kept: 0,
             left: 0,
             stop: 0,

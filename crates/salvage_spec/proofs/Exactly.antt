@@ -7,7 +7,7 @@ use mathlib.Core.Logic.{⊎_elim, ◌↔◌}
 use lib.Dec.{ltb}
 use lib.ListN.{length}
 use borrow.Author.Tests.{lt-ltb, le-ltb}
-use Rattle.words.proofs.Choices.{less_or_not}
+use Rattle.std.proofs.lemmas.Bool.{cases_lt}
 use Rattle.transcript_spec.specs.declared.Entry.{Entry}
 use Rattle.salvage_spec.specs.InPlainWords.{Divides, SalvagedAs}
 use Rattle.salvage_spec.specs.InPlainWords as plain
@@ -34,7 +34,7 @@ module _ (s : List ℕ) (room : ℕ) where
       ⊎_elim
       (λ h. (_, plain.SalvagedAs.too_small (divides s) h))
       (λ h. (_, plain.SalvagedAs.done (divides s) h))
-      (less_or_not room (length (run s)))
+      (cases_lt room (length (run s)))
 
   -- The answer of salvage is o exactly if o's row of `SalvagedAs` holds: the string is good records and a rest, which is nothing or begins
   -- with a bad record, and the records fit, or they do not (24).

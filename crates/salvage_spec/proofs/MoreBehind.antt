@@ -11,7 +11,7 @@ use lib.ListN.{length, take, length-append, length-take}
 use lib.Seq.{take_all, take-append-le, take-take}
 use borrow.Author.Tests.{ne_eqb, eqb-true}
 use Rattle.words.specs.Bytes.{AreBytes}
-use Rattle.words.proofs.Choices.{less_or_not}
+use Rattle.std.proofs.lemmas.Bool.{cases_lt}
 use Rattle.transcript_spec.specs.InPlainWords.{nothing, BadRecord, head_cut, head_bad, word_cut, word_bad}
 use Rattle.transcript_spec.specs.Reading.{entries_read, refusal_read}
 use Rattle.transcript_spec.proofs.LongRecords.{first_four}
@@ -78,7 +78,7 @@ cut_alike u v a b =
     ⊎_elim
     (λ h. subst (λ (t : List ℕ). Alike u t v) (sym (take_all 4 u (omega arith))) (same_alike u v))
     (λ h. let x = first_four u v a b h in long_alike u v h x.0 x.1 x.2)
-    (less_or_not (length u) 4)
+    (cases_lt (length u) 4)
 
 -- a record that may go on is cut off
 cut_only : (u : List ℕ) (k : ℕ) → BadRecord u k → may_go_on k ≡ true → k ≡ 20

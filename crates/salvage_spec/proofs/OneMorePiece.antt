@@ -9,7 +9,7 @@ use lib.Dec.{eqb}
 use lib.ListN.{length, take, length-append, length-take}
 use borrow.Author.Tests.{eqb-false}
 use Rattle.words.specs.Bytes.{AreBytes}
-use Rattle.words.proofs.Choices.{either_way, both_false}
+use Rattle.std.proofs.lemmas.Bool.{cases_Bool, or_parts}
 use Rattle.transcript_spec.specs.Reading.{entries_read, refusal_read}
 use Rattle.transcript_spec.specs.declared.Entry.{Entry}
 use Rattle.transcript_spec.proofs.Bytes.{bytes_second}
@@ -100,7 +100,7 @@ module _ (s v : List ℕ) (p : Progress) (k : Stands s p) where
   module _ (t : may_go_on p.stop ≡ false) where
     closed : (refusal_read s ≢ 0) × (refusal_read s ≢ 20)
     closed =
-        let x = both_false (eqb (refusal_read s) 0) (eqb (refusal_read s) 20) (ap may_go_on (sym k.stop) ∙ t) in
+        let x = or_parts (eqb (refusal_read s) 0) (eqb (refusal_read s) 20) (ap may_go_on (sym k.stop) ∙ t) in
         (eqb-false (refusal_read s) 0 x.0, eqb-false (refusal_read s) 20 x.1)
 
     all_behind : Found (s ++ v) (entries_read s) (run s) (rest s ++ v) (refusal_read s)
@@ -137,4 +137,4 @@ module _ (s v : List ℕ) (p : Progress) (k : Stands s p) where
 
   -- One piece more takes the progress of a string to that of the longer string, and what is written of it is what the run has more.
   pub one_more : AreBytes s → OneMore s v p
-  one_more a = ⊎_elim (goes_on a) ended (either_way (may_go_on p.stop))
+  one_more a = ⊎_elim (goes_on a) ended (cases_Bool (may_go_on p.stop))

@@ -5,6 +5,7 @@
 #![tactic(auto)]
 
 // What salvage answers. Under number 24 the other parts are 0.
+// (`number` and `stop` stay numbers, 0 for none: the law `salvage_exactly` speaks of both, and the report says `stop`.)
 #[derive(Clone, Copy)]
 pub struct Salvaged {
     // 0, or 24 where the bytes that are lent are too few.

@@ -7,7 +7,7 @@ use mathlib.Core.Bool.{cond}
 use mathlib.Core.List.{List, [], ◌++◌, append-nil, append_assoc}
 use mathlib.Core.Logic.{◌↔◌, ◌≢◌, inl, inr, ⊎_elim}
 use lib.ListN.{length, length-append}
-use Rattle.words.proofs.Choices.{less_or_not, same_or_not}
+use Rattle.std.proofs.lemmas.Bool.{cases_eq, cases_lt}
 use Rattle.transcript_spec.specs.InPlainWords.{nothing, BadRecord}
 use Rattle.transcript_spec.specs.Lists.{Lists, size}
 use Rattle.transcript_spec.specs.Reading.{Reading, start, feeds, cut_off, ended}
@@ -109,7 +109,7 @@ module _ {t u : List ℕ} {st : Stream} (a : OpenAt t u st) (s : List ℕ) where
         ⊎_elim
         (λ h. (_, _, _, plain.AnsweredAs.too_long h))
         (λ h. by_parts h (divided (u ++ s)))
-        (less_or_not 4294967295 (length (t ++ u) + length s))
+        (cases_lt 4294967295 (length (t ++ u) + length s))
       where
         whole : (h : length (t ++ u) + length s ≤ 4294967295) {v w : List ℕ} {es : List Entry} → Divides u s v w es → Begun w →
             (n : ℕ) × (es : List Entry) × (place : ℕ) × AnsweredAs t u s (size l) n es place
@@ -117,7 +117,7 @@ module _ {t u : List ℕ} {st : Stream} (a : OpenAt t u st) (s : List ℕ) where
             ⊎_elim
             (λ k. (_, _, _, plain.AnsweredAs.too_small h d (plain.Behind.not_whole b) k))
             (λ k. (_, _, _, plain.AnsweredAs.taken_in h d b k))
-            (less_or_not (size l) (length es))
+            (cases_lt (size l) (length es))
 
         broken : (h : length (t ++ u) + length s ≤ 4294967295) {v w : List ℕ} {es : List Entry} {n : ℕ} → Divides u s v w es →
             BadRecord w n → n ≢ 20 → (n : ℕ) × (es : List Entry) × (place : ℕ) × AnsweredAs t u s (size l) n es place
@@ -125,14 +125,14 @@ module _ {t u : List ℕ} {st : Stream} (a : OpenAt t u st) (s : List ℕ) where
             ⊎_elim
             (λ k. (_, _, _, plain.AnsweredAs.too_small h d (plain.Behind.bad b c) k))
             (λ k. (_, _, _, plain.AnsweredAs.then_bad h d b c k))
-            (less_or_not (size l) (length es))
+            (cases_lt (size l) (length es))
 
         by_parts : length (t ++ u) + length s ≤ 4294967295 → Divided (u ++ s) →
             (n : ℕ) × (es : List Entry) × (place : ℕ) × AnsweredAs t u s (size l) n es place
         by_parts h (all_good es q) = whole h (record { all = sym (append-nil (u ++ s)); good = q }) between
         by_parts h (then_bad es v w n e q b) =
             let d : Divides u s v w es = record { all = e; good = q } in
-            ⊎_elim (λ z. whole h d (within (subst (BadRecord w) z b))) (λ c. broken h d b c) (same_or_not n 20)
+            ⊎_elim (λ z. whole h d (within (subst (BadRecord w) z b))) (λ c. broken h d b c) (cases_eq n 20)
 
     -- A delivery to an open stream answers this number, hands out these entries and names this place exactly if the record u that is begun
     -- and the delivery together, as records, say so (`AnsweredAs`): 26, 24, 0, or the refusal of the first bad record and where it begins

@@ -8,7 +8,7 @@ use mathlib.Core.List.{List, [], ◌∷◌, ◌++◌, append-nil}
 use mathlib.Core.Logic.{◌≢◌, inl, ⊎_elim}
 use lib.ListN.{length, length-append}
 use borrow.Author.Tests.{eq-eqb}
-use Rattle.words.proofs.Choices.{either_way, same_or_not}
+use Rattle.std.proofs.lemmas.Bool.{cases_Bool, cases_eq}
 use Rattle.transcript_spec.specs.Lists.{Lists, size, with_entries}
 use Rattle.transcript_spec.specs.Reading.{Reading}
 use Rattle.transcript_spec.specs.declared.Entry.{Entry}
@@ -169,7 +169,7 @@ module _ {st : Stream} {v w : List ℕ} {l l' k₁ k₁' k₂ k₂' : Lists} {o 
 
     -- the second part is not sent back, if its lists have room for all that the whole handed out
     second_kept : length (heard st (v ++ w)).got ≤ size k₂ → sent_back o₂.number ≡ false
-    second_kept room = ⊎_elim good bad (same_or_not (heard st v).refusal 0)
+    second_kept room = ⊎_elim good bad (cases_eq (heard st v).refusal 0)
       where
         bad : (heard st v).refusal ≢ 0 → sent_back o₂.number ≡ false
         bad d = ended_kept (ended_if_bad (heard st v) d) then_second
@@ -187,18 +187,18 @@ module _ {st : Stream} {v w : List ℕ} {l l' k₁ k₁' k₂ k₂' : Lists} {o 
   -- place and leave the same stream.
   pub cut_in_two : sent_back o.number ≡ false → sent_back o₁.number ≡ false → sent_back o₂.number ≡ false →
       CutAlike o l' o₁ k₁' o₂ k₂'
-  cut_in_two b b₁ b₂ = ⊎_elim ended_alike going (either_way st.ended)
+  cut_in_two b b₁ b₂ = ⊎_elim ended_alike going (cases_Bool st.ended)
     where
       going : st.ended ≡ false → CutAlike o l' o₁ k₁' o₂ k₂'
       going z =
           let x = is_read z b (comes_exactly.0 p) in
           let y = is_read z b₁ (comes_exactly.0 p₁) in
-          ⊎_elim (good_first z x y b₂) (bad_first z x y) (same_or_not (heard st v).refusal 0)
+          ⊎_elim (good_first z x y b₂) (bad_first z x y) (cases_eq (heard st v).refusal 0)
 
   -- No part of a delivery is sent back, if the whole is not and each part's lists have room for all that the whole handed out.
   pub parts_join : sent_back o.number ≡ false → o.count ≤ size k₁ → o.count ≤ size k₂ →
       (sent_back o₁.number ≡ false) × (sent_back o₂.number ≡ false)
-  parts_join b r₁ r₂ = ⊎_elim over going (either_way st.ended)
+  parts_join b r₁ r₂ = ⊎_elim over going (cases_Bool st.ended)
     where
       over : st.ended ≡ true → (sent_back o₁.number ≡ false) × (sent_back o₂.number ≡ false)
       over z =

@@ -7,7 +7,7 @@ use mathlib.Core.Bool.{Bool, cond}
 use mathlib.Core.List.{List, [], ◌∷◌, ◌++◌, append_assoc, append-nil}
 use mathlib.Core.Logic.{⊎_elim}
 use borrow.Author.Tests.{ne_eqb}
-use Rattle.words.proofs.Choices.{same_or_not}
+use Rattle.std.proofs.lemmas.Bool.{cases_eq}
 use Rattle.transcript_spec.specs.Reading.{feeds, entries_read}
 use Rattle.transcript_spec.specs.declared.Entry.{Entry}
 use Rattle.stream_spec.specs.InPlainWords.{Came, handed, Turn, Took, none, and_then, kept, joined, handed_out, answers_of, verdict_of}
@@ -70,7 +70,7 @@ nothing_later n from =
     ⊎_elim
     (λ z. subst (λ (k : ℕ). or_else (verdict k from) (verdict 0 0) ≡ verdict k from) {x = 0} (sym z) refl)
     (λ d. ap (λ (b : Bool). cond b (verdict 0 0) (verdict n from)) (ne_eqb n 0 d))
-    (same_or_not n 0)
+    (cases_eq n 0)
 
 module _ {ts : List Turn} {st : Stream} (p : Took fresh_stream ts st) where
   off : Follows [] ts st

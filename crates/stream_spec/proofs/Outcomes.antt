@@ -8,7 +8,7 @@ use mathlib.Core.Logic.{◌↔◌, ⊎_elim, inl, inr}
 use lib.Dec.{eqb}
 use lib.ListN.{length}
 use borrow.Author.Tests.{lt-ltb, le-ltb, ne_eqb}
-use Rattle.words.proofs.Choices.{either_way, less_or_not}
+use Rattle.std.proofs.lemmas.Bool.{cases_Bool, cases_lt}
 use Rattle.transcript_spec.specs.Lists.{Lists, size, with_entries}
 use Rattle.transcript_spec.proofs.HowFar.{EarlyRefusal, early_refusal, goes_further}
 use Rattle.stream_spec.specs.InPlainWords.{answer, stream_after, Came, ended_before, too_long, too_small, taken_in, then_bad}
@@ -83,9 +83,9 @@ module _ (st : Stream) (s : List ℕ) where
         ⊎_elim
         (λ k. (_, _, too_small z h k))
         (λ k. looked_through z h k (early_refusal (resumed st) s (inl refl)))
-        (less_or_not (size l) (length (heard st s).got)))
-        (less_or_not 4294967295 (st.taken + length s)))
-        (either_way st.ended)
+        (cases_lt (size l) (length (heard st s).got)))
+        (cases_lt 4294967295 (st.taken + length s)))
+        (cases_Bool st.ended)
 
 -- Of any stream, also one that no calls come to, the outcome of a delivery is this answer, with this stream, and these lists exactly if
 -- their row of `Came` holds.

@@ -6,7 +6,7 @@ use mathlib.Core.Bool.{Bool, true, false, cond}
 use mathlib.Core.List.{[], ◌∷◌}
 use mathlib.Core.Logic.{◌↔◌, ◌≢◌, ◌⊎◌, inl, inr, ⊎_elim}
 use borrow.Author.Tests.{eq-eqb, ne_eqb}
-use Rattle.words.proofs.Choices.{either_way, same_or_not}
+use Rattle.std.proofs.lemmas.Bool.{cases_Bool, cases_eq}
 use Rattle.transcript_spec.specs.Reading.{Reading, cut_off, ended}
 use Rattle.transcript_spec.specs.declared.Part.{Part}
 use Rattle.transcript_spec.specs.declared.Part.TheVariants.{Head, Word}
@@ -46,7 +46,7 @@ module _ (st : Stream) where
       ⊎_elim
       (λ z. (_, already_ended z))
       (λ z. ⊎_elim (λ e. (_, nothing_missing z e)) (λ e. (_, number_missing z e)) (zero_or_20 st.part))
-      (either_way st.ended)
+      (cases_Bool st.ended)
 
   -- Of any stream, also one that no calls come to, the end answers this, with this stream, exactly if its row of `EndCame` holds.
   pub ends_exactly : {o : Streamed} → o ≡ end_answer st ↔ EndCame st o
@@ -82,7 +82,7 @@ Tells r = or_else (verdict r.refusal r.from) (verdict_of (end_answer (standing r
 -- Of any reading, the refusal of a bad record or, where none was told, what the end tells is what the reader of request (ii) says of the
 -- string that ends there.
 pub end_tells : (r : Reading) → Tells r
-end_tells r = ⊎_elim good bad (same_or_not r.refusal 0)
+end_tells r = ⊎_elim good bad (cases_eq r.refusal 0)
   where
     good : r.refusal ≡ 0 → Tells r
     good z =

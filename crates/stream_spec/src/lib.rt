@@ -16,10 +16,12 @@ pub struct Stream {
     // How many bytes of the stream are read.
     pub taken: u32,
     // Nothing more is taken: the sender said that nothing follows, or a record was bad.
+    // (A mark and no Option of a stream: an ended one keeps `from` and `taken`, as `end_answer` and `TookDelivery` say of any stream.)
     pub ended: bool,
 }
 
 // What a delivery answers, and what the end does.
+// (`number` stays a number, 0 for none: the laws `comes_exactly` and `ends_exactly` speak of it.)
 #[derive(Clone, Copy)]
 pub struct Streamed {
     pub number: u8,

@@ -6,17 +6,18 @@ use mathlib.Core.List.{List, [], ◌∷◌}
 use mathlib.Core.Logic.{⊎_elim, ◌≢◌}
 use lib.ListN.{length, length-append}
 use borrow.Author.Tests.{eq-eqb, ne_eqb}
-use Rattle.words.proofs.Choices.{same_or_not}
+use Rattle.std.proofs.lemmas.Bool.{cases_eq}
+use Rattle.std.specs.Prelude.{Result, Ok, Err}
+use Rattle.words.specs.Refusals.{refusal_number}
+use Rattle.words.specs.declared.refusals.Refusal.{Refusal}
 use Rattle.transcript_spec.specs.Format.{record_of, transcript_of}
 use Rattle.transcript_spec.specs.InPlainWords.{AllGood}
 use Rattle.transcript_spec.specs.Writing.{entry_refusal, refused, first_bad}
 use Rattle.transcript_spec.specs.declared.Entry.{Entry}
 use Rattle.transcript_spec.specs.declared.Transcribed.{Transcribed}
 use Rattle.transcript_spec.proofs.WrittenExactly.{passes_good}
-use Rattle.transcript.specs.Entries.{judged_entry}
-use Rattle.transcript.specs.WriterParts.{judged}
-use Rattle.transcript.specs.declared.JudgedEntry.{JudgedEntry}
-use Rattle.transcript.specs.declared.writing.Judged.{Judged}
+use Rattle.transcript.specs.Entries.{JudgedEntry, judged_entry, entry_numbers}
+use Rattle.transcript.specs.WriterParts.{Judged, judged}
 
 -- what judging finds: a number, the index of the entry that has it, and how many bytes are wanted
 abbrev pub found : ℕ → ℕ → ℕ → Judged
@@ -40,16 +41,26 @@ module _ (e : Entry) {number : ℕ} (is : number ≡ entry_refusal e) where
   said_good z {size} long =
       rw (eq-eqb (entry_refusal e) 0 (sym is ∙ z)) (ap (λ (n : ℕ). said n size) is ∙ ap (said (entry_refusal e)) long)
 
-module _ (e : Entry) {o : JudgedEntry} (is : o ≡ judged_entry e) where
+module _ (e : Entry) (o : Result ℕ Refusal) (is : entry_numbers o ≡ judged_entry e) where
   -- The number that is said of an entry is its refusal, or 0.
-  pub number_said : o.number ≡ entry_refusal e
+  pub number_said : (entry_numbers o).number ≡ entry_refusal e
   unfolding judged_entry
   number_said = ap (λ (x : JudgedEntry). x.number) is
 
-  -- The size that is said with number 0 is that of the entry's record.
-  pub size_said : o.number ≡ 0 → o.size ≡ length (record_of e)
+  -- An answer that is a refusal is that of the entry, with its number.
+  pub refusal_said : {r : Refusal} → o ≡ Err r → refusal_number r ≡ entry_refusal e
+  refusal_said q = ap (λ (x : Result ℕ Refusal). (entry_numbers x).number) (sym q) ∙ number_said
+
+  -- An answer that is no refusal says that the entry has none.
+  pub none_said : {n : ℕ} → o ≡ Ok n → entry_refusal e ≡ 0
+  none_said q = sym number_said ∙ ap (λ (x : Result ℕ Refusal). (entry_numbers x).number) q
+
+  -- The size that is said is that of the entry's record.
+  pub size_said : {n : ℕ} → o ≡ Ok n → n ≡ length (record_of e)
   unfolding judged_entry
-  size_said z = ap (λ (x : JudgedEntry). x.size) is ∙ rw (eq-eqb (entry_refusal e) 0 (sym number_said ∙ z)) refl
+  size_said q =
+      ap (λ (x : Result ℕ Refusal). (entry_numbers x).size) (sym q)
+      ∙ ap (λ (x : JudgedEntry). x.size) is ∙ rw (eq-eqb (entry_refusal e) 0 (none_said q)) refl
 
 -- ---- one entry of a list
 module _ (k wanted : ℕ) (e : Entry) (rest : List Entry) where
@@ -59,7 +70,7 @@ module _ (k wanted : ℕ) (e : Entry) (rest : List Entry) where
   good_one z = rw (eq-eqb (entry_refusal e) 0 z)
 
   -- A bad entry is what is found, with its number and its index.
-  pub bad_one : entry_refusal e ≢ 0 → judged k wanted (e ∷ rest) ≡ found (entry_refusal e) k wanted
+  pub bad_one : entry_refusal e ≢ 0 → judged k wanted (e ∷ rest) ≡ found (entry_refusal e) k 0
   unfolding judged
   bad_one d = rw (ne_eqb (entry_refusal e) 0 d)
 
@@ -90,7 +101,7 @@ passed k wanted (e ∷ rest) z =
       answer = λ a. rw (eq-eqb (entry_refusal e) 0 g) (p.answer a);
     })
     (λ d. absurd (d (rw (bad_one k wanted e rest d) at z)))
-    (same_or_not (entry_refusal e) 0)
+    (cases_eq (entry_refusal e) 0)
 
 -- Where an entry is found to be bad, the writer's answer is its number and its index.
 pub barred : (k wanted : ℕ) (es : List Entry) → let o = judged k wanted es in o.number ≢ 0 →
@@ -103,4 +114,4 @@ barred k wanted (e ∷ rest) d a =
     let yes = eq-eqb (entry_refusal e) 0 g in
     rw yes (barred (suc k) (wanted + length (record_of e)) rest (λ z. d (rw (good_one k wanted e rest g) z)) a))
     (λ b. rw (ne_eqb (entry_refusal e) 0 b))
-    (same_or_not (entry_refusal e) 0)
+    (cases_eq (entry_refusal e) 0)

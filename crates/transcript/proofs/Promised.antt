@@ -2,15 +2,16 @@
 -- `WroteTranscript`, `ReadTranscript` and `read_answer` promise is `Promised` of crate `transcript_spec`.
 use mathlib.Core.Path.{◌≡◌, refl, sym, ◌∙◌, subst}
 use mathlib.Core.Logic.{⊎_elim, ◌↔◌}
+use Rattle.std.specs.Prelude.{ℕ, Result}
+use Rattle.words.specs.declared.refusals.Refusal.{Refusal}
 use Rattle.words.proofs.Contracts.{Contract}
 use Rattle.transcript_spec.specs.Lists.{lists}
 use Rattle.transcript_spec.specs.Reading.{read_answer, ReadTranscript}
 use Rattle.transcript_spec.specs.Writing.{WroteTranscript}
 use Rattle.transcript_spec.specs.declared.Entry.{Entry}
 use Rattle.transcript_spec.proofs.WrittenExactly.{good_passes, bad_refused, bad_number, good_or_bad}
-use Rattle.transcript.specs.Entries.{judged_entry, EntryAs}
+use Rattle.transcript.specs.Entries.{JudgedEntry, judged_entry, entry_numbers, EntryAs}
 use Rattle.transcript.specs.Entries as plain
-use Rattle.transcript.specs.declared.JudgedEntry.{JudgedEntry}
 use Rattle.transcript.proofs.Judging.{said_refused, said_good}
 use Rattle.transcript.proofs.reading.judge_bytes.Kinds as judge_bytes_kinds
 use Rattle.transcript.proofs.reading.judge_bytes.Reads as judge_bytes
@@ -22,7 +23,7 @@ use Rattle.transcript.proofs.writing.write_transcript.Kinds as write_transcript_
 use Rattle.transcript.proofs.writing.write_transcript.Reads as write_transcript
 
 -- ---- one entry
-module _ {e : Entry} {o : JudgedEntry} (p : o ≡ judged_entry e) where
+module _ {e : Entry} where
   entry_said : (a : JudgedEntry) → EntryAs e a → judged_entry e ≡ a
   entry_said _ (plain.EntryAs.good g) = sym (said_good e (sym (good_passes e g)) refl refl)
   entry_said _ (plain.EntryAs.bad {n} b) = sym (said_refused e (sym (bad_refused e n b)) (bad_number e n b))
@@ -30,13 +31,14 @@ module _ {e : Entry} {o : JudgedEntry} (p : o ≡ judged_entry e) where
   some_entry : (a : JudgedEntry) × EntryAs e a
   some_entry = ⊎_elim (λ g. (_, plain.EntryAs.good g)) (λ b. (_, plain.EntryAs.bad b.1)) (good_or_bad e)
 
-  -- What is said of one entry is a exactly if a's row of `EntryAs` holds: the entry is good, and its record has so many bytes; or it is
-  -- bad, with this number.
-  pub judge_exactly : (a : JudgedEntry) → o ≡ a ↔ EntryAs e a
-  judge_exactly a = (
-    λ q. subst (EntryAs e) (sym (entry_said some_entry.0 some_entry.1) ∙ sym p ∙ q) some_entry.1,
-    λ w. p ∙ entry_said a w,
-  )
+  module _ (o : Result ℕ Refusal) (p : entry_numbers o ≡ judged_entry e) where
+    -- What is said of one entry is a, in numbers, exactly if a's row of `EntryAs` holds: the entry is good, and its record has so many
+    -- bytes; or it is bad, with this number.
+    pub judge_exactly : (a : JudgedEntry) → entry_numbers o ≡ a ↔ EntryAs e a
+    judge_exactly a = (
+      λ q. subst (EntryAs e) (sym (entry_said some_entry.0 some_entry.1) ∙ sym p ∙ q) some_entry.1,
+      λ w. p ∙ entry_said a w,
+    )
 
 -- ---- the contracts themselves: each is a statement on the call's own arguments
 -- `judge_bytes` takes any bytes and room, and all that its contract allows is `read_answer` of them.
@@ -63,11 +65,11 @@ pub read_transcript_contract : Contract read_transcript_kinds.ps read_transcript
     (lists kinds'.now registers'.now lanes'.now words'.now))
 read_transcript_contract = record { takes_any = λ κs args. tt; says = λ κs args o left p. p }
 
--- `judge_entry` takes any e, and all that its contract allows is `judged_entry` of it.
+-- `judge_entry` takes any e, and all that its contract allows is, in numbers (`entry_numbers`), `judged_entry` of it.
 pub judge_entry_contract : Contract judge_entry_kinds.ps judge_entry_kinds.r judge_entry.Pre judge_entry.Post
     (λ κs args r left.
     let e = args.0 in
-    r ≡ judged_entry e)
+    entry_numbers r ≡ judged_entry e)
 judge_entry_contract = record { takes_any = λ κs args. tt; says = λ κs args r left p. p }
 
 -- `write_transcript` takes any kinds, registers, lanes, words and bytes, and all that its contract allows is `WroteTranscript` of them.

@@ -1,25 +1,25 @@
 // What the writer says of one entry: document 02, request (ii), "The writer tests 2, 3, then 22".
 ghost use Rattle.std.specs.Prelude.{◌≡◌};
 ghost use Rattle.transcript_spec.specs.Writing.{entry_refusal};
+ghost use Rattle.words.specs.Refusals.{number_returned};
 
 use transcript_lists::has_no_record;
 use transcript_spec::Entry;
-use words::names_lanes;
+use words::{Refusal, names_lanes};
 
-// Number 2, 3 or 22, in this order, or 0 where the entry is good.
-pub(crate) fn refusal_of(e: Entry) -> u8
-    ensures { result ≡ entry_refusal e }
+// Whether the entry has a record.
+#[tactic(auto, unfolding(transcript_spec::specs::Writing::entry_refusal))]
+pub(crate) fn judge(e: Entry) -> Result<(), Refusal>
+    ensures { number_returned result ≡ entry_refusal e }
 {
-    let unknown = 3 < e.register;
-    let unnamed = !names_lanes(e.lanes);
-    if unknown {
-        return 2;
+    if 3 < e.register {
+        return Err(Refusal::UnknownRegister);
     }
-    if unnamed {
-        return 3;
+    if !names_lanes(e.lanes) {
+        return Err(Refusal::UnnamedLanes);
     }
     if has_no_record(e) {
-        return 22;
+        return Err(Refusal::OverLargeNumber);
     }
-    0
+    Ok(())
 }

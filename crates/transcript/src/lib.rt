@@ -12,10 +12,3 @@ mod writing;
 pub use reading::{judge_bytes, read_transcript};
 pub use records::judge_entry;
 pub use writing::write_transcript;
-
-// What the writer says of one entry: number 2, 3 or 22, or 0; and how many bytes its record has, 0 where it is refused.
-#[derive(Clone, Copy)]
-pub struct JudgedEntry {
-    pub number: u8,
-    pub size: usize,
-}

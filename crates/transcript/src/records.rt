@@ -2,12 +2,12 @@
 ghost use Rattle.std.specs.Prelude.{◌≡◌, ◌+◌, ◌≤◌, ◌<◌, length};
 ghost use Rattle.transcript_spec.specs.Format.{head_of, groups, record_of};
 ghost use Rattle.transcript_spec.specs.InPlainWords.{Good};
-ghost use Rattle.transcript.specs.Entries.{judged_entry};
+ghost use Rattle.transcript.specs.Entries.{judged_entry, entry_numbers};
 ghost use Rattle.transcript.specs.WriterParts.{Put};
 
-use crate::JudgedEntry;
-use crate::entries::refusal_of;
+use crate::entries::judge;
 use transcript_spec::Entry;
+use words::Refusal;
 
 // The head of an entry's record.
 fn head_of(e: Entry) -> u32
@@ -43,20 +43,15 @@ fn count_bytes(e: Entry) -> usize
 }
 
 // What the writer says of one entry: it is refused, or its record has so many bytes.
-pub fn judge_entry(e: Entry) -> JudgedEntry
-    ensures { result ≡ judged_entry e }
+pub fn judge_entry(e: Entry) -> Result<usize, Refusal>
+    ensures { entry_numbers result ≡ judged_entry e }
 {
-    let number = refusal_of(e);
-    if number != 0 {
-        return JudgedEntry { number, size: 0 };
-    }
-    JudgedEntry {
-        number,
-        size: count_bytes(e),
-    }
+    judge(e)?;
+    Ok(count_bytes(e))
 }
 
 // Puts the groups of a number into the bytes from a place on, and answers the place after them.
+// (Place by place: each case is as many bytes as `groups` has, and an array for each would be no shorter.)
 fn put_groups(bytes: &mut [u8], at: usize, v: u32) -> usize
     requires { (v < 65536) × (at + length (groups v) ≤ length bytes.old) }
     ensures { Put bytes.old at (groups v) result bytes.new }

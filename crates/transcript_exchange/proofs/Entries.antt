@@ -9,6 +9,7 @@ use mathlib.Core.Logic.{◌⊎◌, inl, inr}
 use lib.Dec.{ltb}
 use lib.ListN.{length, length-append}
 use borrow.Author.Tests.{ne_eqb}
+use Rattle.std.specs.Prelude.{Ok, Err}
 use Rattle.transcript_spec.specs.Format.{record_of, transcript_of}
 use Rattle.transcript_spec.specs.InPlainWords.{Good, AllGood, BadEntry}
 use Rattle.transcript_spec.specs.InPlainWords as plain
@@ -22,7 +23,7 @@ use Rattle.transcript_lines.specs.InPlainWords.{HasLine}
 use Rattle.transcript_lines.specs.Lines.{unsayable, AllHaveLines}
 use Rattle.transcript_lines.proofs.Sayable.{sayable_when}
 use Rattle.transcript_exchange.specs.Turning.{by_answer, entries_written, done_if_fits}
-use Rattle.transcript_exchange.specs.declared.Turned.TheVariants.{Done, Refused, TooMany}
+use Rattle.transcript_exchange.specs.declared.NotTurned.TheVariants.{Refused, TooMany}
 
 -- ---- one entry behind others
 
@@ -47,13 +48,13 @@ module _ (es : List Entry) (room : ℕ) where
   pub all_written : AllGood es → entries_written es room ≡ done_if_fits (length (transcript_of es)) room
   unfolding by_answer write_answer
   all_written g =
-      ap (λ (a : Transcribed). by_answer a (Done a.count)) (none_bad 0 es (writer.accepted_if_fits n room) g) ∙ either (ltb room n)
+      ap (λ (a : Transcribed). by_answer a (Ok a.count)) (none_bad 0 es (writer.accepted_if_fits n room) g) ∙ either (ltb room n)
     where
       n : ℕ
       n = length (transcript_of es)
 
       either : (t : Bool) →
-          by_answer (cond t (refused 24 0) (accepted n)) (Done (cond t (refused 24 0) (accepted n)).count) ≡ cond t TooMany (Done n)
+          by_answer (cond t (refused 24 0) (accepted n)) (Ok (cond t (refused 24 0) (accepted n)).count) ≡ cond t (Err TooMany) (Ok n)
       either true = refl
       either false = refl
 
@@ -68,12 +69,13 @@ entry_range b = go (entry_number b)
 
 -- The first bad entry is refused with its number and its index.
 pub bad_written : (xs ys : List Entry) (e : Entry) (n room : ℕ) → AllGood xs → BadEntry e n →
-    entries_written (xs ++ (e ∷ ys)) room ≡ Refused n (length xs)
+    entries_written (xs ++ (e ∷ ys)) room ≡ Err (Refused n (length xs))
 unfolding by_answer write_answer
 bad_written xs ys e n room g b =
     let r = entry_range b in
-    ap (λ (a : Transcribed). by_answer a (Done a.count)) (finds_bad 0 xs ys e n _ g b)
-    ∙ rw (ne_eqb n 0 (λ z. omega (arith, z, r.0)), ne_eqb n 24 (λ z. omega (arith, z, r.1))) (ap (Refused n) (omega arith))
+    ap (λ (a : Transcribed). by_answer a (Ok a.count)) (finds_bad 0 xs ys e n _ g b)
+    ∙ rw (ne_eqb n 0 (λ z. omega (arith, z, r.0)), ne_eqb n 24 (λ z. omega (arith, z, r.1)))
+    (ap (λ (k : ℕ). Err (Refused n k)) (omega arith))
 
 -- ---- entries that lines say
 one_of_them : (xs ys : List Entry) (e : Entry) → AllHaveLines (xs ++ (e ∷ ys)) → unsayable e ≡ false

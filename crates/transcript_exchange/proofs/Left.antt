@@ -5,6 +5,7 @@ use mathlib.Core.Path.{◌≡◌, sym, ap, ◌∙◌, subst}
 use mathlib.Core.List.{List}
 use lib.ListN.{length, take, drop}
 use lib.Seq.{take-append_seam, drop-append_seam}
+use Rattle.std.specs.Prelude.{Result, Ok}
 use Rattle.transcript_spec.specs.InPlainWords.{first_places, later_places}
 use Rattle.transcript_spec.specs.Lists.{Lists, size, over, with_entries}
 use Rattle.transcript_spec.specs.Writing.{accepted}
@@ -15,8 +16,7 @@ use Rattle.transcript_spec.proofs.Filled.{SameLengths, over_length, lengths_stay
 use Rattle.transcript_exchange.specs.InNumbers.{turned_numbers, case_of}
 use Rattle.transcript_exchange.specs.InPlainWords.{Filled}
 use Rattle.transcript_exchange.specs.Turning.{lists_left, output_left}
-use Rattle.transcript_exchange.specs.declared.Turned.{Turned}
-use Rattle.transcript_exchange.specs.declared.Turned.TheVariants.{Done}
+use Rattle.transcript_exchange.specs.declared.NotTurned.{NotTurned}
 
 -- an input is turned: the entries es and the bytes `text` are filled in
 pub record TurnedOut (es : List Entry) (text : List ℕ) (l : Lists) (out : List ℕ) (a : Transcribed) (l' : Lists) (out' : List ℕ) :
@@ -29,17 +29,17 @@ pub record TurnedOut (es : List Entry) (text : List ℕ) (l : Lists) (out : List
 
 module _ {es : List Entry} {text : List ℕ} {l l' : Lists} {out out' : List ℕ} where
   -- Where the answer is that of an input that is turned, and its entries and bytes fit, these are filled in.
-  pub turned_out : {o : Turned} (es₀ : List Entry) (text₀ : List ℕ) → o ≡ case_of (turned_numbers o) →
+  pub turned_out : {o : Result ℕ NotTurned} (es₀ : List Entry) (text₀ : List ℕ) → o ≡ case_of (turned_numbers o) →
       l' ≡ lists_left o es₀ l → out' ≡ output_left o text₀ out → turned_numbers o ≡ accepted (length text) → es₀ ≡ es → text₀ ≡ text →
       length es ≤ size l → length text ≤ length out → TurnedOut es text l out (turned_numbers o) l' out'
   turned_out {o} es₀ text₀ c x y a e f places fits =
-      let d : o ≡ Done (length text) = c ∙ ap case_of a in
+      let d : o ≡ Ok (length text) = c ∙ ap case_of a in
       record {
         answer = a;
         places = places;
         fits = fits;
-        lists = x ∙ ap (λ (z : Turned). lists_left z es₀ l) d ∙ ap (λ (z : List Entry). with_entries z l) e;
-        output = y ∙ ap (λ (z : Turned). output_left z text₀ out) d ∙ ap (λ (z : List ℕ). over z out) f;
+        lists = x ∙ ap (λ (z : Result ℕ NotTurned). lists_left z es₀ l) d ∙ ap (λ (z : List Entry). with_entries z l) e;
+        output = y ∙ ap (λ (z : Result ℕ NotTurned). output_left z text₀ out) d ∙ ap (λ (z : List ℕ). over z out) f;
       }
 
   module _ {a : Transcribed} (k : TurnedOut es text l out a l' out') where

@@ -6,7 +6,8 @@ use mathlib.Core.Path.{◌≡◌, refl, sym, ap, ◌∙◌, subst}
 use mathlib.Core.List.{List}
 use mathlib.Core.Logic.{◌⊎◌, inl, inr, ⊎_elim, ◌↔◌, ◌≢◌}
 use lib.ListN.{length}
-use Rattle.words.proofs.Choices.{same_or_not}
+use Rattle.std.specs.Prelude.{Result, Ok, Err}
+use Rattle.std.proofs.lemmas.Bool.{cases_eq}
 use Rattle.words.proofs.Contracts.{Contract}
 use Rattle.transcript_spec.specs.Format.{transcript_of}
 use Rattle.transcript_spec.specs.InPlainWords.{AllGood, Sound}
@@ -24,8 +25,8 @@ use Rattle.transcript_exchange.specs.InNumbers.{turned_numbers, case_of}
 use Rattle.transcript_exchange.specs.InPlainWords.{LinesOf, BytesAs, LinesAs, Filled}
 use Rattle.transcript_exchange.specs.InPlainWords as plain
 use Rattle.transcript_exchange.specs.Turning.{ToBytes, ToLines}
-use Rattle.transcript_exchange.specs.declared.Turned.{Turned}
-use Rattle.transcript_exchange.specs.declared.Turned.TheVariants.{Done, BadLine, Refused, TooMany}
+use Rattle.transcript_exchange.specs.declared.NotTurned.{NotTurned}
+use Rattle.transcript_exchange.specs.declared.NotTurned.TheVariants.{BadLine, Refused, TooMany}
 use Rattle.transcript_exchange.proofs.Entries.{entry_range, line_refusal}
 use Rattle.transcript_exchange.proofs.Exactly.{bytes_exactly, bytes_case, lines_exactly, lines_case}
 use Rattle.transcript_exchange.proofs.Left.{TurnedOut, turned_out, filled, still_long}
@@ -40,7 +41,7 @@ long_as_before {l} x y =
     (subst (SameLengths l) (sym x) (record { kinds = refl; registers = refl; lanes = refl; words = refl }), ap length y)
 
 -- ---- lines to bytes
-module _ {t : List ℕ} {l l' : Lists} {out out' : List ℕ} {o : Turned} (p : ToBytes t l out o l' out') where
+module _ {t : List ℕ} {l l' : Lists} {out out' : List ℕ} {o : Result ℕ NotTurned} (p : ToBytes t l out o l' out') where
   -- The answer of `lines_to_bytes` is a, in numbers, exactly if a's row of `BytesAs` holds: a line is bad (27), there are more lines than
   -- places (24), an access has no record (its number and index), the records do not fit (24), or the text is good lines of good entries
   -- that have places, and their transcript fits.
@@ -51,7 +52,7 @@ module _ {t : List ℕ} {l l' : Lists} {out out' : List ℕ} {o : Turned} (p : T
 
   -- The numbers of what `lines_to_bytes` answers tell its case: no two cases have the same.
   pub to_bytes_case : o ≡ case_of (turned_numbers o)
-  to_bytes_case = subst (λ (x : Turned). x ≡ case_of (turned_numbers x)) (sym p.answer) (bytes_case t (size l) (length out))
+  to_bytes_case = subst (λ (x : Result ℕ NotTurned). x ≡ case_of (turned_numbers x)) (sym p.answer) (bytes_case t (size l) (length out))
 
   -- The number of `lines_to_bytes` is 0, 2, 3, 24 or 27, and never 22.
   pub to_bytes_number : let n = (turned_numbers o).number in (n ≡ 0) ⊎ ((n ≡ 2) ⊎ ((n ≡ 3) ⊎ ((n ≡ 24) ⊎ (n ≡ 27))))
@@ -73,12 +74,12 @@ module _ {t : List ℕ} {l l' : Lists} {out out' : List ℕ} {o : Turned} (p : T
   pub to_bytes_refused : (turned_numbers o).number ≢ 0 → ((turned_numbers o).count ≡ 0) × (l' ≡ l) × (out' ≡ out)
   to_bytes_refused = go o p
     where
-      go : (x : Turned) → ToBytes t l out x l' out' → (turned_numbers x).number ≢ 0 →
+      go : (x : Result ℕ NotTurned) → ToBytes t l out x l' out' → (turned_numbers x).number ≢ 0 →
           ((turned_numbers x).count ≡ 0) × (l' ≡ l) × (out' ≡ out)
-      go (Done n) q d = absurd (d refl)
-      go (BadLine k) q d = (refl, q.lists, q.output)
-      go (Refused n k) q d = (refl, q.lists, q.output)
-      go TooMany q d = (refl, q.lists, q.output)
+      go (Ok n) q d = absurd (d refl)
+      go (Err (BadLine k)) q d = (refl, q.lists, q.output)
+      go (Err (Refused n k)) q d = (refl, q.lists, q.output)
+      go (Err TooMany) q d = (refl, q.lists, q.output)
 
   turned_bytes : {a : Transcribed} → turned_numbers o ≡ a → BytesAs t (size l) (length out) a → a.number ≡ 0 →
       (es : List Entry) × LinesOf t es × AllGood es × TurnedOut es (transcript_of es) l out (turned_numbers o) l' out'
@@ -99,10 +100,10 @@ module _ {t : List ℕ} {l l' : Lists} {out out' : List ℕ} {o : Turned} (p : T
       (k.0, k.1, k.2, filled k.3)
 
   -- What `lines_to_bytes` turns out fits the output.
-  pub bytes_fit : {k : ℕ} → o ≡ Done k → k ≤ length out
+  pub bytes_fit : {k : ℕ} → o ≡ Ok k → k ≤ length out
   bytes_fit e =
-      let d = to_bytes_done (ap (λ (x : Turned). (turned_numbers x).number) e) in
-      omega (arith, d.3.fits, ap (λ (x : Turned). (turned_numbers x).count) e)
+      let d = to_bytes_done (ap (λ (x : Result ℕ NotTurned). (turned_numbers x).number) e) in
+      omega (arith, d.3.fits, ap (λ (x : Result ℕ NotTurned). (turned_numbers x).count) e)
 
   -- Whatever `lines_to_bytes` answers, each list and the output are as long as they were.
   pub to_bytes_lengths : SameLengths l l' × (length out' ≡ length out)
@@ -110,10 +111,10 @@ module _ {t : List ℕ} {l l' : Lists} {out out' : List ℕ} {o : Turned} (p : T
       ⊎_elim
       (λ z. still_long (turned_bytes refl ((to_bytes_exactly (turned_numbers o)).0 refl) z).3)
       (λ d. let k = to_bytes_refused d in long_as_before k.1 k.2)
-      (same_or_not (turned_numbers o).number 0)
+      (cases_eq (turned_numbers o).number 0)
 
 -- ---- bytes to lines
-module _ {s : List ℕ} {l l' : Lists} {out out' : List ℕ} {o : Turned} (p : ToLines s l out o l' out') where
+module _ {s : List ℕ} {l l' : Lists} {out out' : List ℕ} {o : Result ℕ NotTurned} (p : ToLines s l out o l' out') where
   -- The answer of `bytes_to_lines` is a, in numbers, exactly if a's row of `LinesAs` holds: a record is bad (20 to 23, and its first byte),
   -- there are more records than places (24), the lines do not fit (24), or they do: every record has a line.
   pub to_lines_exactly : (a : Transcribed) → turned_numbers o ≡ a ↔ LinesAs s (size l) (length out) a
@@ -123,7 +124,7 @@ module _ {s : List ℕ} {l l' : Lists} {out out' : List ℕ} {o : Turned} (p : T
 
   -- The numbers of what `bytes_to_lines` answers tell its case: no two cases have the same.
   pub to_lines_case : o ≡ case_of (turned_numbers o)
-  to_lines_case = subst (λ (x : Turned). x ≡ case_of (turned_numbers x)) (sym p.answer) (lines_case s (size l) (length out))
+  to_lines_case = subst (λ (x : Result ℕ NotTurned). x ≡ case_of (turned_numbers x)) (sym p.answer) (lines_case s (size l) (length out))
 
   -- The number of `bytes_to_lines` is 0 or one of 20 to 24.
   pub to_lines_number : let n = (turned_numbers o).number in (n ≡ 0) ⊎ ((20 ≤ n) × (n ≤ 24))
@@ -139,12 +140,12 @@ module _ {s : List ℕ} {l l' : Lists} {out out' : List ℕ} {o : Turned} (p : T
   pub to_lines_refused : (turned_numbers o).number ≢ 0 → ((turned_numbers o).count ≡ 0) × (l' ≡ l) × (out' ≡ out)
   to_lines_refused = go o p
     where
-      go : (x : Turned) → ToLines s l out x l' out' → (turned_numbers x).number ≢ 0 →
+      go : (x : Result ℕ NotTurned) → ToLines s l out x l' out' → (turned_numbers x).number ≢ 0 →
           ((turned_numbers x).count ≡ 0) × (l' ≡ l) × (out' ≡ out)
-      go (Done n) q d = absurd (d refl)
-      go (BadLine k) q d = (refl, q.lists, q.output)
-      go (Refused n k) q d = (refl, q.lists, q.output)
-      go TooMany q d = (refl, q.lists, q.output)
+      go (Ok n) q d = absurd (d refl)
+      go (Err (BadLine k)) q d = (refl, q.lists, q.output)
+      go (Err (Refused n k)) q d = (refl, q.lists, q.output)
+      go (Err TooMany) q d = (refl, q.lists, q.output)
 
   turned_lines : {a : Transcribed} → turned_numbers o ≡ a → LinesAs s (size l) (length out) a → a.number ≡ 0 →
       (es : List Entry) × Sound s es × TurnedOut es (text_of es) l out (turned_numbers o) l' out'
@@ -164,10 +165,10 @@ module _ {s : List ℕ} {l l' : Lists} {out out' : List ℕ} {o : Turned} (p : T
       (k.0, k.1, filled k.2)
 
   -- What `bytes_to_lines` turns out fits the output.
-  pub lines_fit : {k : ℕ} → o ≡ Done k → k ≤ length out
+  pub lines_fit : {k : ℕ} → o ≡ Ok k → k ≤ length out
   lines_fit e =
-      let d = to_lines_done (ap (λ (x : Turned). (turned_numbers x).number) e) in
-      omega (arith, d.2.fits, ap (λ (x : Turned). (turned_numbers x).count) e)
+      let d = to_lines_done (ap (λ (x : Result ℕ NotTurned). (turned_numbers x).number) e) in
+      omega (arith, d.2.fits, ap (λ (x : Result ℕ NotTurned). (turned_numbers x).count) e)
 
   -- Whatever `bytes_to_lines` answers, each list and the output are as long as they were.
   pub to_lines_lengths : SameLengths l l' × (length out' ≡ length out)
@@ -175,7 +176,7 @@ module _ {s : List ℕ} {l l' : Lists} {out out' : List ℕ} {o : Turned} (p : T
       ⊎_elim
       (λ z. still_long (turned_lines refl ((to_lines_exactly (turned_numbers o)).0 refl) z).2)
       (λ d. let k = to_lines_refused d in long_as_before k.1 k.2)
-      (same_or_not (turned_numbers o).number 0)
+      (cases_eq (turned_numbers o).number 0)
 
 -- ---- the contracts themselves: each is a statement on the call's own arguments
 -- `lines_to_bytes` takes any text, kinds, registers, lanes, words and bytes, and all that its contract allows is `ToBytes` of them.

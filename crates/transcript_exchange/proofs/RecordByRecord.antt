@@ -5,6 +5,7 @@ use mathlib.Core.Path.{◌≡◌, refl, ap, ◌∙◌}
 use mathlib.Core.List.{List, [], ◌∷◌, ◌++◌}
 use lib.ListN.{length, drop, get_or, length-append}
 use borrow.Author.Tests.{lt-ltb, le-ltb}
+use Rattle.std.specs.Prelude.{Ok, Err}
 use Rattle.listing.specs.Spelled.{lines_of}
 use Rattle.transcript_spec.specs.Reading.{Reading, fresh, byte_taken, entries_read}
 use Rattle.transcript_spec.specs.declared.Entry.{Entry}
@@ -16,7 +17,7 @@ use Rattle.transcript_lines.specs.Lines.{line, text_of}
 use Rattle.transcript_scan.specs.Scan.{read_on}
 use Rattle.transcript_scan.proofs.Counting.{Counting, begun, goes_on, counted, stopped}
 use Rattle.transcript_exchange.specs.Turning.{done_if_fits}
-use Rattle.transcript_exchange.specs.declared.Turned.TheVariants.{Done, TooMany}
+use Rattle.transcript_exchange.specs.declared.NotTurned.TheVariants.{TooMany}
 
 abbrev bytes : List Entry → ℕ
 bytes es = length (text_of es)
@@ -52,13 +53,13 @@ module _ {s : List ℕ} {room : ℕ} {p : Part} {left i : ℕ} (k : Measured s r
   measured_less = omega (arith, k.come)
 
   -- the lines of all are measured
-  fits_all : entries_read s ≡ k.reads.got → Done (room - left) ≡ done_if_fits (bytes (entries_read s)) room
+  fits_all : entries_read s ≡ k.reads.got → Ok (room - left) ≡ done_if_fits (bytes (entries_read s)) room
   fits_all e =
       let all : room - left ≡ bytes (entries_read s) = omega (arith, k.come, ap bytes e) in
-      rw (le-ltb room (bytes (entries_read s)) (omega (arith, all))) (ap Done all)
+      rw (le-ltb room (bytes (entries_read s)) (omega (arith, all))) (ap Ok all)
 
   -- At the end of the string the lines fit, and have as many bytes as the room has lost.
-  pub measured_all : length s ≤ i → Done (room - left) ≡ done_if_fits (bytes (entries_read s)) room
+  pub measured_all : length s ≤ i → Ok (room - left) ≡ done_if_fits (bytes (entries_read s)) room
   measured_all h = fits_all (ap (λ (r : Reading). r.got) (at_end k.reads.here h))
 
   module _ (more : i < length s) where
@@ -67,7 +68,7 @@ module _ {s : List ℕ} {room : ℕ} {p : Part} {left i : ℕ} (k : Measured s r
     measured_on e = record { entries = k.entries; place = k.place; reads = goes_on k.reads more e; come = k.come }
 
     -- A bad record ends the measuring: the lines of the records before it fit, and have as many bytes as the room has lost.
-    pub measured_bad : {n : ℕ} → byte_taken p (get_or s i 0) ≡ Bad n → Done (room - left) ≡ done_if_fits (bytes (entries_read s)) room
+    pub measured_bad : {n : ℕ} → byte_taken p (get_or s i 0) ≡ Bad n → Ok (room - left) ≡ done_if_fits (bytes (entries_read s)) room
     measured_bad b = fits_all (ap (λ (r : Reading). r.got) (stopped k.reads more b))
 
     -- It is whole and good.
@@ -86,7 +87,7 @@ module _ {s : List ℕ} {room : ℕ} {p : Part} {left i : ℕ} (k : Measured s r
           }
 
       -- Where the line of a record that is whole and good does not fit what is left, the lines do not fit.
-      pub measured_out : left < size → TooMany ≡ done_if_fits (bytes (entries_read s)) room
+      pub measured_out : left < size → Err TooMany ≡ done_if_fits (bytes (entries_read s)) room
       measured_out short =
           let next = counted k.reads more w in
           let rest = (read_on fresh (drop (i + 1) s)).got in

@@ -1,14 +1,12 @@
 -- What the two calls leave, by what was judged: an input that is not turned leaves all that was lent; the calls that fill the lists and the
 -- output of one that is are made on the lists' first places, which hold the entries.
-use Prim.Native.Nat.{ℕ, ◌≤◌}
-use native.Mathlib.Omega.{arith}
+use Prim.Native.Nat.{ℕ}
 use mathlib.Core.Path.{◌≡◌, refl, sym, ap, ◌∙◌, subst}
 use mathlib.Core.Bool.{false}
 use mathlib.Core.List.{List}
-use mathlib.Core.Logic.{◌⊎◌, inl, inr, ◌≢◌}
-use denote.Enum.Declared.{tag_of}
 use lib.ListN.{length}
 use borrow.Author.Tests.{eq-eqb}
+use Rattle.std.specs.Prelude.{Result, Ok, Err}
 use Rattle.transcript_spec.specs.InPlainWords.{first_places}
 use Rattle.transcript_spec.specs.Lists.{Lists, size, entries_in}
 use Rattle.transcript_spec.specs.Reading.{entries_read, read_answer, ReadTranscript}
@@ -22,82 +20,52 @@ use Rattle.transcript_lines.specs.Lines.{text_of}
 use Rattle.transcript_lines.specs.Putting.{is_written, text_after, PutLines}
 use Rattle.transcript_lines.specs.Taking.{taking, take_answer, TookLines}
 use Rattle.transcript_lines.specs.Taking as lines
-use Rattle.transcript_lines.specs.declared.LinesPut.{LinesPut}
-use Rattle.transcript_lines.specs.declared.LinesTaken.{LinesTaken}
-use Rattle.transcript_lines.specs.declared.LinesTaken.TheVariants as taken
+use Rattle.transcript_lines.specs.declared.NotPut.{NotPut}
+use Rattle.transcript_lines.specs.declared.NotTaken.{NotTaken}
 use Rattle.transcript_lines.proofs.ThereAndBack.{took_entries}
-use Rattle.transcript_exchange.specs.Turning.{by_answer, by_taken, entries_written, done_if_fits, bytes_turned, lines_turned, is_done}
+use Rattle.transcript_exchange.specs.Turning.{not_turned, by_answer, by_taken, entries_written, done_if_fits, bytes_turned, lines_turned, is_done}
 use Rattle.transcript_exchange.specs.Turning.{ToBytes, ToLines}
-use Rattle.transcript_exchange.specs.declared.Turned.{Turned}
-use Rattle.transcript_exchange.specs.declared.Turned.TheVariants.{Done, BadLine, Refused, TooMany}
-use Rattle.transcript_exchange.specs.contracts.Turned.{the_type}
+use Rattle.transcript_exchange.specs.declared.NotTurned.{NotTurned}
 use Rattle.transcript_exchange.proofs.Done.{none_refused, LinesDone, lines_are_done}
-
--- an answer with another tag than the first, as the code finds it, is not that of an input that is turned
-abbrev pub NotDone : Turned → Type 0
-NotDone o = (tag_of the_type o ≡ 1) ⊎ ((tag_of the_type o ≡ 2) ⊎ (tag_of the_type o ≡ 3))
-
-not_done : (o : Turned) → NotDone o → is_done o ≡ false
-not_done (Done n) (inl e) = absurd (omega (arith, e))
-not_done (Done n) (inr (inl e)) = absurd (omega (arith, e))
-not_done (Done n) (inr (inr e)) = absurd (omega (arith, e))
-not_done (BadLine k) e = refl
-not_done (Refused n k) e = refl
-not_done TooMany e = refl
-
--- The tag of an answer that is not that of an input which is turned.
-pub refusal_turned : (o : Turned) → ((n : ℕ) → o ≢ Done n) → NotDone o
-refusal_turned (Done n) k = absurd (k n refl)
-refusal_turned (BadLine n) k = inl refl
-refusal_turned (Refused n m) k = inr (inl refl)
-refusal_turned TooMany k = inr (inr refl)
 
 -- ---- lines to bytes
 module _ (t : List ℕ) (l : Lists) (out : List ℕ) where
-  left_alone : {o : Turned} → o ≡ bytes_turned t (size l) (length out) → is_done o ≡ false → ToBytes t l out o l out
+  left_alone : {o : Result ℕ NotTurned} → o ≡ bytes_turned t (size l) (length out) → is_done o ≡ false → ToBytes t l out o l out
   left_alone answer d = record { answer = answer; lists = rw d refl; output = rw d refl }
 
   -- x: what taking the lines will answer
-  module _ {room : ℕ} {x : LinesTaken} (r : room ≡ size l) (a : x ≡ take_answer t room) where
+  module _ {room : ℕ} {x : Result ℕ NotTaken} (r : room ≡ size l) (a : x ≡ take_answer t room) where
     turned_is : bytes_turned t (size l) (length out) ≡ by_taken x (entries_written (taking t).entries (length out))
     unfolding bytes_turned
-    turned_is = ap (λ (y : LinesTaken). by_taken y (entries_written (taking t).entries (length out))) (sym (a ∙ ap (take_answer t) r))
+    turned_is =
+        ap (λ (y : Result ℕ NotTaken). by_taken y (entries_written (taking t).entries (length out))) (sym (a ∙ ap (take_answer t) r))
 
-    -- A bad line changes nothing that was lent.
-    pub bad_line : {k : ℕ} → x ≡ taken.BadLine k → ToBytes t l out (BadLine k) l out
-    bad_line e = left_alone (sym (turned_is ∙ ap (λ (y : LinesTaken). by_taken y (entries_written (taking t).entries (length out))) e))
-        refl
+    -- A bad line, or more lines than have places, changes nothing that was lent.
+    pub lines_not_taken : {e : NotTaken} → x ≡ Err e → ToBytes t l out (Err (not_turned e)) l out
+    lines_not_taken e =
+        left_alone (sym (turned_is ∙ ap (λ (y : Result ℕ NotTaken). by_taken y (entries_written (taking t).entries (length out))) e)) refl
 
-    -- More lines than have places change nothing that was lent.
-    pub no_places : x ≡ taken.NoPlaces → ToBytes t l out TooMany l out
-    no_places e = left_alone (sym (turned_is ∙ ap (λ (y : LinesTaken). by_taken y (entries_written (taking t).entries (length out))) e))
-        refl
-
-    module _ {n : ℕ} {o : Turned} (e : x ≡ taken.Taken n) (w : o ≡ entries_written (taking t).entries (length out)) where
+    module _ {n : ℕ} {o : Result ℕ NotTurned} (e : x ≡ Ok n) (w : o ≡ entries_written (taking t).entries (length out)) where
       answer_is : o ≡ bytes_turned t (size l) (length out)
-      answer_is = w ∙ sym (turned_is ∙ ap (λ (y : LinesTaken). by_taken y (entries_written (taking t).entries (length out))) e)
+      answer_is = w ∙ sym (turned_is ∙ ap (λ (y : Result ℕ NotTaken). by_taken y (entries_written (taking t).entries (length out))) e)
 
       -- An access without a record, or a transcript that does not fit, changes nothing that was lent.
-      pub accesses_refused : NotDone o → ToBytes t l out o l out
-      accesses_refused k = left_alone answer_is (not_done o k)
+      pub accesses_refused : {f : NotTurned} → o ≡ Err f → ToBytes t l out o l out
+      accesses_refused f = left_alone answer_is (ap is_done f)
 
       -- The lines are taken where nothing is refused.
-      module _ {y : LinesTaken} {l' : Lists} (p : TookLines t l y l') where
-        took : TookLines t l (taken.Taken n) l'
-        took = subst (λ (z : LinesTaken). TookLines t l z l') (p.answer ∙ sym (a ∙ ap (take_answer t) r) ∙ e) p
-
-        -- Of lines that are taken, the entries have places.
-        pub has_entries : n ≤ size l
-        has_entries = (took_entries took).0
+      module _ {y : Result ℕ NotTaken} {l' : Lists} (p : TookLines t l y l') where
+        took : TookLines t l (Ok n) l'
+        took = subst (λ (z : Result ℕ NotTaken). TookLines t l z l') (p.answer ∙ sym (a ∙ ap (take_answer t) r) ∙ e) p
 
         -- Where nothing is refused, the lines are taken and the transcript of their entries is written, what is left is as the contract
         -- says.
-        pub bytes_done : {m : ℕ} {out' : List ℕ} {b : Transcribed} → o ≡ Done m → WroteTranscript (first_places n l') out b out' →
+        pub bytes_done : {m : ℕ} {out' : List ℕ} {b : Transcribed} → o ≡ Ok m → WroteTranscript (first_places n l') out b out' →
             ToBytes t l out o l' out'
         unfolding bytes_after lines.lists_after
         bytes_done {m} {out'} d q =
             let es = (taking t).entries in
-            let z = (none_refused (write_answer es (length out)) (Done (write_answer es (length out)).count) m (sym w ∙ d)).0 in
+            let z = (none_refused (write_answer es (length out)) (Ok (write_answer es (length out)).count) m (sym w ∙ d)).0 in
             record {
               answer = answer_is;
               lists = took.lists ∙ rw (sym took.answer, d) refl;
@@ -108,7 +76,7 @@ module _ (t : List ℕ) (l : Lists) (out : List ℕ) where
             }
 
 -- ---- bytes to lines
-module _ (s : List ℕ) (l : Lists) (out : List ℕ) {room : ℕ} {a : Transcribed} {x o : Turned}
+module _ (s : List ℕ) (l : Lists) (out : List ℕ) {room : ℕ} {a : Transcribed} {x o : Result ℕ NotTurned}
     (r : room ≡ size l) (b : a ≡ read_answer s room) (f : x ≡ done_if_fits (length (text_of (entries_read s))) (length out))
     (w : o ≡ by_answer a x) where
   lines_answer : o ≡ lines_turned s (size l) (length out)
@@ -117,11 +85,11 @@ module _ (s : List ℕ) (l : Lists) (out : List ℕ) {room : ℕ} {a : Transcrib
       w ∙ ap (λ (y : Transcribed). by_answer y x) (b ∙ ap (read_answer s) r) ∙ ap (by_answer (read_answer s (size l))) f
 
   -- A transcript that is refused, or whose lines do not fit, changes nothing.
-  pub lines_refused : NotDone o → ToLines s l out o l out
-  lines_refused k = record { answer = lines_answer; lists = rw (not_done o k) refl; output = rw (not_done o k) refl }
+  pub lines_refused : {e : NotTurned} → o ≡ Err e → ToLines s l out o l out
+  lines_refused e = record { answer = lines_answer; lists = rw e refl; output = rw e refl }
 
   -- The transcript is read where nothing is refused.
-  module _ {m : ℕ} (d : o ≡ Done m) {c : Transcribed} {l' : Lists} (p : ReadTranscript s l c l') where
+  module _ {m : ℕ} (d : o ≡ Ok m) {c : Transcribed} {l' : Lists} (p : ReadTranscript s l c l') where
     all : LinesDone s (size l) (length out) m
     all = lines_are_done (sym lines_answer ∙ d)
 
@@ -131,12 +99,8 @@ module _ (s : List ℕ) (l : Lists) (out : List ℕ) {room : ℕ} {a : Transcrib
     accepted : c.number ≡ 0
     accepted = ap (λ (y : Transcribed). y.number) p.answer ∙ all.read
 
-    -- Of a transcript that is read, the entries have places.
-    pub has_read : a.count ≤ size l
-    has_read = rw (sym same_answer) (reader_done p accepted).fits
-
     -- Where nothing is refused, the transcript is read and the lines of its entries are put, what is left is as the contract says.
-    pub lines_done : {out' : List ℕ} {q : LinesPut} → PutLines (first_places a.count l') out q out' → ToLines s l out o l' out'
+    pub lines_done : {out' : List ℕ} {q : Result ℕ NotPut} → PutLines (first_places a.count l') out q out' → ToLines s l out o l' out'
     unfolding read.lists_after text_after
     lines_done {out'} {q} v =
         let es = entries_read s in

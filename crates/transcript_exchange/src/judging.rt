@@ -5,71 +5,61 @@ ghost use Rattle.transcript_lines.specs.Lines.{text_of};
 ghost use Rattle.transcript_lines.specs.Taking.{taking};
 ghost use Rattle.transcript_exchange.specs.Turning.{by_answer, entries_written, done_if_fits};
 
-use crate::Turned;
-use listing::{Front, front_line};
+use crate::NotTurned;
+use listing::good_lines;
 use transcript::judge_entry;
 use transcript_lines::{entry_of, line_size};
 use transcript_scan::{fresh_part, take_byte};
 use transcript_spec::{Step, Transcribed};
 
 // What a reader's answer means; `done` where it refuses nothing.
-pub(crate) fn judge(o: Transcribed, done: Turned) -> Turned
+#[tactic(auto, unfolding(crate::specs::Turning::by_answer))]
+pub(crate) fn judge(o: Transcribed, done: Result<usize, NotTurned>) -> Result<usize, NotTurned>
     ensures { result ≡ by_answer o done }
 {
-    if o.number == 0 {
-        return done;
+    match o.number {
+        0 => done,
+        24 => Err(NotTurned::TooMany),
+        number => Err(NotTurned::Refused(number, o.place)),
     }
-    if o.number == 24 {
-        return Turned::TooMany;
-    }
-    Turned::Refused(o.number, o.place)
 }
 
 // What becomes of n bytes, where there is room for so many.
-fn fit(n: usize, room: usize) -> Turned
+fn fit(n: usize, room: usize) -> Result<usize, NotTurned>
     ensures { result ≡ done_if_fits n room }
 {
     if room < n {
-        return Turned::TooMany;
+        return Err(NotTurned::TooMany);
     }
-    Turned::Done(n)
+    Ok(n)
 }
 
 // What becomes of the accesses of a text's good lines, up to its first bad one, with so many bytes of output: the first that has no
 // record is refused, or the records are counted. A line is longer than its record, so that no sum can wrap.
-pub(crate) fn judge_accesses(text: &[u8], room: usize) -> Turned
+pub(crate) fn judge_accesses(text: &[u8], room: usize) -> Result<usize, NotTurned>
     ensures { result ≡ entries_written (taking text.now).entries room }
 {
-    let mut used = 0;
     let mut count: usize = 0;
     let mut wanted: usize = 0;
-    loop {
-        let line = front_line(&text[used..]);
-        let Front::Good(a, size) = line else {
-            return fit(wanted, room);
-        };
-        let found = judge_entry(entry_of(a));
-        if found.number != 0 {
-            return Turned::Refused(found.number, count);
+    for a in good_lines(text) {
+        match judge_entry(entry_of(a)) {
+            Ok(bytes) => wanted += bytes,
+            Err(refusal) => return Err(NotTurned::Refused(u8::from(refusal), count)),
         }
-        wanted += found.size;
-        used += size;
         count += 1;
     }
+    fit(wanted, room)
 }
 
 // What becomes of the lines of a string's good records, up to its first bad one, with so many bytes of output. What is left of the room
 // is counted, and not the bytes: no sum can wrap.
-pub(crate) fn judge_room(bytes: &[u8], room: usize) -> Turned
+pub(crate) fn judge_room(bytes: &[u8], room: usize) -> Result<usize, NotTurned>
     ensures { result ≡ done_if_fits (length (text_of (entries_read bytes.now))) room }
 {
     let mut part = fresh_part();
     let mut left = room;
-    let mut i: usize = 0;
-    while i < bytes.len() {
-        let step = take_byte(part, bytes[i]);
-        i += 1;
-        match step {
+    for &b in bytes {
+        match take_byte(part, b) {
             Step::Goes(p) => {
                 part = p;
             }
@@ -77,7 +67,7 @@ pub(crate) fn judge_room(bytes: &[u8], room: usize) -> Turned
                 part = fresh_part();
                 let size = line_size(e);
                 if left < size {
-                    return Turned::TooMany;
+                    return Err(NotTurned::TooMany);
                 }
                 left -= size;
             }
@@ -86,6 +76,5 @@ pub(crate) fn judge_room(bytes: &[u8], room: usize) -> Turned
             }
         }
     }
-    let used = room - left;
-    Turned::Done(used)
+    Ok(room - left)
 }

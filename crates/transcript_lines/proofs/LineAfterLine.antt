@@ -3,11 +3,12 @@
 use Prim.Native.Nat.{ℕ, zero, suc, ◌≤◌, ◌<◌}
 use native.Mathlib.Omega.{arith}
 use mathlib.Core.Path.{◌≡◌, refl, ap, ◌∙◌}
-use mathlib.Core.Bool.{Bool, true, false, true≢false}
+use mathlib.Core.Bool.{false, true≢false}
 use mathlib.Core.List.{List, [], ◌∷◌}
 use lib.ListN.{length, drop, length-drop}
 use Rattle.port_spec.specs.declared.Access.{Access}
 use Rattle.listing.specs.Line.{has_feed, front_line}
+use Rattle.listing.specs.Following.{is_good}
 use Rattle.listing.specs.declared.Front.{Front}
 use Rattle.listing.specs.declared.Front.TheVariants.{Good, Bad, Open}
 use Rattle.transcript_lines.specs.Lines.{entry_of}
@@ -47,12 +48,6 @@ first_taken (b ∷ t) =
 -- A good line at the front is taken, and then what is taken behind it.
 pub good_taken : (t : List ℕ) {a : Access} {n : ℕ} → front_line t ≡ Good a n → taking t ≡ more (entry_of a) (taking (drop n t))
 good_taken t e = first_taken t ∙ ap (by_front taking t) e
-
--- the front is a good line
-abbrev pub is_good : Front → Bool
-is_good (Good a n) = true
-is_good Bad = false
-is_good Open = false
 
 -- Where the front is no good line, nothing is taken.
 pub nothing_taken : (t : List ℕ) → is_good (front_line t) ≡ false → taking t ≡ nothing t

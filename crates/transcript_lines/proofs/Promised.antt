@@ -9,6 +9,7 @@ use mathlib.Core.List.{List, append-nil}
 use mathlib.Core.Logic.{◌↔◌, ◌≢◌}
 use lib.ListN.{length, take, drop}
 use lib.Seq.{take-append_seam, drop-append_seam}
+use Rattle.std.specs.Prelude.{Result, Ok, Err}
 use Rattle.words.proofs.Contracts.{Contract}
 use Rattle.transcript_spec.specs.InPlainWords.{first_places, later_places}
 use Rattle.transcript_spec.specs.Lists.{Lists, lists, size, entries_in, over, with_entries}
@@ -21,10 +22,10 @@ use Rattle.transcript_lines.specs.InPlainWords.{TookAs, TookAll, PutAs, PutAll}
 use Rattle.transcript_lines.specs.Lines.{entry_of, line, text_of}
 use Rattle.transcript_lines.specs.Putting.{is_written, text_after, PutLines}
 use Rattle.transcript_lines.specs.Taking.{Taking, taking, take_answer, is_taken, lists_after, TookLines}
-use Rattle.transcript_lines.specs.declared.LinesPut.{LinesPut}
-use Rattle.transcript_lines.specs.declared.LinesPut.TheVariants.{Written, Unsayable, NoBytes}
-use Rattle.transcript_lines.specs.declared.LinesTaken.{LinesTaken}
-use Rattle.transcript_lines.specs.declared.LinesTaken.TheVariants.{Taken, BadLine, NoPlaces}
+use Rattle.transcript_lines.specs.declared.NotPut.{NotPut}
+use Rattle.transcript_lines.specs.declared.NotPut.TheVariants.{Unsayable, NoBytes}
+use Rattle.transcript_lines.specs.declared.NotTaken.{NotTaken}
+use Rattle.transcript_lines.specs.declared.NotTaken.TheVariants.{BadLine, NoPlaces}
 use Rattle.transcript_lines.proofs.PutAnswers.{put_answers, puts_exactly}
 use Rattle.transcript_lines.proofs.TakeAnswers.{then_taken, take_answers, takes_exactly}
 use Rattle.transcript_lines.proofs.TakenLines.{nothing_there}
@@ -40,7 +41,7 @@ use Rattle.transcript_lines.proofs.taking.take_lines.Kinds as take_lines_kinds
 use Rattle.transcript_lines.proofs.taking.take_lines.Reads as take_lines
 
 -- ---- taking lines
-module _ {t : List ℕ} {l l' : Lists} {o : LinesTaken} (p : TookLines t l o l') where
+module _ {t : List ℕ} {l l' : Lists} {o : Result ℕ NotTaken} (p : TookLines t l o l') where
   -- The answer of `take_lines` is a, in numbers, exactly if a's row of `TookAs` holds: all lines are good and have places, all are good and
   -- have none (24), or a line is bad (27, with the good lines before it).
   pub take_exactly : (a : Transcribed) → taken_numbers o ≡ a ↔ TookAs t (size l) a
@@ -50,30 +51,30 @@ module _ {t : List ℕ} {l l' : Lists} {o : LinesTaken} (p : TookLines t l o l')
 
   lists_left : l' ≡ cond (is_taken o) (with_entries (taking t).entries l) l
   unfolding lists_after
-  lists_left = p.lists ∙ ap (λ (x : LinesTaken). cond (is_taken x) (with_entries (taking t).entries l) l) (sym p.answer)
+  lists_left = p.lists ∙ ap (λ (x : Result ℕ NotTaken). cond (is_taken x) (with_entries (taking t).entries l) l) (sym p.answer)
 
   -- With another number than 0 `take_lines` counts nothing, and leaves every place of the four lists.
   pub take_refused : (taken_numbers o).number ≢ 0 → ((taken_numbers o).count ≡ 0) × (l' ≡ l)
   take_refused = go o lists_left
     where
-      go : (x : LinesTaken) → l' ≡ cond (is_taken x) (with_entries (taking t).entries l) l → (taken_numbers x).number ≢ 0 →
+      go : (x : Result ℕ NotTaken) → l' ≡ cond (is_taken x) (with_entries (taking t).entries l) l → (taken_numbers x).number ≢ 0 →
           ((taken_numbers x).count ≡ 0) × (l' ≡ l)
-      go (Taken n) e d = absurd (d refl)
-      go (BadLine n) e d = (refl, e)
-      go NoPlaces e d = (refl, e)
+      go (Ok n) e d = absurd (d refl)
+      go (Err (BadLine n)) e d = (refl, e)
+      go (Err NoPlaces) e d = (refl, e)
 
   -- Where `take_lines` takes all lines, their entries stand in the lists' first places.
-  pub lists_filled : {n : ℕ} → o ≡ Taken n → l' ≡ with_entries (taking t).entries l
-  lists_filled e = lists_left ∙ ap (λ (x : LinesTaken). cond (is_taken x) (with_entries (taking t).entries l) l) e
+  pub lists_filled : {n : ℕ} → o ≡ Ok n → l' ≡ with_entries (taking t).entries l
+  lists_filled e = lists_left ∙ ap (λ (x : Result ℕ NotTaken). cond (is_taken x) (with_entries (taking t).entries l) l) e
 
   -- Where `take_lines` answers 0, the text is lines of entries, which are counted and stand in the lists' first places; the later ones are
   -- as they were.
   pub take_done : (taken_numbers o).number ≡ 0 → TookAll t l (taken_numbers o) l'
   take_done = go o refl
     where
-      all : (n : ℕ) → o ≡ Taken n → TookAll t l (taken_numbers (Taken n)) l'
+      all : (n : ℕ) → o ≡ Ok n → TookAll t l (taken_numbers (Ok n)) l'
       all n e =
-          let m = (take_answers t (size l) (Taken n)).0 (sym p.answer ∙ e) in
+          let m = (take_answers t (size l) (Ok n)).0 (sym p.answer ∙ e) in
           let es = m.0.entries in
           let left : l' ≡ with_entries es l =
           lists_filled e ∙ ap (λ (x : Taking). with_entries x.entries l) (then_taken m.0 nothing_there) in
@@ -90,10 +91,10 @@ module _ {t : List ℕ} {l l' : Lists} {o : LinesTaken} (p : TookLines t l o l')
                 ∙ ap (λ (k : ℕ). later_places k l) m.0.count;
           }
 
-      go : (x : LinesTaken) → o ≡ x → (taken_numbers x).number ≡ 0 → TookAll t l (taken_numbers x) l'
-      go (Taken n) e z = all n e
-      go (BadLine n) e z = absurd (omega (arith, z))
-      go NoPlaces e z = absurd (omega (arith, z))
+      go : (x : Result ℕ NotTaken) → o ≡ x → (taken_numbers x).number ≡ 0 → TookAll t l (taken_numbers x) l'
+      go (Ok n) e z = all n e
+      go (Err (BadLine n)) e z = absurd (omega (arith, z))
+      go (Err NoPlaces) e z = absurd (omega (arith, z))
 
   -- Whatever `take_lines` answers, each list is as long as it was.
   pub take_lengths : SameLengths l l'
@@ -102,16 +103,16 @@ module _ {t : List ℕ} {l l' : Lists} {o : LinesTaken} (p : TookLines t l o l')
       same : (taken_numbers o).number ≢ 0 → SameLengths l l'
       same d = subst (SameLengths l) (sym (take_refused d).1) (record { kinds = refl; registers = refl; lanes = refl; words = refl })
 
-      go : (x : LinesTaken) → o ≡ x → SameLengths l l'
-      go (Taken n) e =
-          let m = (take_answers t (size l) (Taken n)).0 (sym p.answer ∙ e) in
+      go : (x : Result ℕ NotTaken) → o ≡ x → SameLengths l l'
+      go (Ok n) e =
+          let m = (take_answers t (size l) (Ok n)).0 (sym p.answer ∙ e) in
           let few = ap (λ (x : Taking). length x.entries) (then_taken m.0 nothing_there) in
           subst (SameLengths l) (sym (lists_filled e)) (lengths_stay (taking t).entries l (omega (arith, few, m.0.count, m.1)))
-      go (BadLine n) e = same (λ z. omega (arith, z, ap (λ (y : LinesTaken). (taken_numbers y).number) e))
-      go NoPlaces e = same (λ z. omega (arith, z, ap (λ (y : LinesTaken). (taken_numbers y).number) e))
+      go (Err (BadLine n)) e = same (λ z. omega (arith, z, ap (λ (y : Result ℕ NotTaken). (taken_numbers y).number) e))
+      go (Err NoPlaces) e = same (λ z. omega (arith, z, ap (λ (y : Result ℕ NotTaken). (taken_numbers y).number) e))
 
 -- ---- putting lines
-module _ {l : Lists} {out out' : List ℕ} {o : LinesPut} (p : PutLines l out o out') where
+module _ {l : Lists} {out out' : List ℕ} {o : Result ℕ NotPut} (p : PutLines l out o out') where
   abbrev entries : List Entry
   entries = entries_in l
 
@@ -124,30 +125,30 @@ module _ {l : Lists} {out out' : List ℕ} {o : LinesPut} (p : PutLines l out o 
 
   text_left : out' ≡ cond (is_written o) (over (text_of entries) out) out
   unfolding text_after
-  text_left = p.text ∙ ap (λ (x : LinesPut). cond (is_written x) (over (text_of entries) out) out) (sym p.answer)
+  text_left = p.text ∙ ap (λ (x : Result ℕ NotPut). cond (is_written x) (over (text_of entries) out) out) (sym p.answer)
 
   -- With another number than 0 `put_lines` counts nothing, and leaves every byte.
   pub put_refused : (put_numbers o).number ≢ 0 → ((put_numbers o).count ≡ 0) × (out' ≡ out)
   put_refused = go o text_left
     where
-      go : (x : LinesPut) → out' ≡ cond (is_written x) (over (text_of entries) out) out → (put_numbers x).number ≢ 0 →
+      go : (x : Result ℕ NotPut) → out' ≡ cond (is_written x) (over (text_of entries) out) out → (put_numbers x).number ≢ 0 →
           ((put_numbers x).count ≡ 0) × (out' ≡ out)
-      go (Written n) e d = absurd (d refl)
-      go (Unsayable k) e d = (refl, e)
-      go NoBytes e d = (refl, e)
+      go (Ok n) e d = absurd (d refl)
+      go (Err (Unsayable k)) e d = (refl, e)
+      go (Err NoBytes) e d = (refl, e)
 
   -- Where `put_lines` writes all lines, they stand in the text's first bytes.
-  pub text_filled : {n : ℕ} → o ≡ Written n → out' ≡ over (text_of entries) out
-  text_filled e = text_left ∙ ap (λ (x : LinesPut). cond (is_written x) (over (text_of entries) out) out) e
+  pub text_filled : {n : ℕ} → o ≡ Ok n → out' ≡ over (text_of entries) out
+  text_filled e = text_left ∙ ap (λ (x : Result ℕ NotPut). cond (is_written x) (over (text_of entries) out) out) e
 
   -- Where `put_lines` answers 0, a line can say each entry; the bytes of the lines are counted, these stand in the first bytes, and the
   -- later ones are as they were.
   pub put_done : (put_numbers o).number ≡ 0 → PutAll l out (put_numbers o) out'
   put_done = go o refl
     where
-      all : (n : ℕ) → o ≡ Written n → PutAll l out (put_numbers (Written n)) out'
+      all : (n : ℕ) → o ≡ Ok n → PutAll l out (put_numbers (Ok n)) out'
       all n e =
-          let m = (put_answers entries (length out) (Written n)).0 (sym p.answer ∙ e) in
+          let m = (put_answers entries (length out) (Ok n)).0 (sym p.answer ∙ e) in
           record {
             says = m.0;
             count = m.1;
@@ -161,21 +162,21 @@ module _ {l : Lists} {out out' : List ℕ} {o : LinesPut} (p : PutLines l out o 
                 ∙ drop-append_seam (text_of entries) _ ∙ ap (λ (k : ℕ). drop k out) (sym m.1);
           }
 
-      go : (x : LinesPut) → o ≡ x → (put_numbers x).number ≡ 0 → PutAll l out (put_numbers x) out'
-      go (Written n) e z = all n e
-      go (Unsayable k) e z = absurd (omega (arith, z))
-      go NoBytes e z = absurd (omega (arith, z))
+      go : (x : Result ℕ NotPut) → o ≡ x → (put_numbers x).number ≡ 0 → PutAll l out (put_numbers x) out'
+      go (Ok n) e z = all n e
+      go (Err (Unsayable k)) e z = absurd (omega (arith, z))
+      go (Err NoBytes) e z = absurd (omega (arith, z))
 
   -- Whatever `put_lines` answers, there are as many bytes as there were.
   pub put_length : length out' ≡ length out
   put_length = go o refl
     where
-      go : (x : LinesPut) → o ≡ x → length out' ≡ length out
-      go (Written n) e =
-          let m = (put_answers entries (length out) (Written n)).0 (sym p.answer ∙ e) in
+      go : (x : Result ℕ NotPut) → o ≡ x → length out' ≡ length out
+      go (Ok n) e =
+          let m = (put_answers entries (length out) (Ok n)).0 (sym p.answer ∙ e) in
           ap length (text_filled e) ∙ over_length (text_of entries) out (omega (arith, m.1, m.2))
-      go (Unsayable k) e = ap length (put_refused (λ z. omega (arith, z, ap (λ (y : LinesPut). (put_numbers y).number) e))).1
-      go NoBytes e = ap length (put_refused (λ z. omega (arith, z, ap (λ (y : LinesPut). (put_numbers y).number) e))).1
+      go (Err (Unsayable k)) e = ap length (put_refused (λ z. omega (arith, z, ap (λ (y : Result ℕ NotPut). (put_numbers y).number) e))).1
+      go (Err NoBytes) e = ap length (put_refused (λ z. omega (arith, z, ap (λ (y : Result ℕ NotPut). (put_numbers y).number) e))).1
 
 -- ---- the contracts themselves: each is a statement on the call's own arguments
 -- `entry_of` takes any a, and all that its contract allows is `entry_of` of it.

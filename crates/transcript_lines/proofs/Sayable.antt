@@ -6,7 +6,7 @@ use mathlib.Core.Bool.{Bool, true, false, true≢false, cond, not, ◌&&◌, ◌
 use mathlib.Core.Logic.{◌⊎◌, inl, inr, ◌↔◌}
 use lib.Dec.{eqb, ltb}
 use borrow.Author.Tests.{eqb-true, eqb-false, eq-eqb, ltb-false, le-ltb}
-use Rattle.words.proofs.Choices.{either_way, both_false}
+use Rattle.std.proofs.lemmas.Bool.{cases_Bool, or_parts}
 use Rattle.port_spec.specs.declared.Access.{Access}
 use Rattle.port_spec.specs.declared.Access.TheVariants.{Read, Write}
 use Rattle.listing.specs.Spelled.{Sayable}
@@ -23,7 +23,7 @@ of_read_is k w e z = eqb-true w 0 (go (eqb w 0) (rw (eq-eqb k 0 z) at e))
     go false h = cc
 
 of_read_test : (k w : ℕ) → (k ≡ 0 → w ≡ 0) → eqb k 0 && not (eqb w 0) ≡ false
-of_read_test k w h = go (either_way (eqb k 0))
+of_read_test k w h = go (cases_Bool (eqb k 0))
   where
     go : (eqb k 0 ≡ true) ⊎ (eqb k 0 ≡ false) → eqb k 0 && not (eqb w 0) ≡ false
     go (inl e) = rw (e, eq-eqb w 0 (h (eqb-true k 0 e))) refl
@@ -38,10 +38,10 @@ sayable_when e = (to, from)
     to : (ltb 65535 e.word || (ltb 1 e.kind || (eqb e.kind 0 && not (eqb e.word 0)))) ||
         (ltb 9 e.register || ltb 9 e.lanes) ≡ false → HasLine e
     to h =
-        let p = both_false _ _ h in
-        let q = both_false _ _ p.0 in
-        let r = both_false _ _ q.1 in
-        let s = both_false _ _ p.1 in
+        let p = or_parts _ _ h in
+        let q = or_parts _ _ p.0 in
+        let r = or_parts _ _ q.1 in
+        let s = or_parts _ _ p.1 in
         record {
           kind = ltb-false 1 e.kind r.0;
           register = ltb-false 9 e.register s.0;
@@ -65,7 +65,7 @@ sayable_when e = (to, from)
 -- No line can say an entry exactly if it is not so that its kind is 0 or 1, its register and its lanes have one digit, and its word 16
 -- bits, and is 0 for a read.
 pub unsayable_when : (e : Entry) → unsayable e ≡ true ↔ (HasLine e → ⊥)
-unsayable_when e = (λ h s. true≢false (sym h ∙ (sayable_when e).1 s), go (either_way (unsayable e)))
+unsayable_when e = (λ h s. true≢false (sym h ∙ (sayable_when e).1 s), go (cases_Bool (unsayable e)))
   where
     go : (unsayable e ≡ true) ⊎ (unsayable e ≡ false) → (HasLine e → ⊥) → unsayable e ≡ true
     go (inl h) none = h
@@ -103,7 +103,7 @@ same_entry e k w p q =
 -- An entry that a line can say is that of its access, and a line can ask for this access.
 pub said_entry : (e : Entry) → unsayable e ≡ false → Sayable (access_of e) × (entry_of (access_of e) ≡ e)
 unfolding access_of
-said_entry e h = go ((sayable_when e).0 h) (either_way (eqb e.kind 0))
+said_entry e h = go ((sayable_when e).0 h) (cases_Bool (eqb e.kind 0))
   where
     go : HasLine e → (eqb e.kind 0 ≡ true) ⊎ (eqb e.kind 0 ≡ false) →
         Sayable (cond (eqb e.kind 0) (Read e.register e.lanes) (Write e.register e.lanes e.word)) ×

@@ -9,22 +9,23 @@ use mathlib.Core.Logic.{◌⊎◌, inl, inr, ◌↔◌, ◌≢◌}
 use lib.Dec.{eqb}
 use lib.ListN.{length}
 use borrow.Author.Tests.{eqb-true, eqb-false, ne_eqb, lt-ltb, le-ltb}
-use Rattle.words.proofs.Choices.{either_way, less_or_not}
+use Rattle.std.specs.Prelude.{Result, Ok, Err}
+use Rattle.std.proofs.lemmas.Bool.{cases_Bool, cases_lt}
 use Rattle.transcript_spec.specs.declared.Transcribed.{Transcribed}
 use Rattle.transcript_lines.specs.InNumbers.{taken_numbers}
 use Rattle.transcript_lines.specs.InPlainWords.{NoGoodLine, LinesThen, BadLineAt, TookAs}
 use Rattle.transcript_lines.specs.InPlainWords as plain
 use Rattle.transcript_lines.specs.Lines.{text_of}
 use Rattle.transcript_lines.specs.Taking.{Taking, taking, taking_judged, take_answer}
-use Rattle.transcript_lines.specs.declared.LinesTaken.{LinesTaken}
-use Rattle.transcript_lines.specs.declared.LinesTaken.TheVariants.{Taken, BadLine, NoPlaces}
+use Rattle.transcript_lines.specs.declared.NotTaken.{NotTaken}
+use Rattle.transcript_lines.specs.declared.NotTaken.TheVariants.{BadLine, NoPlaces}
 use Rattle.transcript_lines.proofs.TakenLines.{nothing_there, text_taken, only_taken}
 
 -- what an answer of `take_lines` says of a text and of the places for its entries, by its case
-abbrev pub TakeMeans : List ℕ → ℕ → LinesTaken → Type 0
-TakeMeans t room (Taken n) = LinesThen t n [] × (n ≤ room)
-TakeMeans t room (BadLine n) = BadLineAt t n
-TakeMeans t room NoPlaces = (n : ℕ) × LinesThen t n [] × (room < n)
+abbrev pub TakeMeans : List ℕ → ℕ → Result ℕ NotTaken → Type 0
+TakeMeans t room (Ok n) = LinesThen t n [] × (n ≤ room)
+TakeMeans t room (Err (BadLine n)) = BadLineAt t n
+TakeMeans t room (Err NoPlaces) = (n : ℕ) × LinesThen t n [] × (room < n)
 
 -- ---- what is so is answered
 
@@ -44,23 +45,23 @@ empty : (u : List ℕ) → length u ≡ 0 → u ≡ []
 empty [] e = refl
 empty (b ∷ u) e = absurd (omega (arith, e))
 
-answered : (t : List ℕ) (room : ℕ) (o : LinesTaken) → TakeMeans t room o → take_answer t room ≡ o
-answered t room (Taken n) h = judged_is room h.0 nothing_there ∙ rw (h.0.count, le-ltb room n h.1) refl
-answered t room (BadLine n) h =
+answered : (t : List ℕ) (room : ℕ) (o : Result ℕ NotTaken) → TakeMeans t room o → take_answer t room ≡ o
+answered t room (Ok n) h = judged_is room h.0 nothing_there ∙ rw (h.0.count, le-ltb room n h.1) refl
+answered t room (Err (BadLine n)) h =
     let some : length h.left ≢ 0 = λ e. h.some (empty h.left e) in
     judged_is room h.good h.bad ∙ rw (ne_eqb (length h.left) 0 some, h.good.count) refl
-answered t room NoPlaces h = judged_is room h.1 nothing_there ∙ rw (h.1.count, lt-ltb room h.0 h.2) refl
+answered t room (Err NoPlaces) h = judged_is room h.1 nothing_there ∙ rw (h.1.count, lt-ltb room h.0 h.2) refl
 
 -- ---- one of them is so
 
 is_so : (t : List ℕ) (room : ℕ) → TakeMeans t room (take_answer t room)
 is_so t room =
-    go (either_way (eqb (length (taking t).left) 0)) (less_or_not room (length (taking t).entries))
+    go (cases_Bool (eqb (length (taking t).left) 0)) (cases_lt room (length (taking t).entries))
   where
     n : ℕ
     n = length (taking t).entries
 
-    so : (o : LinesTaken) → TakeMeans t room o → TakeMeans t room (take_answer t room)
+    so : (o : Result ℕ NotTaken) → TakeMeans t room o → TakeMeans t room (take_answer t room)
     so o h = subst (TakeMeans t room) (sym (answered t room o h)) h
 
     lines : (u : List ℕ) → (taking t).left ≡ u → LinesThen t n u
@@ -74,10 +75,10 @@ is_so t room =
 
     go : (eqb (length (taking t).left) 0 ≡ true) ⊎ (eqb (length (taking t).left) 0 ≡ false) → (room < n) ⊎ (n ≤ room) →
         TakeMeans t room (take_answer t room)
-    go (inl e) (inl more) = so NoPlaces (n, lines [] (empty (taking t).left (eqb-true (length (taking t).left) 0 e)), more)
-    go (inl e) (inr fits) = so (Taken n) (lines [] (empty (taking t).left (eqb-true (length (taking t).left) 0 e)), fits)
+    go (inl e) (inl more) = so (Err NoPlaces) (n, lines [] (empty (taking t).left (eqb-true (length (taking t).left) 0 e)), more)
+    go (inl e) (inr fits) = so (Ok n) (lines [] (empty (taking t).left (eqb-true (length (taking t).left) 0 e)), fits)
     go (inr e) m =
-        so (BadLine n)
+        so (Err (BadLine n))
         (record {
           left = (taking t).left;
           good = lines (taking t).left refl;
@@ -87,19 +88,19 @@ is_so t room =
 
 -- Each case of what `take_lines` answers is given exactly if it is so: all lines are good and have places, all are good and there are too
 -- many, or a line is bad, behind so many good ones (`TakeMeans`).
-pub take_answers : (t : List ℕ) (room : ℕ) (o : LinesTaken) → take_answer t room ≡ o ↔ TakeMeans t room o
+pub take_answers : (t : List ℕ) (room : ℕ) (o : Result ℕ NotTaken) → take_answer t room ≡ o ↔ TakeMeans t room o
 take_answers t room o = (λ e. subst (TakeMeans t room) e (is_so t room), answered t room o)
 
 -- ---- in numbers
-took_as : (t : List ℕ) (room : ℕ) (o : LinesTaken) → TakeMeans t room o → TookAs t room (taken_numbers o)
-took_as t room (Taken n) m = plain.TookAs.done m.0 m.1
-took_as t room (BadLine n) m = plain.TookAs.bad_line m
-took_as t room NoPlaces m = plain.TookAs.no_places m.1 m.2
+took_as : (t : List ℕ) (room : ℕ) (o : Result ℕ NotTaken) → TakeMeans t room o → TookAs t room (taken_numbers o)
+took_as t room (Ok n) m = plain.TookAs.done m.0 m.1
+took_as t room (Err (BadLine n)) m = plain.TookAs.bad_line m
+took_as t room (Err NoPlaces) m = plain.TookAs.no_places m.1 m.2
 
 took_says : (t : List ℕ) (room : ℕ) (a : Transcribed) → TookAs t room a → taken_numbers (take_answer t room) ≡ a
-took_says t room _ (plain.TookAs.done {n} g h) = ap taken_numbers ((take_answers t room (Taken n)).1 (g, h))
-took_says t room _ (plain.TookAs.no_places {n} g h) = ap taken_numbers ((take_answers t room NoPlaces).1 (n, g, h))
-took_says t room _ (plain.TookAs.bad_line {n} b) = ap taken_numbers ((take_answers t room (BadLine n)).1 b)
+took_says t room _ (plain.TookAs.done {n} g h) = ap taken_numbers ((take_answers t room (Ok n)).1 (g, h))
+took_says t room _ (plain.TookAs.no_places {n} g h) = ap taken_numbers ((take_answers t room (Err NoPlaces)).1 (n, g, h))
+took_says t room _ (plain.TookAs.bad_line {n} b) = ap taken_numbers ((take_answers t room (Err (BadLine n))).1 b)
 
 -- The numbers of what `take_lines` answers are a exactly if a's row of `TookAs` holds.
 pub takes_exactly : (t : List ℕ) (room : ℕ) (a : Transcribed) → taken_numbers (take_answer t room) ≡ a ↔ TookAs t room a
@@ -107,7 +108,7 @@ takes_exactly t room a =
     (λ e. subst (TookAs t room) e (took_as t room (take_answer t room) (is_so t room)), took_says t room a)
 
 -- The number of an answer of `take_lines` is 0, 24 or 27.
-pub take_number : (o : LinesTaken) → let n = (taken_numbers o).number in (n ≡ 0) ⊎ ((n ≡ 24) ⊎ (n ≡ 27))
-take_number (Taken n) = inl refl
-take_number (BadLine n) = inr (inr refl)
-take_number NoPlaces = inr (inl refl)
+pub take_number : (o : Result ℕ NotTaken) → let n = (taken_numbers o).number in (n ≡ 0) ⊎ ((n ≡ 24) ⊎ (n ≡ 27))
+take_number (Ok n) = inl refl
+take_number (Err (BadLine n)) = inr (inr refl)
+take_number (Err NoPlaces) = inr (inl refl)

@@ -9,6 +9,7 @@ use lib.ListN.{length, drop, length-drop}
 use lib.Seq.{drop_at}
 use Rattle.port_spec.specs.declared.Access.{Access}
 use Rattle.listing.specs.Line.{has_feed, front_line}
+use Rattle.listing.specs.Following.{is_good}
 use Rattle.listing.specs.Spelled.{lines_of}
 use Rattle.listing.specs.declared.Front.{Front}
 use Rattle.listing.specs.declared.Front.TheVariants.{Good, Bad, Open}
@@ -18,7 +19,7 @@ use Rattle.transcript_lines.specs.Lines.{entry_of, access_of, unsayable, line, t
 use Rattle.transcript_lines.specs.Taking.{Taking, nothing, more, by_front, takes, taking}
 use Rattle.transcript_lines.proofs.Sayable.{entry_said, said_entry}
 use Rattle.transcript_lines.proofs.FirstLine.{whole, good_front, begins}
-use Rattle.transcript_lines.proofs.LineAfterLine.{good_taken, is_good, nothing_taken}
+use Rattle.transcript_lines.proofs.LineAfterLine.{good_taken, nothing_taken}
 
 -- the entries es before what else is taken
 abbrev pub behind : List Entry → Taking → Taking

@@ -10,15 +10,15 @@
 --   is_taken o           the answer of a call that is done
 --   lists_after t l      the lent lists afterwards
 --   TookLines            these, as the contract of the call
-use Rattle.std.specs.Prelude.{ℕ, zero, suc, ◌≡◌, Bool, true, false, cond, List, [], ◌∷◌, eqb, ltb, length, drop}
+use Rattle.std.specs.Prelude.{ℕ, zero, suc, ◌≡◌, Bool, true, false, cond, List, [], ◌∷◌, eqb, ltb, length, drop, Result, Ok, Err}
 use Rattle.listing.specs.Line.{front_line}
 use Rattle.listing.specs.declared.Front.{Front}
 use Rattle.listing.specs.declared.Front.TheVariants.{Good, Bad, Open}
 use Rattle.transcript_spec.specs.Lists.{Lists, size, with_entries}
 use Rattle.transcript_spec.specs.declared.Entry.{Entry}
 use Rattle.transcript_lines.specs.Lines.{entry_of}
-use Rattle.transcript_lines.specs.declared.LinesTaken.{LinesTaken}
-use Rattle.transcript_lines.specs.declared.LinesTaken.TheVariants.{Taken, BadLine, NoPlaces}
+use Rattle.transcript_lines.specs.declared.NotTaken.{NotTaken}
+use Rattle.transcript_lines.specs.declared.NotTaken.TheVariants.{BadLine, NoPlaces}
 
 pub record Taking : Type 0 where
   pub entries : List Entry
@@ -43,25 +43,25 @@ takes (suc n) t = by_front (takes n) t (front_line t)
 abbrev pub taking : List ℕ → Taking
 taking t = takes (length t) t
 
-abbrev pub taken_if_fits : ℕ → ℕ → LinesTaken
-taken_if_fits n room = cond (ltb room n) NoPlaces (Taken n)
+abbrev pub taken_if_fits : ℕ → ℕ → Result ℕ NotTaken
+taken_if_fits n room = cond (ltb room n) (Err NoPlaces) (Ok n)
 
 -- where something is left, its first line is bad
-abbrev pub taking_judged : Taking → ℕ → LinesTaken
-taking_judged x room = cond (eqb (length x.left) 0) (taken_if_fits (length x.entries) room) (BadLine (length x.entries))
+abbrev pub taking_judged : Taking → ℕ → Result ℕ NotTaken
+taking_judged x room = cond (eqb (length x.left) 0) (taken_if_fits (length x.entries) room) (Err (BadLine (length x.entries)))
 
-unfoldable pub take_answer : List ℕ → ℕ → LinesTaken
+unfoldable pub take_answer : List ℕ → ℕ → Result ℕ NotTaken
 take_answer t room = taking_judged (taking t) room
 
-abbrev pub is_taken : LinesTaken → Bool
-is_taken (Taken n) = true
-is_taken (BadLine n) = false
-is_taken NoPlaces = false
+abbrev pub is_taken : Result ℕ NotTaken → Bool
+is_taken (Ok n) = true
+is_taken (Err (BadLine n)) = false
+is_taken (Err NoPlaces) = false
 
 unfoldable pub lists_after : List ℕ → Lists → Lists
 lists_after t l = cond (is_taken (take_answer t (size l))) (with_entries (taking t).entries l) l
 
 -- what the call leaves: its answer, and the lists that it was lent
-pub record TookLines (t : List ℕ) (l : Lists) (o : LinesTaken) (l' : Lists) : Type 0 where
+pub record TookLines (t : List ℕ) (l : Lists) (o : Result ℕ NotTaken) (l' : Lists) : Type 0 where
   pub answer : o ≡ take_answer t (size l)
   pub lists : l' ≡ lists_after t l

@@ -11,22 +11,18 @@ pub use lines::{entry_of, line_size};
 pub use putting::put_lines;
 pub use taking::{judge_lines, take_lines};
 
-// What taking the lines of a text answers.
-#[derive(Clone, Copy)]
-pub enum LinesTaken {
-    // All lines are good: so many entries stand in the lists.
-    Taken(usize),
+// Why the lines of a text are not taken.
+#[derive(Clone, Copy, Debug, PartialEq, Eq)]
+pub enum NotTaken {
     // A line is bad, a last one without its line feed included: so many good ones stand before it.
     BadLine(usize),
     // All lines are good, and there are more of them than the shortest list has places.
     NoPlaces,
 }
 
-// What putting the lines of a list answers.
-#[derive(Clone, Copy)]
-pub enum LinesPut {
-    // A line says each entry: so many bytes stand in the text.
-    Written(usize),
+// Why the entries of a list are not put as lines.
+#[derive(Clone, Copy, Debug, PartialEq, Eq)]
+pub enum NotPut {
     // No line can say the entry with this index, the first such.
     Unsayable(usize),
     // A line can say each entry, and the lines have more bytes than the text.

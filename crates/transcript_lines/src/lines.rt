@@ -8,7 +8,6 @@ use digits::digit_for;
 use port_spec::Access;
 use transcript_lists::has_no_record;
 use transcript_spec::Entry;
-use words::either;
 
 // The entry that a line's access makes: a read has no word.
 pub fn entry_of(a: Access) -> Entry
@@ -29,16 +28,17 @@ pub fn entry_of(a: Access) -> Entry
             kind: 1,
             register,
             lanes,
-            word: word as u32,
+            word: u32::from(word),
         },
     }
 }
 
 // No line can say the entry.
+#[tactic(auto, unfolding(crate::specs::Lines::unsayable))]
 pub(crate) fn is_unsayable(e: Entry) -> bool
     ensures { result ≡ unsayable e }
 {
-    either(has_no_record(e), either(9 < e.register, 9 < e.lanes))
+    has_no_record(e) || 9 < e.register || 9 < e.lanes
 }
 
 // How many bytes the entry's line has, its line feed among them.
@@ -53,12 +53,8 @@ fn put_head(text: &mut [u8], at: usize, letter: u8, register: u8, lanes: u8, las
     requires { (at + 6 ≤ length text.old) × (register ≤ 9) × (lanes ≤ 9) }
     ensures { Put text.old at (head_text letter register lanes last) result text.new }
 {
-    text[at] = letter;
-    text[at + 1] = 32;
-    text[at + 2] = 48 + register;
-    text[at + 3] = 32;
-    text[at + 4] = 48 + lanes;
-    text[at + 5] = last;
+    let head = [letter, b' ', b'0' + register, b' ', b'0' + lanes, last];
+    text[at..at + 6].copy_from_slice(&head);
     at + 6
 }
 
@@ -67,15 +63,17 @@ fn put_word(text: &mut [u8], at: usize, word: u16) -> usize
     requires { at + 5 ≤ length text.old }
     ensures { Put text.old at (word_text word) result text.new }
 {
-    text[at] = digit_for(word / 4096);
-    text[at + 1] = digit_for(word / 256);
-    text[at + 2] = digit_for(word / 16);
-    text[at + 3] = digit_for(word);
-    text[at + 4] = 10;
+    text[at..at + 5].copy_from_slice(&[
+        digit_for(word / 4096),
+        digit_for(word / 256),
+        digit_for(word / 16),
+        digit_for(word),
+        b'\n',
+    ]);
     at + 5
 }
 
-// Puts the entry's line into a text from a place on, and answers the place after it. `R` is 82, `W` is 87.
+// Puts the entry's line into a text from a place on, and answers the place after it.
 pub(crate) fn put_line(text: &mut [u8], at: usize, e: Entry) -> usize
     requires { (at + length (line e) ≤ length text.old) × (unsayable e ≡ false) }
     ensures { Put text.old at (line e) result text.new }
@@ -83,9 +81,9 @@ pub(crate) fn put_line(text: &mut [u8], at: usize, e: Entry) -> usize
     let register = e.register as u8;
     let lanes = e.lanes as u8;
     if e.kind == 0 {
-        return put_head(text, at, 82, register, lanes, 10);
+        return put_head(text, at, b'R', register, lanes, b'\n');
     }
     let word = e.word as u16;
-    let middle = put_head(text, at, 87, register, lanes, 32);
+    let middle = put_head(text, at, b'W', register, lanes, b' ');
     put_word(text, middle, word)
 }

@@ -1,56 +1,73 @@
 -- What the contracts of the calls say, taken from the contracts themselves (`Contract`): each is a statement on the call's own arguments.
-use Prim.Native.Nat.{min}
+use Prim.Native.Nat.{◌<◌, ◌^◌}
 use mathlib.Core.Path.{◌≡◌}
-use Rattle.transcript_spec.specs.Lists.{entry_at, lists, with_entry}
+use lib.ListN.{length}
+use Rattle.transcript_spec.specs.InPlainWords.{first_places}
+use Rattle.transcript_spec.specs.Lists.{entry_at, entries_in, size, with_entry}
 use Rattle.transcript_spec.specs.Writing.{no_record}
+use Rattle.transcript_lists.specs.Lent.{lists_of, lists_in, entries_left, SameLists}
 use Rattle.words.proofs.Contracts.{Contract}
-use Rattle.transcript_lists.proofs.shortest.Kinds as shortest_kinds
-use Rattle.transcript_lists.proofs.shortest.Reads as shortest
-use Rattle.transcript_lists.proofs.entry_at.Kinds as entry_at_kinds
-use Rattle.transcript_lists.proofs.entry_at.Reads as entry_at
-use Rattle.transcript_lists.proofs.put_entry.Kinds as put_entry_kinds
-use Rattle.transcript_lists.proofs.put_entry.Reads as put_entry
+use Rattle.transcript_lists.proofs.Lists.len.Kinds as len_kinds
+use Rattle.transcript_lists.proofs.Lists.len.Reads as len
+use Rattle.transcript_lists.proofs.Lists.entry.Kinds as entry_kinds
+use Rattle.transcript_lists.proofs.Lists.entry.Reads as entry
+use Rattle.transcript_lists.proofs.Lists.first.Kinds as first_kinds
+use Rattle.transcript_lists.proofs.Lists.first.Reads as first
+use Rattle.transcript_lists.proofs.Lists.entries.Kinds as entries_kinds
+use Rattle.transcript_lists.proofs.Lists.entries.Reads as entries
+use Rattle.transcript_lists.proofs.ListsMut.len.Kinds as len_mut_kinds
+use Rattle.transcript_lists.proofs.ListsMut.len.Reads as len_mut
+use Rattle.transcript_lists.proofs.ListsMut.put.Kinds as put_kinds
+use Rattle.transcript_lists.proofs.ListsMut.put.Reads as put
 use Rattle.transcript_lists.proofs.has_no_record.Kinds as has_no_record_kinds
 use Rattle.transcript_lists.proofs.has_no_record.Reads as has_no_record
 
--- `shortest` takes any kinds, registers, lanes and words, and all that its contract allows is the least of the four (`min`).
-pub shortest_contract : Contract shortest_kinds.ps shortest_kinds.r shortest.Pre shortest.Post
+-- `len` takes any four lists, and all that its contract allows is how many entries they hold (`size`): the least of their lengths.
+pub len_contract : Contract len_kinds.ps len_kinds.r len.Pre len.Post
     (λ κs args n left.
-    let kinds = args.0 in
-    let registers = args.1.0 in
-    let lanes = args.1.1.0 in
-    let words = args.1.1.1.0 in
-    n ≡ min (min kinds registers) (min lanes words))
-shortest_contract = record { takes_any = λ κs args. tt; says = λ κs args n left p. p }
+    let list = args.0 in
+    n ≡ size (lists_of list))
+len_contract = record { takes_any = λ κs args. tt; says = λ κs args n left p. p }
 
--- `entry_at` takes any kinds, registers, lanes, words and i, and all that its contract allows is `entry_at` of them.
-pub entry_at_contract : Contract entry_at_kinds.ps entry_at_kinds.r entry_at.Pre entry_at.Post
+-- `entry` takes any four lists and any i, and all that its contract allows is `entry_at` of them.
+pub entry_contract : Contract entry_kinds.ps entry_kinds.r entry.Pre entry.Post
     (λ κs args e left.
-    let kinds = args.0 in
-    let registers = args.1.0 in
-    let lanes = args.1.1.0 in
-    let words = args.1.1.1.0 in
-    let i = args.1.1.1.1.0 in
-    e ≡ entry_at (lists kinds.now registers.now lanes.now words.now) i)
-entry_at_contract = record { takes_any = λ κs args. tt; says = λ κs args e left p. p }
+    let list = args.0 in
+    let i = args.1.0 in
+    e ≡ entry_at (lists_of list) i)
+entry_contract = record { takes_any = λ κs args. tt; says = λ κs args e left p. p }
 
--- `put_entry` takes any kinds, registers, lanes, words, i and e, and all that its contract allows is that the four lists are left as
--- `with_entry` of them.
-pub put_entry_contract : Contract put_entry_kinds.ps put_entry_kinds.r put_entry.Pre put_entry.Post
+-- `first` takes any four lists and any n, and all that its contract allows is their first n places (`first_places`).
+pub first_contract : Contract first_kinds.ps first_kinds.r first.Pre first.Post
+    (λ κs args l left.
+    let list = args.0 in
+    let n = args.1.0 in
+    lists_of l ≡ first_places n (lists_of list))
+first_contract = record { takes_any = λ κs args. tt; says = λ κs args l left p. p }
+
+-- `entries` takes any four lists, and all that its contract allows is that all their entries are left, and fewer than 2^62.
+pub entries_contract : Contract entries_kinds.ps entries_kinds.r entries.Pre entries.Post
+    (λ κs args s left.
+    let list = args.0 in
+    (entries_left s ≡ entries_in (lists_of list)) × (length (entries_left s) < 2 ^ 62))
+entries_contract = record { takes_any = λ κs args. tt; says = λ κs args s left p. p }
+
+-- The `len` of lists that are filled takes any four, and all that its contract allows is how many entries they hold (`size`), likewise.
+pub len_mut_contract : Contract len_mut_kinds.ps len_mut_kinds.r len_mut.Pre len_mut.Post
+    (λ κs args n left.
+    let list = args.0 in
+    n ≡ size (lists_in list.now))
+len_mut_contract = record { takes_any = λ κs args. tt; says = λ κs args n left p. p }
+
+-- `put` takes any four lists, i and e, and all that its contract allows is that the same four slices are left as `with_entry` of them.
+pub put_contract : Contract put_kinds.ps put_kinds.r put.Pre put.Post
     (λ κs args unit left.
-    let kinds = args.0 in
-    let kinds' = left.0 in
-    let registers = args.1.0 in
-    let registers' = left.1.0 in
-    let lanes = args.1.1.0 in
-    let lanes' = left.1.1.0 in
-    let words = args.1.1.1.0 in
-    let words' = left.1.1.1.0 in
-    let i = args.1.1.1.1.0 in
-    let e = args.1.1.1.1.1.0 in
-    lists kinds'.now registers'.now lanes'.now words'.now ≡
-    with_entry (lists kinds.now registers.now lanes.now words.now) i e)
-put_entry_contract = record { takes_any = λ κs args. tt; says = λ κs args unit left p. p }
+    let list = args.0 in
+    let list' = left.0 in
+    let i = args.1.0 in
+    let e = args.1.1.0 in
+    SameLists list.now list'.now × (lists_in list'.now ≡ with_entry (lists_in list.now) i e))
+put_contract = record { takes_any = λ κs args. tt; says = λ κs args unit left p. p }
 
 -- `has_no_record` takes any e, and all that its contract allows is `no_record` of it.
 pub has_no_record_contract : Contract has_no_record_kinds.ps has_no_record_kinds.r has_no_record.Pre has_no_record.Post

@@ -1,7 +1,8 @@
 -- What the contracts of the calls say, taken from the contracts themselves (`Contract`): each is a statement on the call's own arguments.
 use mathlib.Core.Path.{◌≡◌}
-use Rattle.transcript_spec.specs.Lists.{lists, with_each}
+use Rattle.transcript_spec.specs.Lists.{with_each}
 use Rattle.transcript_spec.specs.Reading.{cut_off, fresh, byte_taken}
+use Rattle.transcript_lists.specs.Lent.{lists_in, SameLists}
 use Rattle.transcript_scan.specs.Scan.{read_on, scanned, scanned_on}
 use Rattle.words.proofs.Contracts.{Contract}
 use Rattle.transcript_scan.proofs.filling.fill_on.Kinds as fill_on_kinds
@@ -17,22 +18,16 @@ use Rattle.transcript_scan.proofs.steps.take_byte.Reads as take_byte
 use Rattle.transcript_scan.proofs.steps.cut_off.Kinds as cut_off_kinds
 use Rattle.transcript_scan.proofs.steps.cut_off.Reads as cut_off
 
--- `fill_on` takes any begun, bytes, kinds, registers, lanes and words, and all that its contract allows is that the entries of `read_on`
--- are put into the four lists, one after the other (`with_each`).
+-- `fill_on` takes any begun, bytes and four lists, and all that its contract allows is that the entries of `read_on` are put into the same
+-- four lists, one after the other (`with_each`).
 pub fill_on_contract : Contract fill_on_kinds.ps fill_on_kinds.r fill_on.Pre fill_on.Post
     (λ κs args unit left.
     let begun = args.0 in
     let bytes = args.1.0 in
-    let kinds = args.1.1.0 in
-    let kinds' = left.1.1.0 in
-    let registers = args.1.1.1.0 in
-    let registers' = left.1.1.1.0 in
-    let lanes = args.1.1.1.1.0 in
-    let lanes' = left.1.1.1.1.0 in
-    let words = args.1.1.1.1.1.0 in
-    let words' = left.1.1.1.1.1.0 in
-    lists kinds'.now registers'.now lanes'.now words'.now ≡
-    with_each (lists kinds.now registers.now lanes.now words.now) 0 (read_on begun bytes.now).got)
+    let list = args.1.1.0 in
+    let list' = left.1.1.0 in
+    SameLists list.now list'.now ×
+    (lists_in list'.now ≡ with_each (lists_in list.now) 0 (read_on begun bytes.now).got))
 fill_on_contract = record { takes_any = λ κs args. tt; says = λ κs args unit left p. p }
 
 -- `scan_on` takes any begun and bytes, and all that its contract allows is `scanned_on` of them.

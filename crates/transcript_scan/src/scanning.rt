@@ -7,6 +7,8 @@ ghost use Rattle.transcript_scan.specs.Scan.{scanned, scanned_on};
 use crate::steps::{cut_off, fresh_part, take_byte};
 use transcript_spec::{Part, Step};
 
+// The refusal stays a number, 0 for none: `scanned_on` and `refusal_read`, on which the laws of the readers stand, name numbers.
+//
 // How far a string is read: how many good records it finishes, up to its first bad one; where the record begins that is read last, 0 if
 // that one was begun before the string; how many bytes are read; how far that record is read; and its refusal, or 0. Behind a bad record
 // nothing is read.
@@ -29,6 +31,7 @@ pub struct Scanned {
 }
 
 // Record after record, and of each the groups of its numbers, a byte each. The first bad record ends it, wherever it turns out to be bad.
+// (Two loops that count their place, left by a label: document 01 names this form for the longest run of whole good records.)
 pub fn scan_on(begun: Part, bytes: &[u8]) -> ScannedOn
     ensures { result ≡ scanned_on begun bytes.now }
 {
@@ -83,10 +86,9 @@ pub fn scan(bytes: &[u8]) -> Scanned
     ensures { result ≡ scanned bytes.now }
 {
     let found = scan_on(fresh_part(), bytes);
-    let part = found.part;
     Scanned {
         entries: found.entries,
         place: found.place,
-        refusal: refusal_at_end(found.refusal, part),
+        refusal: refusal_at_end(found.refusal, found.part),
     }
 }

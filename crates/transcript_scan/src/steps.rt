@@ -3,6 +3,7 @@ ghost use Rattle.std.specs.Prelude.{◌≡◌};
 ghost use Rattle.transcript_spec.specs.Reading.{none, fresh, with_group, grown, entry_said, head_read, word_read, byte_taken, cut_off};
 
 use transcript_spec::{Entry, Number, Part, Step};
+use words::Refusal;
 
 // A number before its first group.
 fn no_number() -> Number
@@ -23,10 +24,11 @@ pub fn fresh_part() -> Part
 }
 
 // A value with one group more. From 65,536 on it is over every limit and stays, so that it never wraps.
+#[tactic(auto, unfolding(transcript_spec::specs::Reading::with_group))]
 fn add_group(v: u32, g: u8) -> u32
     ensures { result ≡ with_group v g }
 {
-    if v < 65536 { v * 128 + g as u32 } else { v }
+    if v < 65536 { v * 128 + u32::from(g) } else { v }
 }
 
 // A number with one byte more. Its first byte tells whether it begins with a zero group.
@@ -61,40 +63,41 @@ fn entry_from(head: u32, word: u32) -> Entry
 }
 
 // A head whose last group is read: it is bad, or it is all of the record, or it calls for a word.
+#[tactic(auto, unfolding(transcript_spec::specs::Reading::head_read))]
 fn judge_head(n: Number) -> Step
     ensures { result ≡ head_read n }
 {
-    let head = n.value;
     if n.padded {
-        return Step::Bad(21);
+        return Step::Bad(u8::from(Refusal::LeadingZeroGroup));
     }
-    if 31 < head {
-        return Step::Bad(22);
+    if 31 < n.value {
+        return Step::Bad(u8::from(Refusal::OverLargeNumber));
     }
-    if head < 8 {
-        return Step::Bad(23);
+    if n.value < 8 {
+        return Step::Bad(u8::from(Refusal::NoLanes));
     }
-    if head % 2 == 0 {
-        return Step::Whole(entry_from(head, 0));
+    if n.value % 2 == 0 {
+        return Step::Whole(entry_from(n.value, 0));
     }
-    Step::Goes(Part::Word(head, no_number()))
+    Step::Goes(Part::Word(n.value, no_number()))
 }
 
 // A word whose last group is read, behind a head: it is bad, or the record is whole.
+#[tactic(auto, unfolding(transcript_spec::specs::Reading::word_read))]
 fn judge_word(head: u32, n: Number) -> Step
     ensures { result ≡ word_read head n }
 {
-    let word = n.value;
     if n.padded {
-        return Step::Bad(21);
+        return Step::Bad(u8::from(Refusal::LeadingZeroGroup));
     }
-    if 65535 < word {
-        return Step::Bad(22);
+    if 65535 < n.value {
+        return Step::Bad(u8::from(Refusal::OverLargeNumber));
     }
-    Step::Whole(entry_from(head, word))
+    Step::Whole(entry_from(head, n.value))
 }
 
 // One byte more of a record.
+#[tactic(auto, unfolding(transcript_spec::specs::Reading::byte_taken))]
 pub fn take_byte(p: Part, b: u8) -> Step
     ensures { result ≡ byte_taken p b }
 {
@@ -117,16 +120,17 @@ pub fn take_byte(p: Part, b: u8) -> Step
 }
 
 // The refusal of a record that the end of the string finds at this part: a number is cut off or missing. Between two records nothing is.
+// (A number and no Result: `cut_off` names numbers, and both callers put it into an answer's number as it is.)
 pub fn cut_off(p: Part) -> u8
     ensures { result ≡ cut_off p }
 {
     match p {
         Part::Head(n) => {
             if n.begun {
-                return 20;
+                return u8::from(Refusal::CutOff);
             }
             0
         }
-        Part::Word(_, _) => 20,
+        Part::Word(_, _) => u8::from(Refusal::CutOff),
     }
 }

@@ -5,7 +5,7 @@ use mathlib.Core.Path.{◌≡◌, refl, sym, ap, ◌∙◌, subst}
 use mathlib.Core.List.{List, [], ◌∷◌, ◌++◌, append_assoc}
 use mathlib.Core.Logic.{⊎_elim}
 use lib.ListN.{length, get_or, length-append}
-use Rattle.words.proofs.Choices.{less_or_not, same_or_not}
+use Rattle.std.proofs.lemmas.Bool.{cases_eq, cases_lt}
 use Rattle.transcript_spec.specs.Format.{head_of}
 use Rattle.transcript_spec.specs.InPlainWords.{Continued, Spelled, value_of, Unpadded, Spells, Good, GoodRecord, a_read, a_write}
 use Rattle.transcript_spec.specs.InPlainWords.{Sound, nothing, and_more, WriteHead, BadRecord, head_cut, head_bad, word_cut, word_bad}
@@ -39,7 +39,7 @@ front_number (b ∷ s) =
     ⊎_elim
     (λ h. whole (b ∷ []) s refl (record { first = []; last = b; all = refl; continued = tt; ends = h }))
     (one_byte b s (front_number s))
-    (less_or_not b 128)
+    (cases_lt b 128)
 
 -- A whole number has at least one byte.
 pub has_a_byte : (h : List ℕ) → Spelled h → 1 ≤ length h
@@ -95,8 +95,8 @@ module _ (s h rest : List ℕ) (e : s ≡ h ++ rest) (p : Spelled h) (d : Unpadd
       (let a = has_a_byte h p in let c = length-append h w in omega arith)
       (a_write (entry_good v (value_of w) l k x (λ y. absurd (omega arith))) o (says_head h (value_of w) p d k)
       (record { spelled = q; unpadded = z; value = refl })))
-      (less_or_not 65535 (value_of w)))
-      (same_or_not (get_or w 0 0) 128)
+      (cases_lt 65535 (value_of w)))
+      (cases_eq (get_or w 0 0) 128)
 
   front_write : v % 2 ≡ 1 → FrontNumber rest → FrontRecord s
   front_write o (cut c) = refuse 20 (word_cut rest (write_head o) c)
@@ -104,7 +104,7 @@ module _ (s h rest : List ℕ) (e : s ≡ h ++ rest) (p : Spelled h) (d : Unpadd
 
   front_good : FrontRecord s
   front_good =
-      ⊎_elim front_read (λ z. front_write (omega (arith, z)) (front_number rest)) (same_or_not (v % 2) 0)
+      ⊎_elim front_read (λ z. front_write (omega (arith, z)) (front_number rest)) (cases_eq (v % 2) 0)
 
 front_head : (s h rest : List ℕ) → s ≡ h ++ rest → Spelled h → FrontRecord s
 front_head s h rest e p =
@@ -114,9 +114,9 @@ front_head s h rest e p =
     (λ z. bad_head _ (plain.BadHead.padded z))
     (λ z. ⊎_elim
     (λ x. bad_head _ (plain.BadHead.over z x))
-    (λ x. ⊎_elim (λ y. bad_head _ (plain.BadHead.off_lanes z y)) (λ y. front_good s h rest e p z y x) (less_or_not (value_of h) 8))
-    (less_or_not 31 (value_of h)))
-    (same_or_not (get_or h 0 0) 128)
+    (λ x. ⊎_elim (λ y. bad_head _ (plain.BadHead.off_lanes z y)) (λ y. front_good s h rest e p z y x) (cases_lt (value_of h) 8))
+    (cases_lt 31 (value_of h)))
+    (cases_eq (get_or h 0 0) 128)
 
 front_record : (b : ℕ) (s : List ℕ) → FrontNumber (b ∷ s) → FrontRecord (b ∷ s)
 front_record b s (cut c) = bad 20 (head_cut c)

@@ -9,7 +9,7 @@ use mathlib.Core.Logic.{⊎_elim, ◌≢◌}
 use lib.ListN.{length, get_or, length-append}
 use borrow.Author.Tests.{lt-ltb, le-ltb}
 use Rattle.words.specs.Bytes.{AreBytes}
-use Rattle.words.proofs.Choices.{less_or_not}
+use Rattle.std.proofs.lemmas.Bool.{cases_lt}
 use Rattle.transcript_spec.specs.Format.{groups}
 use Rattle.transcript_spec.specs.InPlainWords.{Continued, Spelled, value_of, Spells}
 use Rattle.transcript_spec.proofs.Bytes.{bytes_none, bytes_cons, bytes_first}
@@ -39,8 +39,8 @@ few_groups v =
     ⊎_elim
     (λ k. omega (arith, ap length (two_groups v h k)))
     (λ large. omega (arith, ap length (three_groups v large)))
-    (less_or_not v 16384))
-    (less_or_not v 128)
+    (cases_lt v 16384))
+    (cases_lt v 128)
 
 -- ---- what some bytes spell, by how many there are
 value_one : (a : ℕ) → value_of (a ∷ []) ≡ a % 128
@@ -86,8 +86,8 @@ says_three v l h =
 pub groups_say : (v : ℕ) → v < 2097152 → Spells (groups v) v
 groups_say v h =
     ⊎_elim (says_one v)
-    (λ l. ⊎_elim (says_two v l) (λ k. says_three v k h) (less_or_not v 16384))
-    (less_or_not v 128)
+    (λ l. ⊎_elim (says_two v l) (λ k. says_three v k h) (cases_lt v 16384))
+    (cases_lt v 128)
 
 three_bytes : (a b c : ℕ) → a < 256 → b < 256 → c < 256 → AreBytes (a ∷ b ∷ c ∷ [])
 three_bytes a b c p q r = bytes_cons a (b ∷ c ∷ []) p (bytes_cons b (c ∷ []) q (bytes_cons c [] r bytes_none))
@@ -105,8 +105,8 @@ groups_bytes v h =
     (λ k.
     subst AreBytes (sym (three_groups v k))
     (three_bytes (128 + v / 16384) (128 + v / 128 % 128) (v % 128) (omega arith) (omega arith) (omega arith)))
-    (less_or_not v 16384))
-    (less_or_not v 128)
+    (cases_lt v 16384))
+    (cases_lt v 128)
 
 -- ---- whatever says a number is its groups
 -- Four groups or more, the first not 0, make 128^3 at least.

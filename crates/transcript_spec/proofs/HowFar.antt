@@ -9,7 +9,7 @@ use mathlib.Core.Logic.{◌⊎◌, inl, inr, ⊎_elim, ◌≢◌}
 use lib.Dec.{eqb}
 use lib.ListN.{length, length-append}
 use borrow.Author.Tests.{eq-eqb, ne_eqb, eqb-false}
-use Rattle.words.proofs.Choices.{either_way, same_or_not}
+use Rattle.std.proofs.lemmas.Bool.{cases_Bool, cases_eq}
 use Rattle.transcript_spec.specs.Reading.{Reading, byte_taken, fed, feed, feeds, cut_off, ended}
 use Rattle.transcript_spec.specs.declared.Step.{Step}
 use Rattle.transcript_spec.specs.declared.Step.TheVariants.{Goes, Whole, Bad}
@@ -31,7 +31,7 @@ step_further r (Bad n) = record { most = omega arith; all = λ _. refl; behind =
 
 byte_further : (r : Reading) (b : ℕ) → Further r 1 (feed r b)
 unfolding feed
-byte_further r b = ⊎_elim goes stays (either_way (eqb r.refusal 0))
+byte_further r b = ⊎_elim goes stays (cases_Bool (eqb r.refusal 0))
   where
     goes : eqb r.refusal 0 ≡ true →
         Further r 1 (cond (eqb r.refusal 0) (fed r.got r.from (r.next + 1) (byte_taken r.part b)) r)
@@ -51,7 +51,7 @@ byte_further r b = ⊎_elim goes stays (either_way (eqb r.refusal 0))
 -- Where nothing is refused in the end, nothing was before.
 pub good_before : (r : Reading) (s : List ℕ) → (feeds r s).refusal ≡ 0 → r.refusal ≡ 0
 good_before r s z =
-    ⊎_elim (λ e. e) (λ d. absurd (d (sym (ap (λ (x : Reading). x.refusal) (stays_refused r s d)) ∙ z))) (same_or_not r.refusal 0)
+    ⊎_elim (λ e. e) (λ d. absurd (d (sym (ap (λ (x : Reading). x.refusal) (stays_refused r s d)) ∙ z))) (cases_eq r.refusal 0)
 
 two_further : (r r' r'' : Reading) (k : ℕ) → Further r 1 r' → Further r' k r'' → (r''.refusal ≡ 0 → r'.refusal ≡ 0) → Further r (suc k) r''
 two_further r r' r'' k p q good =

@@ -8,7 +8,7 @@ use mathlib.Core.Logic.{⊎_elim}
 use lib.Dec.{ltb, eqb}
 use lib.ListN.{get_or}
 use borrow.Author.Tests.{lt-ltb, le-ltb, eq-eqb, ne_eqb}
-use Rattle.words.proofs.Choices.{less_or_not}
+use Rattle.std.proofs.lemmas.Bool.{cases_lt}
 use Rattle.transcript_spec.specs.Format.{head_of}
 use Rattle.transcript_spec.specs.InPlainWords.{Spelled, value_of, Padded, Unpadded, Spells, Good, BadHead, BadWord}
 use Rattle.transcript_spec.specs.InPlainWords as plain
@@ -39,7 +39,7 @@ module _ (s : List ℕ) (p : Spelled s) where
       ⊎_elim
       (λ q. lt-ltb limit (grown_by none s).value (omega (arith, k.below q)))
       (λ q. lt-ltb limit (grown_by none s).value (omega (arith, k.above q)))
-      (less_or_not (value_of s) 65536)
+      (cases_lt (value_of s) 65536)
 
   value_within : (limit : ℕ) → limit < 65536 → value_of s ≤ limit → (grown_by none s).value ≡ value_of s
   value_within limit l h = (keeps_value s).below (omega arith)

@@ -7,7 +7,7 @@ use mathlib.Core.List.{List, [], ◌∷◌, ◌++◌, append_assoc}
 use mathlib.Core.Logic.{⊎_elim, ◌≢◌}
 use lib.ListN.{length, take, length-append, length-take}
 use Rattle.words.specs.Bytes.{AreBytes}
-use Rattle.words.proofs.Choices.{same_or_not}
+use Rattle.std.proofs.lemmas.Bool.{cases_eq}
 use Rattle.transcript_spec.specs.InPlainWords.{Continued, Spelled, BadHead, BadWord, WriteHead}
 use Rattle.transcript_spec.specs.InPlainWords.{BadRecord, head_cut, head_bad, word_cut, word_bad}
 use Rattle.transcript_spec.specs.InPlainWords as plain
@@ -67,7 +67,7 @@ bad_alike b s t h l p q =
     ⊎_elim
     (λ z. (21, plain.BadWord.padded z, plain.BadWord.padded z))
     (λ d. (22, too_large b s h l p d, too_large b t h l q d))
-    (same_or_not b 128)
+    (cases_eq b 128)
 
 -- it ends with the first number of what follows
 goes_on : (s v h rest : List ℕ) (n : ℕ) → Continued s → v ≡ h ++ rest → Spelled h → BadWord (s ++ h) n → NoWord (s ++ v) n

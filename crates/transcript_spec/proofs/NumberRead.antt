@@ -10,7 +10,7 @@ use mathlib.Core.Logic.{⊎_elim}
 use lib.Dec.{eqb}
 use lib.ListN.{length}
 use borrow.Author.Tests.{lt-ltb, le-ltb}
-use Rattle.words.proofs.Choices.{less_or_not}
+use Rattle.std.proofs.lemmas.Bool.{cases_lt}
 use Rattle.transcript_spec.specs.InPlainWords.{value_of}
 use Rattle.transcript_spec.specs.Reading.{none, with_group, grown}
 use Rattle.transcript_spec.specs.declared.Number.{Number}
@@ -86,7 +86,7 @@ kept n (b ∷ s) =
     let w : 65536 ≤ unlimited (grown n b).value s =
     subst (λ (v : ℕ). 65536 ≤ unlimited v s) (sym (stays n.value (b % 128) h)) (omega arith) in
     record { below = λ q. absurd (omega arith); above = λ q. k.above w })
-    (less_or_not n.value 65536)
+    (cases_lt n.value 65536)
 
 -- Of a number of any length the reader keeps its value below 65,536, and a value of at least 65,536 otherwise: it never wraps.
 pub keeps_value : (s : List ℕ) → Kept (grown_by none s) (value_of s)

@@ -7,7 +7,7 @@ use mathlib.Core.List.{List, [], ◌∷◌, ◌++◌}
 use mathlib.Core.Logic.{⊎_elim}
 use lib.Dec.{eqb}
 use Rattle.words.specs.Bytes.{AreBytes}
-use Rattle.words.proofs.Choices.{same_or_not}
+use Rattle.std.proofs.lemmas.Bool.{cases_eq}
 use Rattle.transcript_spec.specs.Format.{head_of, groups, record_of, transcript_of}
 use Rattle.transcript_spec.specs.InPlainWords.{Good, AllGood, GoodRecord, a_read, a_write, Sound, nothing, and_more}
 use Rattle.transcript_spec.specs.declared.Entry.{Entry}
@@ -27,7 +27,7 @@ record_good e g =
     (λ d.
     let o : e.kind ≡ 1 = omega (arith, g.kind, d) in
     subst (λ (s : List ℕ). GoodRecord s e) (sym (of_write e o)) (a_write g o h (groups_say e.word (omega (arith, g.word)))))
-    (same_or_not e.kind 0)
+    (cases_eq e.kind 0)
 
 -- The transcript of good entries is good records, theirs.
 pub transcript_sound : (es : List Entry) → AllGood es → Sound (transcript_of es) es

@@ -9,7 +9,7 @@ use mathlib.Core.Logic.{⊎_elim, ◌↔◌}
 use lib.Dec.{eqb}
 use lib.ListN.{length}
 use borrow.Author.Tests.{lt-ltb, le-ltb, ne_eqb}
-use Rattle.words.proofs.Choices.{less_or_not}
+use Rattle.std.proofs.lemmas.Bool.{cases_lt}
 use Rattle.transcript_spec.specs.InPlainWords.{Sound, BadRecord, ReadAs}
 use Rattle.transcript_spec.specs.InPlainWords as plain
 use Rattle.transcript_spec.specs.Reading.{Reading, start, feeds, ended, entries_read, place_read, refusal_read, read_answer}
@@ -58,7 +58,7 @@ module _ (s : List ℕ) (room : ℕ) where
   some : Divided s → (o : Transcribed) × ReadAs s room o
   some (all_good es q) =
       ⊎_elim (λ h. (refused 24 0, plain.ReadAs.too_small q h)) (λ h. (accepted (length es), plain.ReadAs.done q h))
-      (less_or_not room (length es))
+      (cases_lt room (length es))
   some (then_bad es t u n e q b) = (refused n (length t), plain.ReadAs.bad_record e q b)
 
   -- The reader's answer is o exactly if o's row of `ReadAs` holds: the string is good records, with room for their entries or without it

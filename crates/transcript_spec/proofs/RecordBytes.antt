@@ -8,7 +8,7 @@ use mathlib.Core.Logic.{⊎_elim, ◌≢◌}
 use lib.Dec.{eqb}
 use lib.ListN.{length, length-append}
 use borrow.Author.Tests.{eq-eqb, ne_eqb}
-use Rattle.words.proofs.Choices.{same_or_not}
+use Rattle.std.proofs.lemmas.Bool.{cases_eq}
 use Rattle.transcript_spec.specs.Format.{head_of, groups, record_of}
 use Rattle.transcript_spec.specs.InPlainWords.{Good}
 use Rattle.transcript_spec.specs.declared.Entry.{Entry}
@@ -42,4 +42,4 @@ module _ (e : Entry) where
       ⊎_elim
       (λ h. omega (arith, head, few_groups e.word, length_of_write h))
       (λ h. omega (arith, head, ap length (of_other h)))
-      (same_or_not e.kind 1)
+      (cases_eq e.kind 1)

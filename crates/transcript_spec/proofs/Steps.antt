@@ -9,7 +9,7 @@ use mathlib.Core.Logic.{⊎_elim, ◌↔◌}
 use lib.Dec.{ltb}
 use lib.ListN.{get_or}
 use borrow.Author.Tests.{lt-ltb, le-ltb, eq-eqb, ne_eqb}
-use Rattle.words.proofs.Choices.{less_or_not, same_or_not}
+use Rattle.std.proofs.lemmas.Bool.{cases_eq, cases_lt}
 use Rattle.transcript_spec.specs.Format.{head_of}
 use Rattle.transcript_spec.specs.InNumbers.{StepNumbers, step_numbers, HeadAs, WordAs}
 use Rattle.transcript_spec.specs.InNumbers as plain
@@ -53,7 +53,7 @@ module _ (first : List ℕ) (b : ℕ) (c : Continued first) where
       (λ h.
       let k = last_continued p.first p.last (subst Continued p.all (continued_more first b c h)) in
       absurd (omega (arith, k, p.ends)))
-      (less_or_not b 128)
+      (cases_lt b 128)
 
   spelled : b < 128 → Spelled s
   spelled h = record { first = first; last = b; all = refl; continued = c; ends = h }
@@ -108,7 +108,7 @@ module _ (first : List ℕ) (b : ℕ) (c : Continued first) where
               write = omega (arith, z);
             }),
       ))
-      (same_or_not (value_of s % 2) 0)
+      (cases_eq (value_of s % 2) 0)
 
   some_head : (a : StepNumbers) × HeadAs s a
   some_head =
@@ -120,11 +120,11 @@ module _ (first : List ℕ) (b : ℕ) (c : Continued first) where
       (λ k. ⊎_elim
       (λ l. (_, plain.HeadAs.bad (spelled h) (BadHead.off_lanes d l)))
       (λ l. good_head h d l k)
-      (less_or_not (value_of s) 8))
-      (less_or_not 31 (value_of s)))
-      (same_or_not (get_or s 0 0) 128))
+      (cases_lt (value_of s) 8))
+      (cases_lt 31 (value_of s)))
+      (cases_eq (get_or s 0 0) 128))
       (λ h. (_, plain.HeadAs.goes_on (continued_more first b c h)))
-      (less_or_not b 128)
+      (cases_lt b 128)
 
   -- Of a head and one byte more, the numbers of what `take_byte` answers are these exactly if their row of `HeadAs` holds: the head goes
   -- on, it is bad, it is a good one of a read, which is then whole, or a good one of a write.
@@ -154,10 +154,10 @@ module _ (first : List ℕ) (b : ℕ) (c : Continued first) where
         (λ d. ⊎_elim
         (λ k. (_, plain.WordAs.bad (spelled l) (BadWord.over d k)))
         (λ k. (_, plain.WordAs.of_write (record { spelled = spelled l; unpadded = d; value = refl }) k))
-        (less_or_not 65535 (value_of s)))
-        (same_or_not (get_or s 0 0) 128))
+        (cases_lt 65535 (value_of s)))
+        (cases_eq (get_or s 0 0) 128))
         (λ l. (_, plain.WordAs.goes_on (continued_more first b c l)))
-        (less_or_not b 128)
+        (cases_lt b 128)
 
     -- Of a word and one byte more, behind the head h, the numbers of what `take_byte` answers are these exactly if their row of `WordAs`
     -- holds: the word goes on, it is bad, or it is good, and its write whole.

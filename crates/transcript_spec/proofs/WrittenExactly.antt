@@ -11,7 +11,7 @@ use lib.Dec.{ltb, eqb}
 use lib.ListN.{length}
 use borrow.Author.Tests.{lt-ltb, le-ltb, eq-eqb, ne_eqb}
 use Rattle.words.specs.Bytes.{are_lanes}
-use Rattle.words.proofs.Choices.{less_or_not, same_or_not}
+use Rattle.std.proofs.lemmas.Bool.{cases_eq, cases_lt}
 use Rattle.words.proofs.Lanes.{lanes_named}
 use Rattle.transcript_spec.specs.Format.{transcript_of}
 use Rattle.transcript_spec.specs.InPlainWords.{Good, AllGood, Written}
@@ -45,7 +45,7 @@ module _ (e : Entry) where
       let k = le-ltb 1 e.kind g.kind in
       record_decides false g.register g.a_lane g.lanes
       (⊎_elim (λ z. rw (w, k, eq-eqb e.kind 0 z, eq-eqb e.word 0 (g.read z))) (λ d. rw (w, k, ne_eqb e.kind 0 d))
-      (same_or_not e.kind 0))
+      (cases_eq e.kind 0))
 
   or_true : (s : Bool) → (s || true) ≡ true
   or_true true = refl
@@ -83,22 +83,22 @@ module _ (e : Entry) where
       (λ z. ⊎_elim
       (λ q. inl (record { kind = k; register = r; a_lane = a; lanes = l; word = w; read = λ _. q }))
       (λ d. inr (_, read_with_word r a l z d))
-      (same_or_not e.word 0))
+      (cases_eq e.word 0))
       (λ d. inl (record { kind = k; register = r; a_lane = a; lanes = l; word = w; read = λ z. absurd (d z) }))
-      (same_or_not e.kind 0))
-      (less_or_not 1 e.kind))
-      (less_or_not 65535 e.word)
+      (cases_eq e.kind 0))
+      (cases_lt 1 e.kind))
+      (cases_lt 65535 e.word)
 
   with_register : e.register ≤ 3 → Judged
   with_register r =
       ⊎_elim
       (λ z. inr (_, no_lanes r (inl z)))
-      (λ d. ⊎_elim (λ h. inr (_, no_lanes r (inr h))) (λ l. with_lanes r (omega (arith, d)) l) (less_or_not 3 e.lanes))
-      (same_or_not e.lanes 0)
+      (λ d. ⊎_elim (λ h. inr (_, no_lanes r (inr h))) (λ l. with_lanes r (omega (arith, d)) l) (cases_lt 3 e.lanes))
+      (cases_eq e.lanes 0)
 
   -- Every entry is good, or bad with 2, 3 or 22.
   pub good_or_bad : Judged
-  good_or_bad = ⊎_elim (λ h. inr (_, no_register h)) with_register (less_or_not 3 e.register)
+  good_or_bad = ⊎_elim (λ h. inr (_, no_register h)) with_register (cases_lt 3 e.register)
 
 -- An entry that is not refused is good.
 pub passes_good : (e : Entry) → entry_refusal e ≡ 0 → Good e
@@ -160,7 +160,7 @@ module _ (es : List Entry) (room : ℕ) where
       ⊎_elim
       (λ h. (refused 24 0, plain.Written.too_small g h))
       (λ h. (accepted (length (transcript_of es)), plain.Written.done g h))
-      (less_or_not room (length (transcript_of es)))
+      (cases_lt room (length (transcript_of es)))
   some (then_bad xs ys e n q g b) = (refused n (length xs), plain.Written.bad_entry xs ys q g b)
 
   -- The writer's answer is o exactly if o's row of `Written` holds: all entries are good and fit, all are good and do not fit (24), or an

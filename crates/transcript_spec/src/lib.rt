@@ -14,6 +14,7 @@ pub struct Entry {
 
 // What the writer and the reader answer. `count` is the bytes that were written, or the entries that were read. A refused call has count
 // 0, and `place` is that of the first bad record: its index for the writer, its first byte for the reader; 0 under number 24.
+// (`number` stays a number, 0 for none: the laws `writer_exactly` and `reader_exactly` speak of it.)
 #[derive(Clone, Copy)]
 pub struct Transcribed {
     pub number: u8,
@@ -21,7 +22,8 @@ pub struct Transcribed {
     pub place: usize,
 }
 
-// A number that is being read, group by group.
+// A number that is being read, group by group. (Marks and no Option: `take_delivery` promises an answer for any stream, also one with a
+// number that has not begun and has a value all the same.)
 #[derive(Clone, Copy)]
 pub struct Number {
     // Some of its bytes were read.
@@ -41,13 +43,13 @@ pub enum Part {
     Word(u32, Number),
 }
 
-// What a byte makes of a part.
+// What a byte makes of a part. (Each caller tells the three cases apart at once: a Result of an Option would be matched twice.)
 #[derive(Clone, Copy)]
 pub enum Step {
     // The record goes on.
     Goes(Part),
     // It is whole and good: the entry that it stands for.
     Whole(Entry),
-    // It is bad: the number with which it is refused.
+    // It is bad: the number with which it is refused, as `head_read` and `word_read` give it.
     Bad(u8),
 }

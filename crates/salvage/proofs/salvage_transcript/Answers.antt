@@ -12,7 +12,7 @@ copied n s out e h =
     ap (λ (m : ℕ). take (length (take n s)) (take n s) ++ drop m out) h
 
 pub returns-then-sound-n : goal.returns-then-sound-n
-returns-then-sound-n c = too_small _ c.scan-found.ensures _ c.if-sound-n.true
+returns-then-sound-n c = rw (c.from.ensures) (too_small _ c.scan-found.ensures _ c.if-sound-n.true)
 
 pub slice_bounds-copy_from_slice-end-3 : goal.slice_bounds-copy_from_slice-end-3
 slice_bounds-copy_from_slice-end-3 c = as_long _ c.scan-found.ensures

@@ -1,30 +1,16 @@
--- `transcript_lines::putting::judge_entries` meets its contract: each turn is one of those of `EntryByEntry`.
-use native.Mathlib.Omega.{arith}
-use mathlib.Core.Path.{sym, ◌∙◌}
-use Rattle.transcript_spec.specs.Lists.{lists}
-use Rattle.transcript_lines.proofs.EntryByEntry.{judged_start, judged_next, judged_unsayable, judged_all}
+-- `transcript_lines::putting::judge_entries` meets its contract, by the place of the first entry that no line can say (`EntryByEntry`).
+use mathlib.Core.Path.{sym, ap, ◌∙◌}
+use Rattle.transcript_spec.specs.Lists.{entries_in}
+use Rattle.transcript_lists.specs.Lent.{lists_of}
+use Rattle.transcript_lines.proofs.EntryByEntry.{answered, judged_at}
 use Rattle.transcript_lines.proofs.putting.judge_entries.Goals as goal
 
-pub loop-i-init : goal.loop-i-init
-loop-i-init c =
-    let a = c.args in
-    judged_start (lists a.kinds.now a.registers.now a.lanes.now a.words.now) a.done
+pub returns-in-Some : goal.returns-in-Some
+returns-in-Some c =
+    let es = entries_in (lists_of c.args.list) in
+    ap (answered c.args.done) (sym c.in-Some.is) ∙ judged_at c.args.done es c.find_unsayable.ensures
 
-pub returns-then-is_unsayable : goal.returns-then-is_unsayable
-returns-then-is_unsayable c =
-    judged_unsayable c.loop-i.invariant c.shortest-n.ensures c.loop-i-test.true c.entry_at.ensures
-    (sym c.is_unsayable.ensures ∙ c.if-is_unsayable.true)
-
-pub overflow_add-i : goal.overflow_add-i
-overflow_add-i c = omega (arith, c.loop-i-test.true)
-
-pub loop-i-smaller : goal.loop-i-smaller
-loop-i-smaller c = omega (arith, c.loop-i-test.true)
-
-pub loop-i-preserved : goal.loop-i-preserved
-loop-i-preserved c =
-    judged_next c.loop-i.invariant c.shortest-n.ensures c.loop-i-test.true c.entry_at.ensures
-    (sym c.is_unsayable.ensures ∙ c.if-is_unsayable.false)
-
-pub returns : goal.returns
-returns c = judged_all c.loop-i.invariant c.shortest-n.ensures c.loop-i-test.false
+pub returns-in-None : goal.returns-in-None
+returns-in-None c =
+    let es = entries_in (lists_of c.args.list) in
+    ap (answered c.args.done) (sym c.in-None.is) ∙ judged_at c.args.done es c.find_unsayable.ensures

@@ -1,13 +1,9 @@
 -- `transcript_lines::taking::fill_lists` meets its contract: each turn is one of those of `Filling`.
-use Prim.Native.Nat.{◌-◌}
-use lib.ListN.{length}
-use Rattle.transcript_spec.specs.Lists.{lists}
+use Rattle.transcript_lists.specs.Lent.{lists_in, SameLists}
 use Rattle.transcript_lines.proofs.Filling.{Filled}
 use Rattle.transcript_lines.proofs.taking.fill_lists.Given as goal
 
 abbrev pub invariant-loop-a : goal.invariant-loop-a
 invariant-loop-a l =
-    Filled l.text (lists l.fn.kinds l.fn.registers l.fn.lanes l.fn.words) (lists l.kinds l.registers l.lanes l.words) l.used l.i
-
-abbrev pub decreases-loop-a : goal.decreases-loop-a
-decreases-loop-a l = length l.text - l.used
+    (goal.iterator-loop-a).can_next l.a-iterator × (goal.iterator-loop-a).is_finite l.a-iterator
+    × Filled l.text l.a-iterator.left.now (lists_in l.initial.list) (lists_in l.list) l.i × SameLists l.initial.list l.list

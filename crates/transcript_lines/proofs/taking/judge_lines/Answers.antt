@@ -1,39 +1,26 @@
 -- `transcript_lines::taking::judge_lines` meets its contract: each turn is one of those of `Turns`.
-use native.Mathlib.Omega.{arith}
-use mathlib.Core.Path.{sym}
-use borrow.Author.Tests.{lt-ltb, le-ltb}
-use Rattle.transcript_lines.proofs.Turns.{not_good, at_start, good_lies, one_more, ends_bad, ends_even}
+use mathlib.Core.Path.{◌≡◌, sym}
+use mathlib.Core.Logic.{◌≢◌}
+use lib.ListN.{length}
+use borrow.Author.Rules.{rules}
+use borrow.Author.Tests.{tests, lt-ltb, le-ltb}
+use Rattle.transcript_lines.proofs.Turns.{one_more, ends_bad, ends_even}
 use Rattle.transcript_lines.proofs.taking.judge_lines.Goals as goal
 
-pub loop-used-init : goal.loop-used-init
-loop-used-init c = at_start c.args.text.now
+pub loop-count-preserved : goal.loop-count-preserved
+loop-count-preserved c = one_more c.loop-count.invariant c.in-Some.ensures.steps
 
-pub slice_bounds-front_line-count : goal.slice_bounds-front_line-count
-slice_bounds-front_line-count c = c.loop-used.invariant.most
-
-pub returns-in_default : goal.returns-in_default
-returns-in_default c =
-    ends_bad c.loop-used.invariant c.front_line-line.ensures c.args.room c.loop-used-test.true
-    (not_good _ c.in_default.not-Good)
-
-pub overflow_add-used : goal.overflow_add-used
-overflow_add-used c =
-    let lies = good_lies c.loop-used.invariant c.front_line-line.ensures c.in-Good.is in
-    omega (arith, lies.1)
-
-pub loop-used-smaller : goal.loop-used-smaller
-loop-used-smaller c =
-    let lies = good_lies c.loop-used.invariant c.front_line-line.ensures c.in-Good.is in
-    omega (arith, lies.0, lies.1)
-
-pub loop-used-preserved : goal.loop-used-preserved
-loop-used-preserved c =
-    one_more c.loop-used.invariant c.front_line-line.ensures c.in-Good.is
+pub returns-then-not-is_empty : goal.returns-then-not-is_empty
+returns-then-not-is_empty c =
+    let some : length c.next.new.self.left.now ≢ 0 = search (rules, tests, c.if-not-is_empty.true, c.is_empty.ensures) in
+    ends_bad c.loop-count.invariant c.in_default.ensures.steps c.args.room some
 
 pub returns-then-room-count : goal.returns-then-room-count
 returns-then-room-count c =
-    rw (sym (ends_even c.loop-used.invariant c.args.room c.loop-used-test.false), lt-ltb _ _ c.if-room-count.true)
+    let none : length c.next.new.self.left.now ≡ 0 = search (rules, tests, c.if-not-is_empty.false, c.is_empty.ensures) in
+    rw (sym (ends_even c.loop-count.invariant c.in_default.ensures.steps c.args.room none), lt-ltb _ _ c.if-room-count.true)
 
 pub returns : goal.returns
 returns c =
-    rw (sym (ends_even c.loop-used.invariant c.args.room c.loop-used-test.false), le-ltb _ _ c.if-room-count.false)
+    let none : length c.next.new.self.left.now ≡ 0 = search (rules, tests, c.if-not-is_empty.false, c.is_empty.ensures) in
+    rw (sym (ends_even c.loop-count.invariant c.in_default.ensures.steps c.args.room none), le-ltb _ _ c.if-room-count.false)

@@ -1,7 +1,8 @@
 -- `transcript_scan::filling::fill_on` meets its contract: at each turn the entries so far are put into the lists.
-use Rattle.std.proofs.Common.{ℕ, ◌≡◌, ◌-◌, List, length}
-use Rattle.transcript_spec.specs.Lists.{Lists, lists, with_each}
+use Rattle.std.proofs.Common.{ℕ, ◌≡◌, List}
+use Rattle.transcript_spec.specs.Lists.{Lists, with_each}
 use Rattle.transcript_spec.specs.declared.Part.{Part}
+use Rattle.transcript_lists.specs.Lent.{lists_in, SameLists}
 use Rattle.transcript_scan.proofs.Counting.{Counting}
 use Rattle.transcript_scan.proofs.filling.fill_on.Given as goal
 
@@ -10,10 +11,7 @@ pub record Filling (p₀ : Part) (s : List ℕ) (l₀ l : Lists) (p : Part) (ent
   pub reads : Counting p₀ s p entries place i
   pub filled : l ≡ with_each l₀ 0 reads.got
 
-abbrev pub invariant-loop-i : goal.invariant-loop-i
-invariant-loop-i l =
-    Filling l.initial.part l.bytes (lists l.initial.kinds l.initial.registers l.initial.lanes l.initial.words)
-    (lists l.kinds l.registers l.lanes l.words) l.part l.entries l.i
-
-abbrev pub decreases-loop-i : goal.decreases-loop-i
-decreases-loop-i l = length l.bytes - l.i
+abbrev pub invariant-loop-b : goal.invariant-loop-b
+invariant-loop-b l =
+    Filling l.fn.begun l.bytes (lists_in l.initial.list) (lists_in l.list) l.part l.entries l.b-index ×
+    SameLists l.initial.list l.list
