@@ -7,12 +7,21 @@ mod records;
 mod whole;
 
 pub use filling::fill;
-pub use records::{places_lent, read_record};
+pub use records::{Records, all_records, places_lent, read_record};
+use std::error::Error;
+use std::fmt;
 pub use whole::fill_whole;
 
-// What a read leaves, or one after another: how many bytes there are then, and whether one failed.
-#[derive(Clone, Copy)]
-pub struct Filled {
+// A read failed, and brought nothing: there are as many bytes as before it.
+#[derive(Clone, Copy, Debug, PartialEq, Eq)]
+pub struct Unread {
     pub all: usize,
-    pub failed: bool,
 }
+
+impl fmt::Display for Unread {
+    fn fmt<W: fmt::Write>(&self, f: &mut fmt::Formatter<W>) -> fmt::Result {
+        write!(f, "the input can't be read to its end")
+    }
+}
+
+impl Error for Unread {}

@@ -1,9 +1,8 @@
 -- What the contract of `write_all` promises, said of any writer whose bytes are known; and that this is what it says, of its own arguments
 -- (`Contract`).
-use Rattle.std.proofs.Common.{◌≡◌, ℕ, ◌≤◌, ◌∙◌, List, ◌++◌, length, take, take_all, Some, ap, sym, arith}
+use Rattle.std.proofs.Common.{◌≡◌, ℕ, ◌≤◌, ◌∙◌, List, ◌++◌, length, take, take_all, Some, Result, Ok, Err, ap, sym, arith}
 use Rattle.output.specs.Writing.{Wrote}
-use Rattle.output.specs.declared.Written.{Written}
-use Rattle.output.specs.declared.Written.TheVariants.{Whole, ReaderGone, Refused}
+use Rattle.output.specs.declared.Stuck.{Stuck}
 use contract.BorrowLft.{◌⊑◌}
 use denote.Param.Laws.{Laws}
 use denote.RattleType.{RattleType}
@@ -14,15 +13,14 @@ use Rattle.output.proofs.write_all.Kinds as write_all_kinds
 use Rattle.output.proofs.write_all.Reads as write_all
 
 -- A text that was written whole stands behind what the writer held before, and nothing besides.
-pub whole_stands_behind : (t xs ys : List ℕ) → Wrote t (Some xs) Whole (Some ys) → ys ≡ xs ++ t
-whole_stands_behind t xs ys p = p
+pub whole_stands_behind : (t xs ys : List ℕ) (x : Unit) → Wrote t (Some xs) (Ok x) (Some ys) → ys ≡ xs ++ t
+whole_stands_behind t xs ys x p = p
 
 -- Whatever is answered, the first bytes of the text stand behind what the writer held before, as many as were taken, and nothing besides.
-pub front_stands_behind : (t xs ys : List ℕ) (w : Written) → Wrote t (Some xs) w (Some ys) →
+pub front_stands_behind : (t xs ys : List ℕ) (w : Result Unit Stuck) → Wrote t (Some xs) w (Some ys) →
     (n : ℕ) × (n ≤ length t) × (ys ≡ xs ++ take n t)
-front_stands_behind t xs ys Whole p = (length t, omega arith, p ∙ ap (λ (l : List ℕ). xs ++ l) (sym (take_all (length t) t (omega arith))))
-front_stands_behind t xs ys ReaderGone p = p
-front_stands_behind t xs ys Refused p = p
+front_stands_behind t xs ys (Ok x) p = (length t, omega arith, p ∙ ap (λ (l : List ℕ). xs ++ l) (sym (take_all (length t) t (omega arith))))
+front_stands_behind t xs ys (Err e) p = p
 
 module _ (W : RattleType) (laws : Laws W) (ghosts : writer.Ghosts W.Denot) (dict : Dict) where
   -- `write_all` takes any text and any writer of any type, if what the writer borrows outlives the loan of it, which the language sees to;

@@ -15,10 +15,10 @@ use Rattle.salvage_command.proofs.OnePiece.{by_parts}
 
 -- Where the bytes that were held stayed, and the bytes at hand are taken, that is a whole turn: what came is what stands behind those that
 -- were held.
-pub turn_taken : (p : Progress) (piece filled : List ℕ) (all : ℕ) {t : Taken} {piece' sound' : List ℕ} {more failed : Bool} →
+pub turn_taken : (p : Progress) (piece filled : List ℕ) (all : ℕ) {t : Taken} {piece' sound' : List ℕ} {more : Bool} →
     p.held ≤ all → all ≤ length filled → length filled ≡ length piece → take p.held filled ≡ take p.held piece →
     Took p (take all filled) t piece' sound' → more ≡ ltb 0 (all - p.held) →
-    SalvagedTurn p piece (record { progress = t.progress; wrote = t.wrote; more = more; failed = failed }) piece' sound'
+    SalvagedTurn p piece (record { taken = t; more = more }) piece' sound'
 turn_taken p piece filled all h k same front x m =
     let long = length-take-le all filled k in
     let behind = length-drop p.held (take all filled) in

@@ -49,13 +49,13 @@ pub record Took (p : Progress) (bytes : List ℕ) (t : Taken) (piece' sound' : L
 -- what came is `came`; no contract says which bytes that is
 pub record SalvagedTurn (p : Progress) (piece : List ℕ) (t : Turn) (piece' sound' : List ℕ) : Type 0 where
   pub came : List ℕ
-  pub progress : progress_of t.progress piece' ≡ piece_taken (progress_of p piece) came
-  pub written : take t.wrote sound' ≡ piece_written (progress_of p piece) came
-  pub fits : t.wrote ≤ length sound'
+  pub progress : progress_of t.taken.progress piece' ≡ piece_taken (progress_of p piece) came
+  pub written : take t.taken.wrote sound' ≡ piece_written (progress_of p piece) came
+  pub fits : t.taken.wrote ≤ length sound'
   pub more : t.more ≡ ltb 0 (length came)
-  pub few : t.progress.held ≤ 4
-  pub kept : t.progress.kept ≤ p.kept + length piece
-  pub gone : t.progress.gone ≤ p.gone + length piece
+  pub few : t.taken.progress.held ≤ 4
+  pub kept : t.taken.progress.kept ≤ p.kept + length piece
+  pub gone : t.taken.progress.gone ≤ p.gone + length piece
 
 pub record SoFar (p : Progress) (piece : List ℕ) : Type 0 where
   pub pieces : List (List ℕ)

@@ -8,51 +8,48 @@
 mod pieces;
 mod report;
 
-ghost use Rattle.std.specs.Prelude.{◌≡◌, length};
-ghost use Rattle.salvage_command.specs.Turning.{Room, SalvagedTurn};
+ghost use Rattle.std.specs.Prelude.{◌≡◌, length, IfOk, IfSome};
+ghost use Rattle.salvage_command.specs.Turning.{Room, SalvagedTurn, Tells};
 
-use input::fill;
-use output::{Written, write_all};
-use pieces::{Progress, take_piece};
-use report::{Report, say, say_stuck, say_unread};
+use input::{Unread, fill};
+use output::write_all;
+use pieces::{Progress, Taken, take_piece};
+use report::{Failed, Report, say};
 use std::io::{Stdin, Stdout};
 
-// What a turn leaves for the next one, besides the bytes that are held.
+// What a turn leaves. It is no Option: what was taken is written, whether or not more may follow.
 #[derive(Clone, Copy)]
 struct Turn {
-    progress: Progress,
-    // How many bytes are laid out to be written.
-    wrote: usize,
+    taken: Taken,
     // Whether anything came, so that more may follow.
     more: bool,
-    // Whether the read failed.
-    failed: bool,
 }
 
-// One turn: a piece comes, and what is kept of it is laid out to be written.
-fn take_turn(p: Progress, piece: &mut [u8], sound: &mut [u8], from: Stdin) -> Turn
+// One turn: a piece comes, and what is kept of it is laid out to be written. Where the read fails nothing came, and nothing is left to be
+// written: the bytes that are held are no whole record.
+fn take_turn(p: Progress, piece: &mut [u8], sound: &mut [u8], from: Stdin) -> Result<Turn, Unread>
     requires { Room p piece.old sound.old }
-    ensures { SalvagedTurn p piece.old result piece.new sound.new }
+    ensures { IfOk result (λ t. SalvagedTurn p piece.old t piece.new sound.new) }
 {
-    let held = p.held;
-    let filled = fill(piece, held, from);
-    let all = filled.all;
-    let came = all - held;
+    let all = fill(piece, p.held, from)?;
+    let came = all - p.held;
     let taken = take_piece(p, piece, sound, all);
-    let progress = taken.progress;
-    let wrote = taken.wrote;
-    Turn {
-        progress,
-        wrote,
+    Ok(Turn {
+        taken,
         more: 0 < came,
-        failed: filled.failed,
-    }
+    })
 }
 
-// Turn after turn. An empty piece is the last. A proved loop has to end, and nothing says that the input does: it counts its turns down,
-// from a number that no run uses up, and that keeps every count below 2^64.
-fn salvage(piece: &mut [u8], sound: &mut [u8], from: Stdin, mut to: Stdout)
+// Turn after turn. An empty piece is the last. A proved loop has to end, and nothing says that the input does: so it has a number of turns,
+// which no run uses up, and which keeps every count below 2^64.
+fn salvage(
+    piece: &mut [u8],
+    sound: &mut [u8],
+    from: Stdin,
+    mut to: Stdout,
+) -> Result<Option<Report>, Failed>
     requires { (length piece.old ≡ 65540) × (length sound.old ≡ 65540) }
+    ensures { IfOk result (λ r. IfSome r (λ x. Tells x)) }
 {
     let mut progress = Progress {
         kept: 0,
@@ -60,39 +57,31 @@ fn salvage(piece: &mut [u8], sound: &mut [u8], from: Stdin, mut to: Stdout)
         held: 0,
         stop: 0,
     };
-    let mut turns: u64 = 70368744177664;
-    while 0 < turns {
-        turns -= 1;
-        let turn = take_turn(progress, piece, sound, from);
-        progress = turn.progress;
-        let wrote = turn.wrote;
-        let written = write_all(&sound[..wrote], &mut to);
-        match written {
-            Written::Whole => {}
-            _ => {
-                say_stuck(written);
-                return;
-            }
-        }
-        if turn.failed {
-            say_unread();
-            return;
-        }
+    for _ in 0..70368744177664u64 {
+        let turn = take_turn(progress, piece, sound, from)?;
+        progress = turn.taken.progress;
+        write_all(&sound[..turn.taken.wrote], &mut to)?;
         if !turn.more {
-            let left = progress.gone + progress.held as u64;
-            say(Report {
+            return Ok(Some(Report {
                 kept: progress.kept,
-                left,
+                left: progress.gone + progress.held as u64,
                 stop: progress.stop,
-            });
-            return;
+            }));
         }
     }
+    Ok(None)
 }
 
 // Each holds a piece, and before it what is held of the piece before: four bytes at most.
 fn main(rt: HostRuntime) {
     let mut piece = [0u8; 65540];
     let mut sound = [0u8; 65540];
-    salvage(&mut piece, &mut sound, rt.stdin(), rt.stdout());
+    match salvage(&mut piece, &mut sound, rt.stdin(), rt.stdout()) {
+        Ok(Some(report)) => say(report, rt.stderr()),
+        Ok(None) => {}
+        Err(failed) => {
+            // Where standard error takes nothing there is nobody to tell.
+            let _ = eprintln!(rt; "salvage: {failed}");
+        }
+    }
 }

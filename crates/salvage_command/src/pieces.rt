@@ -1,13 +1,13 @@
 // One piece of an input that is salvaged piece by piece. What that means stands in crate `salvage_spec`, specs/Pieces, and that it ends
 // like the salvage of the whole in proofs/InPieces there.
-ghost use Rattle.std.specs.Prelude.{◌≡◌, ◌+◌, ◌<◌, ◌≤◌, true, length, take, drop};
+ghost use Rattle.std.specs.Prelude.{◌≡◌, ◌+◌, ◌<◌, ◌≤◌, true, take};
 ghost use Rattle.salvage_spec.specs.Pieces.{may_go_on};
 ghost use Rattle.salvage_command.specs.Turning.{held_count, leaving, Ready, Took};
 
 use salvage::salvage_transcript;
-use words::least;
 
-// How far an input is salvaged. The bytes that are held stand at the front of the piece.
+// How far an input is salvaged. The bytes that are held stand at the front of the piece. What stopped it stays a number, since the public
+// answer of `salvage_transcript` is one; so does what `goes_on` is asked.
 #[derive(Clone, Copy)]
 pub(crate) struct Progress {
     pub(crate) kept: u64,
@@ -27,10 +27,7 @@ pub(crate) struct Taken {
 fn goes_on(stop: u8) -> bool
     ensures { result ≡ may_go_on stop }
 {
-    if stop == 0 {
-        return true;
-    }
-    stop == 20
+    stop == 0 || stop == 20
 }
 
 // How many bytes are held for the next piece, of those that are left.
@@ -38,20 +35,9 @@ fn count_held(stop: u8, left: usize) -> usize
     ensures { result ≡ held_count stop left }
 {
     if goes_on(stop) {
-        return least(4, left);
+        return left.min(4);
     }
     0
-}
-
-// Moves n bytes, four at most, to the front: by way of four others, since the two places may overlap.
-fn move_to_front(piece: &mut [u8], from: usize, n: usize)
-    requires { (n ≤ 4) × (from + n ≤ length piece.old) }
-    ensures { take n piece.new ≡ take n (drop from piece.old) }
-{
-    let mut four = [0u8; 4];
-    let to = from + n;
-    four[..n].copy_from_slice(&piece[from..to]);
-    piece[..n].copy_from_slice(&four[..n]);
 }
 
 // Behind a bad record all is left: the first `all` bytes of the piece, but for those that are held.
@@ -62,10 +48,8 @@ fn leave_piece(p: Progress, all: usize) -> Taken
     let more = all - p.held;
     Taken {
         progress: Progress {
-            kept: p.kept,
             gone: p.gone + more as u64,
-            held: p.held,
-            stop: p.stop,
+            ..p
         },
         wrote: 0,
     }
@@ -82,7 +66,7 @@ fn salvage_piece(p: Progress, piece: &mut [u8], sound: &mut [u8], all: usize) ->
     let left = found.left - held;
     let kept = p.kept + found.kept as u64;
     let gone = p.gone + left as u64;
-    move_to_front(piece, wrote, held);
+    piece.copy_within(wrote..wrote + held, 0);
     Taken {
         progress: Progress {
             kept,

@@ -13,57 +13,78 @@
 mod messages;
 
 ghost use Rattle.std.specs.Prelude.{take};
+ghost use Rattle.input.specs.Filling.{there};
 ghost use Rattle.transcript_spec.specs.Lists.{lists};
 ghost use Rattle.transcript_command.specs.Ways.{TurnedTo, Named};
 ghost use Rattle.transcript_command.specs.Whole.{ReadToItsEnd, Writes};
 
-use input::{Filled, fill_whole};
-use messages::{say, say_stuck, say_too_long, say_unread};
-use output::{Written, write_all};
+use input::{Unread, fill_whole};
+use messages::{Failed, Place};
+use output::write_all;
 use std::env::Env;
 use std::io::{Stdin, Stdout};
-use transcript_exchange::{Turned, bytes_to_lines, lines_to_bytes};
+use transcript_exchange::{NotTurned, bytes_to_lines, lines_to_bytes};
 
-// The bytes that were read, turned: lines into a transcript, or else a transcript into lines. They must be the whole input.
+// What comes out.
+#[derive(Clone, Copy, Debug, PartialEq, Eq)]
+pub enum Way {
+    Bytes,
+    Lines,
+}
+
+// The way that an argument names.
+fn way_of(argument: &[u8]) -> Option<Way>
+    ensures { Named argument.now result }
+{
+    match argument {
+        b"bytes" => Some(Way::Bytes),
+        b"lines" => Some(Way::Lines),
+        _ => None,
+    }
+}
+
+// The bytes that were read, turned. They must be the whole input, as the reads answered it.
 fn turn(
-    to_bytes: bool,
-    filled: Filled,
+    way: Way,
+    read: Result<usize, Unread>,
     input: &[u8],
     kinds: &mut [u32],
     registers: &mut [u32],
     lanes: &mut [u32],
     words: &mut [u32],
     output: &mut [u8],
-) -> Turned
-    requires { ReadToItsEnd filled input.now }
-    ensures { TurnedTo to_bytes (take filled.all input.now)
+) -> Result<usize, NotTurned>
+    requires { ReadToItsEnd read input.now }
+    ensures { TurnedTo way (take (there read) input.now)
         (lists kinds.old registers.old lanes.old words.old)
         output.old result
         (lists kinds.new registers.new lanes.new words.new) output.new }
 {
-    let all = filled.all;
-    if to_bytes {
-        return lines_to_bytes(&input[..all], kinds, registers, lanes, words, output);
+    let all = read.unwrap();
+    match way {
+        Way::Bytes => lines_to_bytes(&input[..all], kinds, registers, lanes, words, output),
+        Way::Lines => bytes_to_lines(&input[..all], kinds, registers, lanes, words, output),
     }
-    bytes_to_lines(&input[..all], kinds, registers, lanes, words, output)
 }
 
-// Writes what the input was turned into; the input and its way are at hand to say which text that is. Where standard output takes no more,
-// that is said.
-fn write(to_bytes: bool, filled: Filled, input: &[u8], text: &[u8], mut to: Stdout)
-    requires { Writes to_bytes (take filled.all input.now) text.now }
+// Writes what the input was turned into; the input and its way are at hand to say which text that is.
+fn write(
+    way: Way,
+    read: Result<usize, Unread>,
+    input: &[u8],
+    text: &[u8],
+    mut to: Stdout,
+) -> Result<(), Failed>
+    requires { Writes way (take (there read) input.now) text.now }
 {
-    let written = write_all(text, &mut to);
-    match written {
-        Written::Whole => {}
-        _ => say_stuck(written),
-    }
+    write_all(text, &mut to)?;
+    Ok(())
 }
 
-// The input read, turned and written; or what is wrong with it is said. Input that fills its buffer may have more behind it, and is too
-// long.
+// The input read, turned and written; or what is wrong with it. Input that fills its buffer may have more behind it, and is too long. The
+// lists are four parameters, since the two calls that turn take them so.
 fn exchange(
-    to_bytes: bool,
+    way: Way,
     input: &mut [u8],
     kinds: &mut [u32],
     registers: &mut [u32],
@@ -72,82 +93,59 @@ fn exchange(
     output: &mut [u8],
     from: Stdin,
     to: Stdout,
-) {
-    let filled = fill_whole(input, from);
-    let failed = filled.failed;
-    if failed {
-        say_unread();
-        return;
+) -> Result<(), Failed> {
+    let read = fill_whole(input, from);
+    let all = read?;
+    if all == input.len() {
+        return Err(Failed::TooLong);
     }
-    if filled.all == input.len() {
-        say_too_long();
-        return;
-    }
-    let turned = turn(
-        to_bytes, filled, input, kinds, registers, lanes, words, output,
-    );
+    let turned = turn(way, read, input, kinds, registers, lanes, words, output);
     match turned {
-        Turned::Done(k) => write(to_bytes, filled, input, &output[..k], to),
-        _ => say(turned, to_bytes),
+        Ok(k) => write(way, read, input, &output[..k], to),
+        Err(NotTurned::BadLine(before)) => Err(Failed::BadLine(Place { way, before })),
+        Err(NotTurned::Refused(number, before)) => Err(Failed::Refused(
+            Place { way, before },
+            number,
+        )),
+        Err(NotTurned::TooMany) => Err(Failed::TooMany),
     }
-}
-
-// The way that an argument names.
-#[derive(Clone, Copy)]
-pub enum Way {
-    Bytes,
-    Lines,
-    Neither,
-}
-
-fn way_of(argument: &[u8]) -> Way
-    ensures { Named argument.now result }
-{
-    if check::same(argument, b"bytes") {
-        return Way::Bytes;
-    }
-    if check::same(argument, b"lines") {
-        return Way::Lines;
-    }
-    Way::Neither
 }
 
 // Each buffer has a byte more than the most that it may be filled with.
 fn main(rt: HostRuntime) {
     let mut argument = [0u8; 8];
-    let n = rt.arg(1, &mut argument).unwrap_or(0);
-    let way = way_of(&argument[..n]);
+    let named = match rt.arg(1, &mut argument) {
+        Ok(n) => way_of(&argument[..n]),
+        Err(_) => None,
+    };
     let mut text = [0u8; 360449];
     let mut bytes = [0u8; 131073];
     let mut kinds = [0u32; 32768];
     let mut registers = [0u32; 32768];
     let mut lanes = [0u32; 32768];
     let mut words = [0u32; 32768];
-    match way {
-        Way::Bytes => exchange(
-            true,
-            &mut text,
-            &mut kinds,
-            &mut registers,
-            &mut lanes,
-            &mut words,
-            &mut bytes,
-            rt.stdin(),
-            rt.stdout(),
-        ),
-        Way::Lines => exchange(
-            false,
-            &mut bytes,
-            &mut kinds,
-            &mut registers,
-            &mut lanes,
-            &mut words,
-            &mut text,
-            rt.stdin(),
-            rt.stdout(),
-        ),
-        Way::Neither => {
-            io::write_all(2, b"transcript: say bytes or lines\n");
+    let exchanged = match named {
+        Some(way) => {
+            let (input, output) = match way {
+                Way::Bytes => (&mut text[..], &mut bytes[..]),
+                Way::Lines => (&mut bytes[..], &mut text[..]),
+            };
+            exchange(
+                way,
+                input,
+                &mut kinds,
+                &mut registers,
+                &mut lanes,
+                &mut words,
+                output,
+                rt.stdin(),
+                rt.stdout(),
+            )
         }
+        None => Err(Failed::NoWay),
+    };
+    if let Err(failed) = exchanged {
+        // Where standard error takes nothing there is nobody to tell.
+        let _ = eprintln!(rt; "transcript: {failed}");
     }
 }

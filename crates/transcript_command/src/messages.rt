@@ -1,53 +1,69 @@
 // What is said on standard error of an input that is not turned, or not written.
-use output::Written;
-use transcript_exchange::Turned;
+use crate::Way;
+use input::Unread;
+use output::Stuck;
+use std::fmt;
 
-// A line, or else a byte, with so many before it: lines are counted from 1, bytes from 0.
-fn say_place(of_lines: bool, before: u64) {
-    if of_lines {
-        io::write_all(2, b"transcript: line ");
-        io::print_decimal(2, std::num::wrapping_add_u64(before, 1));
-    } else {
-        io::write_all(2, b"transcript: byte ");
-        io::print_decimal(2, before);
-    }
-    io::write_all(2, b": ");
+// A place in the input, with so many lines or bytes before it.
+#[derive(Clone, Copy, Debug, PartialEq, Eq)]
+pub(crate) struct Place {
+    pub(crate) way: Way,
+    pub(crate) before: usize,
 }
 
-// Where in the lines, or else in the bytes, and what is wrong there.
-pub(crate) fn say(turned: Turned, of_lines: bool) {
-    match turned {
-        Turned::Done(_) => {}
-        Turned::BadLine(k) => {
-            say_place(of_lines, k as u64);
-            io::write_all(2, b"bad line\n");
-        }
-        Turned::Refused(number, k) => {
-            say_place(of_lines, k as u64);
-            io::write_all(2, b"refused with ");
-            io::print_decimal(2, number as u64);
-            io::write_all(2, b"\n");
-        }
-        Turned::TooMany => {
-            io::write_all(2, b"transcript: more than 32768 accesses\n");
+// Lines are counted from 1, bytes from 0.
+impl fmt::Display for Place {
+    fn fmt<W: fmt::Write>(&self, f: &mut fmt::Formatter<W>) -> fmt::Result {
+        let before = self.before;
+        match self.way {
+            Way::Bytes => {
+                let line = before.wrapping_add(1);
+                write!(f, "line {line}")
+            }
+            Way::Lines => write!(f, "byte {before}"),
         }
     }
 }
 
-// More is there than 32,768 accesses ever have.
-pub(crate) fn say_too_long() {
-    io::write_all(2, b"transcript: input too long\n");
+// Why nothing was written, or not all of it.
+#[derive(Clone, Copy, Debug, PartialEq, Eq)]
+pub(crate) enum Failed {
+    // The argument names no way.
+    NoWay,
+    // The input can't be read to its end: nobody knows what would have followed.
+    Unread(Unread),
+    // More is there than 32,768 accesses ever have.
+    TooLong,
+    BadLine(Place),
+    // With the number of the refusal.
+    Refused(Place, u8),
+    TooMany,
+    // What was turned can't be written: nobody reads it any more, or the output takes no more for another reason.
+    Stuck(Stuck),
 }
 
-// The input can't be read to its end: nobody knows what would have followed.
-pub(crate) fn say_unread() {
-    io::write_all(2, b"transcript: the input can't be read to its end\n");
+impl fmt::Display for Failed {
+    fn fmt<W: fmt::Write>(&self, f: &mut fmt::Formatter<W>) -> fmt::Result {
+        match self {
+            Failed::NoWay => write!(f, "say bytes or lines"),
+            Failed::Unread(unread) => write!(f, "{unread}"),
+            Failed::TooLong => write!(f, "input too long"),
+            Failed::BadLine(place) => write!(f, "{place}: bad line"),
+            Failed::Refused(place, number) => write!(f, "{place}: refused with {number}"),
+            Failed::TooMany => write!(f, "more than 32768 accesses"),
+            Failed::Stuck(stuck) => write!(f, "{stuck}"),
+        }
+    }
 }
 
-// What was turned can't be written: nobody reads it any more, or the output takes no more for another reason.
-pub(crate) fn say_stuck(written: Written) {
-    match written {
-        Written::ReaderGone => io::write_all(2, b"transcript: the output's reader has gone\n"),
-        _ => io::write_all(2, b"transcript: the output takes no more\n"),
-    };
+impl From<Unread> for Failed {
+    fn from(unread: Unread) -> Failed {
+        Failed::Unread(unread)
+    }
+}
+
+impl From<Stuck> for Failed {
+    fn from(stuck: Stuck) -> Failed {
+        Failed::Stuck(stuck)
+    }
 }

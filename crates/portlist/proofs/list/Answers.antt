@@ -1,71 +1,40 @@
 -- `portlist::list` meets its contract: at each turn registers, memory and line begun are those of the pieces that came; the line begun
--- stays short, so that a read has room, and the lent parts keep their lengths.
+-- stays short, so that a read has room.
 use native.Mathlib.Omega.{arith}
-use mathlib.Core.Path.{refl, ap, ◌∙◌}
+use mathlib.Core.Path.{ap, subst}
 use lib.ListN.{take}
-use borrow.Author.Tests.{not-false}
+use Rattle.std.specs.Prelude.{Option, Ok}
 use Rattle.registers.specs.declared.Woken.{Woken}
-use Rattle.portlist.proofs.OneTurn.{took_short}
-use Rattle.portlist.proofs.Pieces.{nothing_yet, ran, ran_after, so_far_after}
+use Rattle.portlist.specs.Turning.{ListedTurn}
+use Rattle.portlist.specs.declared.Turn.{Turn}
+use Rattle.portlist.proofs.OneTurn.{next_short}
+use Rattle.portlist.proofs.Pieces.{nothing_yet, ran_after, so_far_after}
 use Rattle.portlist.proofs.list.Goals as goal
 
-pub loop-turns-init : goal.loop-turns-init
-loop-turns-init c =
+pub loop-init : goal.loop-init
+loop-init c =
     record {
-      so_far = nothing_yet (ap (λ (w : Woken). w.registers) c.reset-woken.ensures) c.requires.memory_value;
+      so_far = nothing_yet (ap (λ (w : Woken). w.registers) c.reset.ensures) c.requires;
       begun = omega arith;
-      memory_kept = refl;
-      input_kept = refl;
-      output_kept = refl;
     }
 
-pub take_turn-turn-requires : goal.take_turn-turn-requires
-take_turn-turn-requires c =
-    let k = c.loop-turns.invariant in
+pub returns-in_err-next : goal.returns-in_err-next
+returns-in_err-next c =
+    ran_after c.take_turn.result c.take_turn.new.input c.loop.invariant.so_far c.take_turn.ensures
+
+pub loop-preserved : goal.loop-preserved
+loop-preserved c =
+    let k = c.loop.invariant in
+    let before = c.loop in
+    let w =
+    subst
+    (λ (y : Option Turn).
+    ListedTurn before.turn.registers before.memory (take before.turn.have before.input) (Ok y) c.take_turn.new.memory
+    c.take_turn.new.input)
+    c.in-Some.is
+    c.in_ok-next.ensures
+    in
     record {
-      have_in_bounds = (
-        omega (arith, k.begun, c.requires.in_bounds.0, k.input_kept),
-        omega (arith, c.requires.in_bounds.1, k.input_kept, k.output_kept),
-      );
-      so_far = k.so_far;
+      so_far = so_far_after k.so_far w;
+      begun = next_short w.1.next;
     }
-
-pub shape_of-memory-then-not-turn : goal.shape_of-memory-then-not-turn
-shape_of-memory-then-not-turn c =
-    c.take_turn-turn.auto.memory ∙ c.loop-turns.invariant.memory_kept
-
-pub shape_of-input-then-not-turn : goal.shape_of-input-then-not-turn
-shape_of-input-then-not-turn c =
-    c.take_turn-turn.auto.input ∙ c.loop-turns.invariant.input_kept
-
-pub shape_of-output-then-not-turn : goal.shape_of-output-then-not-turn
-shape_of-output-then-not-turn c =
-    c.take_turn-turn.auto.output ∙ c.loop-turns.invariant.output_kept
-
-pub returns-then-not-turn : goal.returns-then-not-turn
-returns-then-not-turn c =
-    ran_after c.loop-turns.invariant.so_far c.take_turn-turn.ensures
-
-pub loop-turns-preserved : goal.loop-turns-preserved
-loop-turns-preserved c =
-    record {
-      so_far =
-          so_far_after c.loop-turns.invariant.so_far c.take_turn-turn.ensures
-          (not-false c.take_turn-turn.result.goes c.if-not-turn.false);
-      begun = took_short (take c.loop-turns.have c.loop-turns.input) c.take_turn-turn.ensures;
-      memory_kept = c.take_turn-turn.auto.memory ∙ c.loop-turns.invariant.memory_kept;
-      input_kept = c.take_turn-turn.auto.input ∙ c.loop-turns.invariant.input_kept;
-      output_kept = c.take_turn-turn.auto.output ∙ c.loop-turns.invariant.output_kept;
-    }
-
-pub shape_of-memory : goal.shape_of-memory
-shape_of-memory c = c.loop-turns.invariant.memory_kept
-
-pub shape_of-input : goal.shape_of-input
-shape_of-input c = c.loop-turns.invariant.input_kept
-
-pub shape_of-output : goal.shape_of-output
-shape_of-output c = c.loop-turns.invariant.output_kept
-
-pub returns : goal.returns
-returns c = ran c.loop-turns.invariant.so_far

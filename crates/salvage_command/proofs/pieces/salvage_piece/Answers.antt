@@ -1,6 +1,9 @@
 -- `salvage_command::pieces::salvage_piece` meets its contract: what is salvaged of the bytes at hand makes the progress and what is
 -- written.
 use native.Mathlib.Omega.{arith}
+use mathlib.Core.Path.{ap, ◌∙◌}
+use lib.ListN.{take}
+use Rattle.salvage_command.proofs.Fronts.{moved}
 use Rattle.salvage_command.proofs.OnePiece.{left_within, kept_within, held_within, held_there, salvaged}
 use Rattle.salvage_command.proofs.pieces.salvage_piece.Goals as goal
 
@@ -21,14 +24,9 @@ overflow_add-gone c =
     let ready = c.requires.0 in
     omega (arith, left_within _ _ _ _ ready c.salvage_transcript-found.ensures, ready.room.gone, ready.within)
 
-pub move_to_front-requires : goal.move_to_front-requires
-move_to_front-requires c =
-    let ready = c.requires.0 in (
-      (held_within _ _ _ _ ready c.salvage_transcript-found.ensures c.count_held-held.ensures).0,
-      held_there _ _ _ _ ready c.salvage_transcript-found.ensures c.count_held-held.ensures,
-    )
-
 pub returns : goal.returns
 returns c =
-    salvaged _ _ _ _ c.requires.0 c.salvage_transcript-found.ensures c.count_held-held.ensures _ c.move_to_front.ensures
-    c.requires.1
+    let ready = c.requires.0 in
+    let there = held_there _ _ _ _ ready c.salvage_transcript-found.ensures c.count_held-held.ensures in
+    let front = ap (take c.count_held-held.result) c.copy_within.ensures.after ∙ moved _ _ c.args.piece.now there in
+    salvaged _ _ _ _ ready c.salvage_transcript-found.ensures c.count_held-held.ensures _ front c.requires.1
