@@ -1,6 +1,6 @@
 // Source document 001's sample memory map: a TLC34075's registers at C0002000h to C00021FFh, DRAM from FF800000h to the end, VRAM at
 // 01800000h to 01FFFFFFh and at 01000000h to 017FFFFFh.
-use crate::calling::{decode, read_row, write};
+use crate::calling::{decode, read_each, write};
 use bank_spec::{Bank, BankPort, Banks};
 
 // BKAD0L, BKAD0H to BKAD3L, BKAD3H, then BKMSK0L, BKMSK0H to BKMSK3L, BKMSK3H.
@@ -28,13 +28,13 @@ const EDGES: [u32; 14] = [
 ];
 
 // Ordinary cycles, with ABE set.
-fn run_edges(b: Banks) {
-    for k in 0..14 {
-        decode(b, 0x0020, EDGES[k], 0);
+fn run_edges(rt: &impl Print, b: Banks) {
+    for &address in &EDGES {
+        decode(rt, b, 0x0020, address, 0);
     }
 }
 
-pub(crate) fn run_map() {
+pub(crate) fn run_map(rt: &impl Print) {
     // Registers that nobody has set.
     let unset = Bank {
         compare: 0xeeee_eeee,
@@ -49,9 +49,9 @@ pub(crate) fn run_map() {
         },
         index: 0,
     };
-    for k in 0..16 {
-        p = write(p, 3, HALVES[k]);
+    for &half in &HALVES {
+        p = write(rt, p, 3, half);
     }
-    run_edges(p.banks);
-    read_row(p, 16);
+    run_edges(rt, p.banks);
+    read_each(rt, p, &[3; 16]);
 }

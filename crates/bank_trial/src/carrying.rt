@@ -8,7 +8,8 @@ use bank::{decode, read_bank_port, write_bank_port};
 use bank_spec::{BankAnswer, BankPort};
 
 // What a record leaves: what the call answered, and the port.
-#[derive(Clone, Copy)]
+// (`number` is the call's own, 0 for none, and is printed as it is.)
+#[derive(Clone, Copy, Debug, PartialEq, Eq)]
 pub(crate) struct Left {
     pub number: u8,
     pub word: u16,
@@ -33,22 +34,21 @@ fn start(bytes: &[u8; 40]) -> Left
 fn leave_access(o: BankAnswer) -> Left
     ensures { result ≡ left_by_access o }
 {
-    let port = o.port;
     Left {
         number: o.number,
         word: o.word,
         selected: 0,
-        port,
+        port: o.port,
     }
 }
 
 // The record's decode. It changes nothing.
+#[tactic(auto, unfolding(crate::specs::CarriedOut::decoded_by))]
 fn decode_by(p: BankPort, bytes: &[u8; 40]) -> Left
     ensures { result ≡ decoded_by p bytes.now }
 {
-    let banks = p.banks;
     let o = decode(
-        banks,
+        p.banks,
         control_in(bytes),
         address_in(bytes),
         number_in(bytes),
@@ -62,6 +62,8 @@ fn decode_by(p: BankPort, bytes: &[u8; 40]) -> Left
 }
 
 // The record's call, whichever of the four it is.
+// (Its first byte says which, as main.rt has it: a kind of its own would be matched once, here.)
+#[tactic(auto, unfolding(crate::specs::CarriedOut::carried))]
 pub(crate) fn carry_record(p: BankPort, bytes: &[u8; 40]) -> Left
     ensures { result ≡ carried p bytes.now }
 {

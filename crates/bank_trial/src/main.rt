@@ -27,6 +27,6 @@ mod reading;
 mod selecting;
 mod turns;
 
-fn main() {
-    turns::run();
+fn main(rt: HostRuntime) {
+    turns::run(rt.stdin(), rt.stdout());
 }

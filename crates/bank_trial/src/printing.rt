@@ -1,30 +1,15 @@
 // What a record prints.
 use crate::carrying::Left;
-use bank_spec::{Bank, BankPort};
+use std::fmt;
 
-// Eight digits.
-fn print_number(n: u32) {
-    io::print_hex(1, n as u64, 8);
-}
-
-fn print_bank(k: Bank) {
-    print_number(k.compare);
-    print_number(k.mask);
-}
-
-fn print_port(p: BankPort) {
-    let banks = p.banks;
-    print_number(p.index);
-    print_bank(banks.bank0);
-    print_bank(banks.bank1);
-    print_bank(banks.bank2);
-    print_bank(banks.bank3);
-}
-
-pub(crate) fn print_record(left: Left) {
-    io::print_hex(1, left.number as u64, 2);
-    io::print_hex(1, left.word as u64, 4);
-    io::print_hex(1, left.selected as u64, 1);
-    print_port(left.port);
-    io::write_all(1, b"\n");
+impl fmt::Display for Left {
+    fn fmt<W: fmt::Write>(&self, f: &mut fmt::Formatter<W>) -> fmt::Result {
+        let banks = self.port.banks;
+        write!(f, "{:02x}{:04x}{:x}", self.number, self.word, self.selected)?;
+        write!(f, "{:08x}", self.port.index)?;
+        for bank in [banks.bank0, banks.bank1, banks.bank2, banks.bank3] {
+            write!(f, "{:08x}{:08x}", bank.compare, bank.mask)?;
+        }
+        Ok(())
+    }
 }

@@ -3,16 +3,16 @@ ghost use Rattle.std.specs.Prelude.{◌≡◌, ◌<◌};
 ghost use Rattle.bank_trial.specs.Record.{number_at, word_from, number_in, word_in, address_in, control_in, bank_in, port_in};
 
 use bank_spec::{Bank, BankPort, Banks};
-use words::{BitAddress, join_bytes, join_four};
+use words::BitAddress;
 
-// ---- numbers, low byte first
+// ---- numbers, low byte first (place by place: a slice of four would have to be made an array of four, and be no shorter)
 
 // The number whose first byte is byte k.
 fn number_at(bytes: &[u8; 40], k: usize) -> u32
     requires { k < 37 }
     ensures { result ≡ number_at bytes.now k }
 {
-    join_four(bytes[k], bytes[k + 1], bytes[k + 2], bytes[k + 3])
+    u32::from_le_bytes([bytes[k], bytes[k + 1], bytes[k + 2], bytes[k + 3]])
 }
 
 // The word whose first byte is byte k.
@@ -20,7 +20,7 @@ fn word_at(bytes: &[u8; 40], k: usize) -> u16
     requires { k < 39 }
     ensures { result ≡ word_from bytes.now k }
 {
-    join_bytes(bytes[k], bytes[k + 1])
+    u16::from_le_bytes([bytes[k], bytes[k + 1]])
 }
 
 // ---- what they are

@@ -4,9 +4,9 @@ ghost use Rattle.bank_trial.specs.Record.{zeroed};
 ghost use Rattle.bank_trial.specs.CarriedOut.{carried};
 
 use crate::carrying::carry_record;
-use crate::printing::print_record;
 use bank_spec::{Bank, BankPort, Banks};
-use input::read_record;
+use input::all_records;
+use std::io::{Stdin, Stdout};
 
 // Each bank before the first record.
 const ZEROED: Bank = Bank {
@@ -30,26 +30,20 @@ fn zeroed_port() -> BankPort
 }
 
 // One record carried out, and what it leaves printed. The port goes on to the next.
-fn take_record(p: BankPort, bytes: &[u8; 40]) -> BankPort
+// (Its like in stream_trial has another call and another answer; one function for both would take both as closures.)
+fn take_record(rt: &impl Print, p: BankPort, bytes: &[u8; 40]) -> BankPort
     ensures { result ≡ (carried p bytes.now).port }
 {
     let left = carry_record(p, bytes);
-    print_record(left);
+    // What standard output doesn't take is let go: nothing is said of it, and the script goes on.
+    let _ = println!(rt; "{left}");
     left.port
 }
 
-// Record after record, each on the port that the one before it left. A proved loop has to end, and nothing says that the input does: it
-// counts its turns down, from a number that no run uses up.
-pub(crate) fn run() {
-    let mut bytes = [0u8; 40];
+// Record after record, each on the port that the one before it left.
+pub(crate) fn run(from: Stdin, to: Stdout) {
     let mut port = zeroed_port();
-    let mut turns = u64::MAX;
-    while 0 < turns {
-        turns -= 1;
-        if read_record(&mut bytes) {
-            port = take_record(port, &bytes);
-            continue;
-        }
-        return;
+    for bytes in all_records(from, to) {
+        port = take_record(&to, port, &bytes);
     }
 }

@@ -1,1 +1,1 @@
-mod Within
+-- Each proof is found by the check alone, but for those in the folders here.

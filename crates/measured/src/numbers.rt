@@ -1,47 +1,51 @@
 // The numbers of a script, and what they stand for.
-ghost use Rattle.std.specs.Prelude.{◌≡◌, ◌+◌, ◌*◌, ◌≤◌, length};
+ghost use Rattle.std.specs.Prelude.{◌≡◌, ◌+◌, ◌≤◌, length};
 ghost use Rattle.std.specs.Int.Signed.{mag};
 ghost use Rattle.measured.specs.Script.{number_in, record_in, access_in, begun_at};
 
 use crate::Record;
 use port_spec::Access;
 use registers::Registers;
-use words::{BitAddress, join_four};
+use words::BitAddress;
 
-// The number at a place of a script.
-fn number_at(script: &[u8], at: usize) -> u32
-    requires { at + 4 ≤ length script.now }
-    ensures { result ≡ number_in script.now at }
+// The number at a place of a record.
+// (Place by place: a slice of four would have to be made an array of four, and be no shorter.)
+#[tactic(auto, unfolding(crate::specs::Script::number_in))]
+fn number_at(bytes: &[u8], at: usize) -> u32
+    requires { at + 4 ≤ length bytes.now }
+    ensures { result ≡ number_in bytes.now at }
 {
-    join_four(script[at], script[at + 1], script[at + 2], script[at + 3])
+    u32::from_le_bytes([bytes[at], bytes[at + 1], bytes[at + 2], bytes[at + 3]])
 }
 
-// Record i of a script.
-pub(crate) fn record_at(script: &[u8], i: usize) -> Record
-    requires { 16 * i + 16 ≤ length script.now }
-    ensures { result ≡ record_in script.now i }
+// The record that 16 bytes are.
+pub(crate) fn record_of(bytes: &[u8]) -> Record
+    requires { 16 ≤ length bytes.now }
+    ensures { result ≡ record_in bytes.now 0 }
 {
-    let at = 16 * i;
     Record {
-        kind: number_at(script, at),
-        first: number_at(script, at + 4),
-        second: number_at(script, at + 8),
-        third: number_at(script, at + 12),
+        kind: number_at(bytes, 0),
+        first: number_at(bytes, 4),
+        second: number_at(bytes, 8),
+        third: number_at(bytes, 12),
     }
 }
 
 // The access that a record says.
-pub(crate) fn access_of(kind: u32, register: u32, lanes: u32, word: u32) -> Access
-    ensures { result ≡ access_in kind register lanes word }
+#[tactic(auto, unfolding(crate::specs::Script::access_in))]
+pub(crate) fn access_of(x: Record) -> Access
+    ensures { result ≡ access_in x.kind x.first x.second x.third }
 {
-    if kind == 0 {
-        return Access::Read { register, lanes };
-    }
-    let low = (word % 65536) as u16;
-    Access::Write {
-        register,
-        lanes,
-        word: low,
+    match x.kind {
+        0 => Access::Read {
+            register: x.first,
+            lanes: x.second,
+        },
+        _ => Access::Write {
+            register: x.first,
+            lanes: x.second,
+            word: (x.third % 65536) as u16,
+        },
     }
 }
 
@@ -51,9 +55,8 @@ pub(crate) fn begin_at(r: Registers, pointer: u32) -> Registers
 {
     Registers {
         pointer: BitAddress(pointer),
-        latch: r.latch,
         control: 0x1800,
-        hollow: r.hollow,
+        ..r
     }
 }
 
@@ -62,8 +65,8 @@ pub(crate) fn magnitude_of(n: i32) -> u32
     ensures { result ≡ mag n }
 {
     if n < 0 {
-        let all_set: i32 = -1;
-        return (all_set - n) as u32;
+        !n.cast_unsigned()
+    } else {
+        n.cast_unsigned()
     }
-    n as u32
 }

@@ -9,8 +9,7 @@ use salvage_spec::Salvaged;
 pub(crate) fn carry_out(k: u8, m: u8, damaged: &[u8], sound: &mut [u8]) -> Salvaged
     ensures { CarriedOut k m damaged.now sound.old result sound.new }
 {
-    let start = 0;
     let given = places_lent(k, damaged.len());
     let room = places_lent(m, sound.len());
-    salvage_transcript(&damaged[..given], &mut sound[start..room])
+    salvage_transcript(&damaged[..given], &mut sound[..room])
 }

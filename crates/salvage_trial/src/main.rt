@@ -19,35 +19,29 @@
 mod carrying;
 
 use carrying::carry_out;
-use input::read_record;
+use input::all_records;
 use salvage_spec::Salvaged;
+use std::io::{Stdin, Stdout};
 
-fn print_record(o: Salvaged, sound: &[u8]) {
-    io::print_hex(1, o.number as u64, 2);
-    io::print_hex(1, o.kept as u64, 4);
-    io::print_hex(1, o.left as u64, 4);
-    io::print_hex(1, o.stop as u64, 2);
-    io::write_all(1, sound);
+// What standard output doesn't take is let go (`let _`): nothing is said of it, and the script goes on.
+fn print_record(rt: &impl Print, o: Salvaged, sound: &[u8]) {
+    let _ = print!(rt;
+        "{:02x}{:04x}{:04x}{:02x}",
+        o.number, o.kept, o.left, o.stop
+    );
+    let _ = rt.write_all(sound);
 }
 
-// Record after record, each with the bytes to be written laid apart. A proved loop has to end, and nothing says that the input does: it
-// counts its turns down, from a number that no run uses up.
-fn run() {
-    let mut whole = [0u8; 130];
-    let mut sound = [0u8; 64];
-    let mut turns = u64::MAX;
-    while 0 < turns {
-        turns -= 1;
-        if read_record(&mut whole) {
-            sound.copy_from_slice(&whole[66..]);
-            let answer = carry_out(whole[0], whole[1], &whole[2..66], &mut sound);
-            print_record(answer, &sound);
-            continue;
-        }
-        return;
+// Record after record, each with the bytes to be written laid apart.
+fn run(from: Stdin, to: Stdout) {
+    for whole in all_records::<130>(from, to) {
+        let mut sound = [0u8; 64];
+        sound.copy_from_slice(&whole[66..]);
+        let answer = carry_out(whole[0], whole[1], &whole[2..66], &mut sound);
+        print_record(&to, answer, &sound);
     }
 }
 
-fn main() {
-    run();
+fn main(rt: HostRuntime) {
+    run(rt.stdin(), rt.stdout());
 }

@@ -3,8 +3,9 @@ ghost use Rattle.std.specs.Prelude.{◌≡◌};
 ghost use Rattle.sheet_runs.specs.Parts.{in_thousandths};
 
 use sheet_spec::Sheet;
+use std::fmt;
 
-// The whole thousandths of a time, or 0 where they are no number of 64 bits.
+// The whole thousandths of a time, or 0 where they are no number of 64 bits. (Rust's `as` would give the largest for what is above that.)
 fn thousandths(time: f64) -> u64
     ensures { result ≡ in_thousandths time }
 {
@@ -17,46 +18,43 @@ fn thousandths(time: f64) -> u64
     0
 }
 
-fn print_time(time: f64) {
-    let t = thousandths(time);
-    io::write_all(1, b" ");
-    io::print_decimal(1, t / 1000);
-    io::write_all(1, b".");
-    io::print_decimal(1, t / 100 % 10);
-    io::print_decimal(1, t / 10 % 10);
-    io::print_decimal(1, t % 10);
-}
+// A time, to its thousandths.
+#[derive(Clone, Copy)]
+struct Time(f64);
 
-pub(crate) fn print_times(times: &[f64]) {
-    io::write_all(1, b"times");
-    let mut k: usize = 0;
-    while k < times.len() {
-        print_time(times[k]);
-        k += 1;
-    }
-    io::write_all(1, b"\n");
-}
-
-fn print_mark(hollow: bool) {
-    if hollow {
-        io::write_all(1, b" hollow\n");
-    } else {
-        io::write_all(1, b" held\n");
+impl fmt::Display for Time {
+    fn fmt<W: fmt::Write>(&self, f: &mut fmt::Formatter<W>) -> fmt::Result {
+        let t = thousandths(self.0);
+        write!(f, "{}.{:03}", t / 1000, t % 1000)
     }
 }
 
-pub(crate) fn print_sheet(o: Sheet) {
-    let r = o.registers;
-    let pointer = r.pointer;
-    io::write_all(1, b"number ");
-    io::print_decimal(1, o.number as u64);
-    io::write_all(1, b", rule ");
-    io::print_decimal(1, o.rule as u64);
-    io::write_all(1, b", strokes ");
-    io::print_decimal(1, o.strokes as u64);
-    io::write_all(1, b", pointer ");
-    io::print_hex(1, pointer.0 as u64, 8);
-    io::write_all(1, b", data ");
-    io::print_hex(1, r.latch as u64, 4);
-    print_mark(r.hollow);
+// The times of a list, each behind a space.
+#[derive(Clone, Copy)]
+pub(crate) struct Times<'a>(pub(crate) &'a [f64]);
+
+impl fmt::Display for Times<'_> {
+    fn fmt<W: fmt::Write>(&self, f: &mut fmt::Formatter<W>) -> fmt::Result {
+        for &time in self.0 {
+            write!(f, " {}", Time(time))?;
+        }
+        Ok(())
+    }
+}
+
+// A sheet's answer, with what it leaves in the registers.
+#[derive(Clone, Copy)]
+pub(crate) struct Line(pub(crate) Sheet);
+
+impl fmt::Display for Line {
+    fn fmt<W: fmt::Write>(&self, f: &mut fmt::Formatter<W>) -> fmt::Result {
+        let o = self.0;
+        let r = o.registers;
+        let mark = if r.hollow { "hollow" } else { "held" };
+        write!(
+            f,
+            "number {}, rule {}, strokes {}, pointer {:08x}, data {:04x} {mark}",
+            o.number, o.rule, o.strokes, r.pointer.0, r.latch
+        )
+    }
 }

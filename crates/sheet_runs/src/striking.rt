@@ -1,32 +1,67 @@
-// A sheet struck and printed, on each of the small memories.
-ghost use Rattle.std.specs.Prelude.{◌≡◌};
+// Sheets struck and printed, on each of the small memories.
+ghost use Rattle.std.specs.Prelude.{◌≡◌, ◌≤◌};
 ghost use Rattle.sheet_runs.specs.Parts.{five_tables, tables_of_both_rules};
 ghost use Rattle.sheet_spec.specs.InPlainWords.{time};
 
-use crate::printing::{print_sheet, print_times};
+use crate::printing::{Line, Times};
 use registers::Registers;
+use sheet::strike_sheet;
 use sheet_spec::TimeStruck;
 use words::BitAddress;
 
+// What a sheet is asked for, with the line that says so. The rule is a number, since some cases ask for one that is none.
+#[derive(Clone, Copy)]
+pub(crate) struct Case {
+    pub(crate) title: &'static str,
+    pub(crate) control: u16,
+    pub(crate) table: u32,
+    pub(crate) rule: u32,
+    pub(crate) time: TimeStruck,
+}
+
+// 3:45 by rule 1, of the table at word 0, with INCR set. A case names what it has otherwise.
+pub(crate) const QUARTER_TO_FOUR: Case = Case {
+    title: "3:45",
+    control: 0x1000,
+    table: 0,
+    rule: 1,
+    time: TimeStruck {
+        hours: 3,
+        quarters: 3,
+        minutes: 0,
+    },
+};
+
 // A sheet on a lent memory, into a lent list. The registers stand elsewhere at first, so that any move shows.
-pub(crate) fn strike(
-    title: &[u8],
-    memory: &mut [u16],
-    control: u16,
-    table: u32,
-    rule: u32,
-    t: TimeStruck,
-    list: &mut [f64],
-) {
+fn strike(rt: &impl Print, case: Case, memory: &mut [u16], list: &mut [f64]) {
     let r = Registers {
         pointer: BitAddress(0x000abcd0),
         latch: 0x5555,
-        control,
+        control: case.control,
         hollow: false,
     };
-    io::write_all(1, title);
-    print_sheet(sheet::strike_sheet(r, memory, BitAddress(table), rule, t, list));
-    print_times(list);
+    let sheet = strike_sheet(
+        r,
+        memory,
+        BitAddress(case.table),
+        case.rule,
+        case.time,
+        list,
+    );
+    let _ = println!(rt; "{}", case.title);
+    let _ = println!(rt; "{}", Line(sheet));
+    let _ = println!(rt; "times{}", Times(list));
+}
+
+// A sheet for each case, on one memory, into a list of so many places that all hold 0.5: the first of a fixed array, since nothing here
+// allocates.
+pub(crate) fn strike_each(rt: &impl Print, memory: &mut [u16], places: usize, cases: &[Case])
+    requires { places ≤ 33 }
+{
+    for &case in cases {
+        let mut list = [0.5; 33];
+        strike(rt, case, memory, &mut list[..places]);
+    }
 }
 
 pub(crate) fn at(hours: u32, quarters: u32, minutes: u32) -> TimeStruck
@@ -50,32 +85,8 @@ pub(crate) fn tables() -> [u16; 27]
     ]
 }
 
-// A sheet of one of them, by rule 1.
-pub(crate) fn strike_table(title: &[u8], control: u16, table: u32, t: TimeStruck) {
-    let mut memory = tables();
-    let mut list = [0.5; 8];
-    strike(title, &mut memory, control, table, 1, t, &mut list);
-}
-
-// The same with the last word not lent.
-pub(crate) fn strike_short(title: &[u8], control: u16, table: u32, t: TimeStruck) {
-    let mut memory = tables();
-    let mut list = [0.5; 8];
-    let start = 0;
-    let end = 26;
-    strike(
-        title,
-        &mut memory[start..end],
-        control,
-        table,
-        1,
-        t,
-        &mut list,
-    );
-}
-
 // Two tables: at word 0 nine strokes, and at 10 six.
-fn two_tables() -> [u16; 17]
+pub(crate) fn two_tables() -> [u16; 17]
     ensures { result ≡ tables_of_both_rules }
 {
     [
@@ -83,16 +94,7 @@ fn two_tables() -> [u16; 17]
     ]
 }
 
-// A sheet of one of them, by a rule.
-pub(crate) fn strike_by(title: &[u8], rule: u32, table: u32, t: TimeStruck) {
-    let mut memory = two_tables();
-    let mut list = [0.5; 9];
-    strike(title, &mut memory, 0x1000, table, rule, t, &mut list);
-}
-
-// A sheet of a table of six strokes, by rule 1, into a list of six places.
-pub(crate) fn strike_six(title: &[u8], control: u16, t: TimeStruck) {
-    let mut memory = [6, 10, 20, 30, 40, 50, 60];
-    let mut list = [0.5; 6];
-    strike(title, &mut memory, control, 0, 1, t, &mut list);
+// A table of six strokes, at word 0.
+pub(crate) fn table_of_six() -> [u16; 7] {
+    [6, 10, 20, 30, 40, 50, 60]
 }

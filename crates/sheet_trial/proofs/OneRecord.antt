@@ -1,13 +1,12 @@
 -- A record is carried out by a sheet on the parts of the room and of the list that it lends.
-use Prim.Native.Nat.{ℕ, ◌-◌, min}
+use Prim.Native.Nat.{ℕ, min}
+use Rattle.std.proofs.lemmas.List.{take-append-drop}
 use mathlib.Core.Path.{◌≡◌, ap, ◌∙◌}
-use mathlib.Core.List.{List}
+use mathlib.Core.List.{List, ◌++◌}
 use lib.Ieee.{Float}
-use lib.ListN.{length, take}
-use borrow.Rule.Slice.PartMut.{put_mid}
+use lib.ListN.{length, take, drop}
 use Rattle.words.specs.Lent.{lent, given_back}
 use Rattle.words.specs.declared.BitAddress.{BitAddress}
-use Rattle.words.proofs.Lent.{lent_is, back_is, unchanged}
 use Rattle.registers.specs.declared.Registers.{Registers}
 use Rattle.port_spec.specs.Sequences.{machine}
 use Rattle.sheet_spec.specs.Reading.{whole}
@@ -30,16 +29,16 @@ pub record Ready (b room room₁ : List ℕ) (list : List Float) (m n : ℕ)
 
 module _ {b room room₁ : List ℕ} {list : List Float} {m n : ℕ} {r : Registers} {a : BitAddress} {rule : ℕ} {t : TimeStruck}
     (y : Ready b room room₁ list m n r a rule t) where
-  memory_is : take (m - 0) room₁ ≡ lent (number b 16) (laid b room 36)
-  memory_is = lent_is (number b 16) m room₁ y.words_lent ∙ ap (lent (number b 16)) y.filled
+  memory_is : take m room₁ ≡ lent (number b 16) (laid b room 36)
+  memory_is = ap (λ (n : ℕ). take n room₁) y.words_lent ∙ ap (lent (number b 16)) y.filled
 
-  list_is : take (n - 0) list ≡ list_lent b list
-  list_is = lent_is (number b 15) n list y.places_lent
+  list_is : take n list ≡ list_lent b list
+  list_is = ap (λ (k : ℕ). take k list) y.places_lent
 
   -- The sheet of the lent parts, which then come back, is what the record asks for.
   pub carried : {o : Sheet} {m' : List ℕ} {l' : List Float} →
-      Struck r (take (m - 0) room₁) a rule t (take (n - 0) list) o m' l' →
-      CarriedOut b room list o (put_mid 0 (m - 0) room₁ m') (put_mid 0 (n - 0) list l')
+      Struck r (take m room₁) a rule t (take n list) o m' l' →
+      CarriedOut b room list o (m' ++ drop m room₁) (l' ++ drop n list)
   unfolding sheet_from list_from
   carried {o} {m'} {l'} s =
       let lent_list =
@@ -49,6 +48,6 @@ module _ {b room room₁ : List ℕ} {list : List Float} {m n : ℕ} {r : Regist
         answer = s.outcome
             ∙ (λ i. sheet_of whole (machine (y.registers i) (memory_is i)) (y.table i) (y.counting i) (y.time i)
             (length (list_is i)));
-        room_left = unchanged m room₁ m' s.memory ∙ y.filled;
-        list_left = back_is (number b 15) n list y.places_lent l' ∙ ap (given_back (number b 15) list) lent_list;
+        room_left = ap (λ (x : List ℕ). x ++ drop m room₁) s.memory ∙ take-append-drop m room₁ ∙ y.filled;
+        list_left = ap (λ (k : ℕ). l' ++ drop k list) y.places_lent ∙ ap (given_back (number b 15) list) lent_list;
       }

@@ -1,14 +1,8 @@
--- Records of a script, carried out one after another. What the bytes of a record are that a turn read, nothing here can know.
---   StruckTurn  what a turn leaves: it carried out a record, and there may be more; or it found none, and left all as it was
+-- Records of a script, carried out one after another. What the bytes of a record are that was read, nothing here can know.
 --   Ran        what a run leaves: some records, each carried out on what the one before it left
-use Rattle.std.specs.Prelude.{ℕ, Bool, true, false, List, Float}
+use Rattle.std.specs.Prelude.{ℕ, List, Float}
 use Rattle.sheet_spec.specs.declared.Sheet.{Sheet}
 use Rattle.sheet_trial.specs.CarriedOut.{CarriedOut}
-
-pub data StruckTurn (room : List ℕ) (list : List Float) : Bool → List ℕ → List Float → Type 0 where
-  one_record :
-      {b room' : List ℕ} {list' : List Float} {o : Sheet} → CarriedOut b room list o room' list' → StruckTurn room list true room' list'
-  no_record : StruckTurn room list false room list
 
 -- "Both persist from sheet to sheet"
 pub data Ran (room : List ℕ) (list : List Float) : List ℕ → List Float → Type 0 where

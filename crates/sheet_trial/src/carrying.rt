@@ -5,18 +5,16 @@ ghost use Rattle.sheet_trial.specs.CarriedOut.{laid, CarriedOut};
 use crate::reading::{number_at, registers_of, rule_of, table_of, time_of};
 use sheet::strike_sheet;
 use sheet_spec::Sheet;
-use words::{WordNumber, least, store_word};
+use words::{WordNumber, store_word};
 
 // The record's 36 words laid into the room, as far as it reaches.
+// (By number: `number_at` and `laid` count the record's numbers so.)
 fn lay_words(room: &mut [u16], bytes: &[u8; 108])
     ensures { room.new ≡ laid bytes.now room.old 36 }
 {
-    let first = number_at(bytes, 17) as u32;
-    let mut k: usize = 0;
-    while k < 36 {
-        let n = first + k as u32;
-        store_word(room, WordNumber(n), number_at(bytes, 18 + k));
-        k += 1;
+    let first = u32::from(number_at(bytes, 17));
+    for k in 0..36 {
+        store_word(room, WordNumber(first + k as u32), number_at(bytes, 18 + k));
     }
 }
 
@@ -25,15 +23,14 @@ pub(crate) fn carry_out(room: &mut [u16], list: &mut [f64], bytes: &[u8; 108]) -
     ensures { CarriedOut bytes.now room.old list.old result room.new list.new }
 {
     lay_words(room, bytes);
-    let start = 0;
-    let end = least(number_at(bytes, 16) as usize, room.len());
-    let last = least(number_at(bytes, 15) as usize, list.len());
+    let words = usize::from(number_at(bytes, 16)).min(room.len());
+    let places = usize::from(number_at(bytes, 15)).min(list.len());
     strike_sheet(
         registers_of(bytes),
-        &mut room[start..end],
+        &mut room[..words],
         table_of(bytes),
         rule_of(bytes),
         time_of(bytes),
-        &mut list[start..last],
+        &mut list[..places],
     )
 }

@@ -42,8 +42,8 @@ mod printing;
 mod reading;
 mod turns;
 
-fn main() {
+fn main(rt: HostRuntime) {
     let mut room = [0u16; 32769];
     let mut list = [0.0; 36];
-    turns::run(&mut room, &mut list);
+    turns::run(rt.stdin(), rt.stdout(), &mut room, &mut list);
 }

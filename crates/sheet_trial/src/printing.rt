@@ -4,6 +4,7 @@ ghost use Rattle.std.specs.Float.Ieee.{to_bits};
 ghost use Rattle.std.specs.Float.{binary64};
 
 use sheet_spec::Sheet;
+use std::fmt;
 
 // The bit pattern of a time. A NaN has one here, whichever it is.
 fn bits_of(time: f64) -> u64
@@ -15,34 +16,39 @@ fn bits_of(time: f64) -> u64
     0x7ff8000000000000
 }
 
-fn print_number(value: u64, digits: usize) {
-    io::print_hex(1, value, digits);
-    io::write_all(1, b" ");
+// What standard output doesn't take is let go (`let _`): nothing is said of it, and the script goes on.
+pub(crate) fn print_sheet(rt: &impl Print, o: Sheet, list: &[f64]) {
+    let _ = println!(rt; "{}{}", Answered(o), Times(list));
 }
 
-fn print_time(time: f64) {
-    io::write_all(1, b" ");
-    io::print_hex(1, bits_of(time), 16);
-}
+#[derive(Clone, Copy)]
+struct Answered(Sheet);
 
-fn print_times(list: &[f64]) {
-    let mut k: usize = 0;
-    while k < list.len() {
-        print_time(list[k]);
-        k += 1;
+impl fmt::Display for Answered {
+    fn fmt<W: fmt::Write>(&self, f: &mut fmt::Formatter<W>) -> fmt::Result {
+        let o = self.0;
+        let r = o.registers;
+        write!(f, "{:02x} {:08x} {:04x} ", o.number, o.rule, o.strokes)?;
+        write!(
+            f,
+            "{:08x} {:04x} {:04x} {:x}",
+            r.pointer.0,
+            r.latch,
+            r.control,
+            u8::from(r.hollow)
+        )
     }
 }
 
-pub(crate) fn print_sheet(o: Sheet, list: &[f64]) {
-    let r = o.registers;
-    let pointer = r.pointer;
-    print_number(o.number as u64, 2);
-    print_number(o.rule as u64, 8);
-    print_number(o.strokes as u64, 4);
-    print_number(pointer.0 as u64, 8);
-    print_number(r.latch as u64, 4);
-    print_number(r.control as u64, 4);
-    io::print_hex(1, r.hollow as u64, 1);
-    print_times(list);
-    io::write_all(1, b"\n");
+// The bit patterns of a list's places, each behind a space.
+#[derive(Clone, Copy)]
+struct Times<'a>(&'a [f64]);
+
+impl fmt::Display for Times<'_> {
+    fn fmt<W: fmt::Write>(&self, f: &mut fmt::Formatter<W>) -> fmt::Result {
+        for &time in self.0 {
+            write!(f, " {:016x}", bits_of(time))?;
+        }
+        Ok(())
+    }
 }

@@ -1,25 +1,26 @@
-// What the numbers of a record say.
+// What the numbers of a record say. Each function takes the whole record: `[u8; 108]` says how long that is, and a struct around it would
+// say no more.
 ghost use Rattle.std.specs.Prelude.{◌≡◌, ◌<◌};
 ghost use Rattle.sheet_trial.specs.Record.{number, wide, registers_in, table_in, rule_in, time_in};
 
 use registers::Registers;
 use sheet_spec::TimeStruck;
-use words::{BitAddress, join_bytes};
+use words::BitAddress;
 
 // Number k of a record.
 pub(crate) fn number_at(bytes: &[u8; 108], k: usize) -> u16
     requires { k < 54 }
     ensures { result ≡ number bytes.now k }
 {
-    join_bytes(bytes[2 * k], bytes[2 * k + 1])
+    u16::from_le_bytes([bytes[2 * k], bytes[2 * k + 1]])
 }
 
-// The number of 32 bits whose low half is number k.
+// The number of 32 bits whose low half is number k: two numbers, as the table of a script has them, and not four bytes.
 fn wide_at(bytes: &[u8; 108], k: usize) -> u32
     requires { k < 53 }
     ensures { result ≡ wide bytes.now k }
 {
-    number_at(bytes, k) as u32 + 65536 * number_at(bytes, k + 1) as u32
+    u32::from(number_at(bytes, k)) + 65536 * u32::from(number_at(bytes, k + 1))
 }
 
 pub(crate) fn registers_of(bytes: &[u8; 108]) -> Registers

@@ -14,6 +14,7 @@ use stream_spec::{Stream, Streamed};
 const BLANK: [u32; 6] = [0xEEEEEEEE; 6];
 
 // What a record leaves: what the call answered, with the stream, and the four lists.
+// (transcript_trial has one like it, with another answer: no crate below both programs is about what a trial leaves.)
 #[derive(Clone, Copy)]
 pub(crate) struct Left {
     pub answer: Streamed,
@@ -36,16 +37,14 @@ fn start_from(n: u32) -> Streamed
             stream: fresh,
         };
     }
-    let part = fresh.part;
     Streamed {
         number: 0,
         count: 0,
         place: 0,
         stream: Stream {
-            part,
             from: n,
             taken: n,
-            ended: fresh.ended,
+            ..fresh
         },
     }
 }
@@ -96,12 +95,9 @@ fn leave_lists(answer: Streamed) -> Left
 pub(crate) fn carry_record(st: Stream, bytes: &[u8; 36]) -> Left
     ensures { CarriedOut st bytes.now blank result.answer (lists result.kinds result.registers result.lanes result.words) }
 {
-    let done = bytes[0] % 3;
-    if done == 0 {
-        return leave_lists(start_from(number_in(bytes)));
+    match bytes[0] % 3 {
+        0 => leave_lists(start_from(number_in(bytes))),
+        1 => deliver(st, bytes),
+        _ => leave_lists(end_stream(st)),
     }
-    if done == 1 {
-        return deliver(st, bytes);
-    }
-    leave_lists(end_stream(st))
 }

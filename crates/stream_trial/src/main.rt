@@ -28,6 +28,6 @@ mod printing;
 mod reading;
 mod turns;
 
-fn main() {
-    turns::run();
+fn main(rt: HostRuntime) {
+    turns::run(rt.stdin(), rt.stdout());
 }

@@ -9,6 +9,7 @@ use transcript::{read_transcript, write_transcript};
 use transcript_spec::Transcribed;
 
 // What a record leaves, but for its string: what the call answered, and the four lists.
+// (stream_trial has one like it, with another answer: no crate below both programs is about what a trial leaves.)
 #[derive(Clone, Copy)]
 pub(crate) struct Left {
     pub answer: Transcribed,
@@ -38,6 +39,7 @@ fn call(
 }
 
 // The record's call. What it is lent of the string and of each list is their first places, as many as the record says.
+// (An odd first byte asks for the reader, as main.rt has it.)
 fn carry_out(
     bytes: &[u8; 168],
     string: &mut [u8],
@@ -50,7 +52,6 @@ fn carry_out(
         (lists kinds.old registers.old lanes.old words.old)
         result string.new (lists kinds.new registers.new lanes.new words.new) }
 {
-    let start = 0;
     let s = places_lent(bytes[1], string.len());
     let k = places_lent(bytes[2], kinds.len());
     let r = places_lent(bytes[3], registers.len());
@@ -58,11 +59,11 @@ fn carry_out(
     let w = places_lent(bytes[5], words.len());
     call(
         bytes[0] % 2 == 1,
-        &mut string[start..s],
-        &mut kinds[start..k],
-        &mut registers[start..r],
-        &mut lanes[start..l],
-        &mut words[start..w],
+        &mut string[..s],
+        &mut kinds[..k],
+        &mut registers[..r],
+        &mut lanes[..l],
+        &mut words[..w],
     )
 }
 

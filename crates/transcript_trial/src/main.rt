@@ -22,6 +22,6 @@ mod printing;
 mod reading;
 mod turns;
 
-fn main() {
-    turns::run();
+fn main(rt: HostRuntime) {
+    turns::run(rt.stdin(), rt.stdout());
 }

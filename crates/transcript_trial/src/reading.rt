@@ -2,15 +2,13 @@
 ghost use Rattle.std.specs.Prelude.{◌≡◌, ◌<◌};
 ghost use Rattle.transcript_trial.specs.Record.{number, column};
 
-use words::join_four;
-
 // Number k of a record's lists.
 fn number_at(bytes: &[u8; 168], k: usize) -> u32
     requires { k < 24 }
     ensures { result ≡ number bytes.now k }
 {
     let at = 8 + 4 * k;
-    join_four(bytes[at], bytes[at + 1], bytes[at + 2], bytes[at + 3])
+    u32::from_le_bytes([bytes[at], bytes[at + 1], bytes[at + 2], bytes[at + 3]])
 }
 
 // The six numbers of a record's list from number k on.
@@ -18,12 +16,5 @@ pub(crate) fn column_at(bytes: &[u8; 168], k: usize) -> [u32; 6]
     requires { k < 19 }
     ensures { result ≡ column bytes.now k }
 {
-    [
-        number_at(bytes, k),
-        number_at(bytes, k + 1),
-        number_at(bytes, k + 2),
-        number_at(bytes, k + 3),
-        number_at(bytes, k + 4),
-        number_at(bytes, k + 5),
-    ]
+    std::array::from_fn(|i| number_at(bytes, k + i))
 }

@@ -6,7 +6,7 @@ use mathlib.Core.List.{List}
 use mathlib.Core.Logic.{⊎_elim, ◌≢◌}
 use mathlib.Core.Path.{◌≡◌, sym, ap, ◌∙◌}
 use lib.ListN.{take}
-use Rattle.words.proofs.Choices.{both_true, same_or_not}
+use Rattle.std.proofs.lemmas.Bool.{and_parts, cases_eq}
 use Rattle.script.specs.Script.{is_call}
 use Rattle.trial.specs.Lines.{World, world, line_at, all_calls, after_lines, printed, RanLines}
 use Rattle.trial.specs.declared.turns.Ran.{Ran}
@@ -16,11 +16,11 @@ each_call : (s : List ℕ) (n k : ℕ) → k < n → all_calls s n ≡ true → 
 unfolding all_calls
 each_call s zero k h e = absurd (omega (arith, h))
 each_call s (suc n) k h e =
-    let p = both_true (all_calls s n) (is_call (line_at s n)) e in
+    let p = and_parts (all_calls s n) (is_call (line_at s n)) e in
     ⊎_elim
     (λ (q : k ≡ n). ap (λ (j : ℕ). is_call (line_at s j)) q ∙ p.1)
     (λ (q : k ≢ n). each_call s n k (omega (arith, h, q)) p.0)
-    (same_or_not k n)
+    (cases_eq k n)
 
 -- of two runs neither carries out fewer lines
 no_fewer : {w : World} {s : List ℕ} {r q : Ran} {room list output room' list' output' : List ℕ} →

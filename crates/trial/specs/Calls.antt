@@ -24,7 +24,6 @@ use Rattle.port_spec.specs.declared.Answer.{Answer}
 use Rattle.port_spec.specs.declared.Outcome.{Outcome}
 use Rattle.field_spec.specs.Answers.{taken, taken_signed, put_answer, put_memory}
 use Rattle.field_spec.specs.declared.Taken.{Taken}
-use Rattle.field_spec.specs.declared.SignedTaken.{SignedTaken}
 use Rattle.field_spec.specs.declared.Put.{Put}
 use Rattle.block_spec.specs.Block.{block_read, block_write, memory_left, list_after as read_list}
 use Rattle.block_spec.specs.declared.BlockRead.{BlockRead}
@@ -101,10 +100,10 @@ abbrev pub modulo : ℤ → ℕ
 modulo (pos n) = n
 modulo (negsuc n) = 2 ^ 32 - 1 - n
 
-abbrev pub taken_done : State → Taken → Done
+abbrev pub taken_done : State → Taken ℕ → Done
 taken_done s t = done_with s t.number t.value t.cycles
 
-abbrev pub signed_done : State → SignedTaken → Done
+abbrev pub signed_done : State → Taken ℤ → Done
 signed_done s t = done_with s t.number (modulo t.value) t.cycles
 
 abbrev pub put_done : State → Put → Done

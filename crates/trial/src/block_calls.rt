@@ -13,18 +13,18 @@ fn place_of(low: u32, high: u32) -> usize
 }
 
 // I or O, on the lent memory and the lent list.
+// (One test, since there are two letters: the letter stays the byte that `Call` has.)
+#[tactic(auto, unfolding(crate::specs::Calls::block_answer, crate::specs::Calls::block_memory, crate::specs::Calls::block_list))]
 pub(crate) fn call_block(s: State, memory: &mut [u16], list: &mut [u16], call: Call) -> Done
     ensures { BlockDone s memory.old list.old call result memory.new list.new }
 {
-    let r = s.registers;
     let place = place_of(call.a, call.b);
     let count = call.c as usize;
     if call.letter == b'I' {
-        let o = block::block_read(r, memory, list, place, count);
-        let q = o.registers;
-        return answer_with(s, q, o.number, o.hollows as u32, 0);
+        let o = block::block_read(s.registers, memory, list, place, count);
+        answer_with(s, o.registers, o.number, u32::from(o.hollows), 0)
+    } else {
+        let o = block::block_write(s.registers, memory, list, place, count);
+        answer_with(s, o.registers, o.number, u32::from(o.empties), 0)
     }
-    let o = block::block_write(r, memory, list, place, count);
-    let q = o.registers;
-    answer_with(s, q, o.number, o.empties as u32, 0)
 }

@@ -6,42 +6,30 @@ use crate::setting::answer;
 use bus::Bus;
 use script::{Call, Done, State};
 
-// The state with another bus.
-fn set_bus(s: State, b: Bus) -> State
-    ensures { result ≡ with_bus s b }
-{
-    let r = s.registers;
-    State {
-        registers: r,
-        bus: b,
-        length: s.length,
-        size: s.size,
-    }
-}
-
 // What a call on the bus answers, and the bus that it leaves.
-fn answer_of(s: State, b: Bus, number: u8, x: u32) -> Done
-    ensures { result ≡ done_with (with_bus s b) number x 0 }
+fn answer_of(s: State, bus: Bus, number: u8, x: u32) -> Done
+    ensures { result ≡ done_with (with_bus s bus) number x 0 }
 {
-    answer(set_bus(s, b), number, x, 0)
+    answer(State { bus, ..s }, number, x, 0)
 }
 
 // A, B or C.
+#[tactic(auto, unfolding(crate::specs::Calls::bus_answer))]
 pub(crate) fn call_bus(s: State, call: Call) -> Done
     ensures { result ≡ bus_answer s call }
 {
-    let b = s.bus;
-    if call.letter == b'A' {
-        let o = bus::ask(b, call.a);
-        let left = o.bus;
-        return answer_of(s, left, o.number, 0);
+    match call.letter {
+        b'A' => {
+            let o = bus::ask(s.bus, call.a);
+            answer_of(s, o.bus, o.number, 0)
+        }
+        b'C' => {
+            let o = bus::release(s.bus);
+            answer_of(s, o.bus, o.number, 0)
+        }
+        _ => {
+            let o = bus::grant(s.bus);
+            answer_of(s, o.bus, o.number, o.source)
+        }
     }
-    if call.letter == b'C' {
-        let o = bus::release(b);
-        let left = o.bus;
-        return answer_of(s, left, o.number, 0);
-    }
-    let o = bus::grant(b);
-    let left = o.bus;
-    answer_of(s, left, o.number, o.source)
 }

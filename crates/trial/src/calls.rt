@@ -12,32 +12,33 @@ use script::{
     Call, Done, State, is_bus_letter, is_field_letter, is_host_letter, is_plain_letter,
     is_processor_letter, is_whole_letter,
 };
-use words::least;
 
 // A call that is lent nothing: of the processor or the bus, or one that sets the state.
+#[tactic(auto, unfolding(crate::specs::Calls::plain_answer))]
 fn call_plain(s: State, call: Call) -> Done
     ensures { result ≡ plain_answer s call }
 {
     if is_processor_letter(call.letter) {
-        return call_processor(s, call);
+        call_processor(s, call)
+    } else if is_bus_letter(call.letter) {
+        call_bus(s, call)
+    } else {
+        answer(set_state(s, call), 0, 0, 0)
     }
-    if is_bus_letter(call.letter) {
-        return call_bus(s, call);
-    }
-    answer(set_state(s, call), 0, 0, 0)
 }
 
 // A call that is lent memory: by the host, on a field, of a block.
+#[tactic(auto, unfolding(crate::specs::Calls::lent_answer, crate::specs::Calls::lent_memory, crate::specs::Calls::lent_list))]
 fn call_lent(s: State, memory: &mut [u16], list: &mut [u16], call: Call) -> Done
     ensures { LentDone s memory.old list.old call result memory.new list.new }
 {
     if is_host_letter(call.letter) {
-        return call_host(s, memory, call);
+        call_host(s, memory, call)
+    } else if is_field_letter(call.letter) {
+        call_fields(s, memory, call)
+    } else {
+        call_block(s, memory, list, call)
     }
-    if is_field_letter(call.letter) {
-        return call_fields(s, memory, call);
-    }
-    call_block(s, memory, list, call)
 }
 
 // Any call. What is lent of the room and of the list is their first words, as many as the state says.
@@ -50,8 +51,7 @@ pub(crate) fn carry_out(s: State, room: &mut [u16], list: &mut [u16], call: Call
     if is_whole_letter(call.letter) {
         return call_whole(s, room, list, call);
     }
-    let start = 0;
-    let end = least(s.length, room.len());
-    let last = least(s.size, list.len());
-    call_lent(s, &mut room[start..end], &mut list[start..last], call)
+    let length = s.length.min(room.len());
+    let size = s.size.min(list.len());
+    call_lent(s, &mut room[..length], &mut list[..size], call)
 }

@@ -12,8 +12,8 @@ mod setting;
 mod turns;
 mod whole_calls;
 
-fn main() {
+fn main(rt: HostRuntime) {
     let mut room = [0u16; 32769];
     let mut list = [0u16; 8192];
-    turns::run(&mut room, &mut list);
+    turns::run(&mut room, &mut list, rt.stdin(), rt.stdout());
 }

@@ -1,37 +1,10 @@
 // The state of a run: parts of it replaced, and the calls that set it, N, L, G and Z.
 ghost use Rattle.std.specs.Prelude.{◌≡◌};
-ghost use Rattle.trial.specs.Calls.{with_registers, with_lengths, registers_in, woken_state, first_state, state_set, done_with};
+ghost use Rattle.trial.specs.Calls.{with_registers, registers_in, woken_state, first_state, state_set, done_with};
 
 use registers::Registers;
 use script::{Call, Done, State};
 use words::BitAddress;
-
-// The state with other registers.
-fn set_registers(s: State, r: Registers) -> State
-    ensures { result ≡ with_registers s r }
-{
-    let b = s.bus;
-    State {
-        registers: r,
-        bus: b,
-        length: s.length,
-        size: s.size,
-    }
-}
-
-// The state with other lengths.
-fn set_lengths(s: State, length: usize, size: usize) -> State
-    ensures { result ≡ with_lengths s length size }
-{
-    let r = s.registers;
-    let b = s.bus;
-    State {
-        registers: r,
-        bus: b,
-        length,
-        size,
-    }
-}
 
 // The registers as the numbers of a call say.
 fn registers_of(call: Call) -> Registers
@@ -49,12 +22,10 @@ fn registers_of(call: Call) -> Registers
 fn wake(length: usize, size: usize) -> State
     ensures { result ≡ woken_state length size }
 {
-    let w = registers::reset();
-    let r = w.registers;
-    let b = w.bus;
+    let woken = registers::reset();
     State {
-        registers: r,
-        bus: b,
+        registers: woken.registers,
+        bus: woken.bus,
         length,
         size,
     }
@@ -68,22 +39,29 @@ pub(crate) fn first_state() -> State
 }
 
 // The state that N, L, G or Z leaves.
+#[tactic(auto, unfolding(crate::specs::Calls::state_set))]
 pub(crate) fn set_state(s: State, call: Call) -> State
     ensures { result ≡ state_set s call }
 {
-    if call.letter == b'N' {
-        return set_lengths(s, call.a as usize, s.size);
+    match call.letter {
+        b'N' => State {
+            length: call.a as usize,
+            ..s
+        },
+        b'L' => State {
+            size: call.a as usize,
+            ..s
+        },
+        b'G' => State {
+            registers: registers_of(call),
+            ..s
+        },
+        _ => wake(s.length, s.size),
     }
-    if call.letter == b'L' {
-        return set_lengths(s, s.length, call.a as usize);
-    }
-    if call.letter == b'G' {
-        return set_registers(s, registers_of(call));
-    }
-    wake(s.length, s.size)
 }
 
 // What a call answers, beside the state that it leaves.
+// (`number` is what the call returned, 0 for none, and is printed as it is: so in all that answers by this.)
 pub(crate) fn answer(s: State, number: u8, x: u32, y: u32) -> Done
     ensures { result ≡ done_with s number x y }
 {
@@ -99,5 +77,5 @@ pub(crate) fn answer(s: State, number: u8, x: u32, y: u32) -> Done
 pub(crate) fn answer_with(s: State, r: Registers, number: u8, x: u32, y: u32) -> Done
     ensures { result ≡ done_with (with_registers s r) number x y }
 {
-    answer(set_registers(s, r), number, x, y)
+    answer(State { registers: r, ..s }, number, x, y)
 }

@@ -9,13 +9,11 @@ use script::{Call, Done, State};
 fn fill(words: &mut [u16], first: u32, step: u32)
     ensures { words.new ≡ filled first step (length words.old) }
 {
-    let mut word = first % 65536;
-    let by = step % 65536;
-    let mut k: usize = 0;
-    while k < words.len() {
-        words[k] = word as u16;
-        word = (word + by) % 65536;
-        k += 1;
+    let mut word = (first % 65536) as u16;
+    let by = (step % 65536) as u16;
+    for place in words.iter_mut() {
+        *place = word;
+        word = word.wrapping_add(by);
     }
 }
 
@@ -23,26 +21,27 @@ fn fill(words: &mut [u16], first: u32, step: u32)
 fn digest_of(words: &[u16]) -> u32
     ensures { result ≡ digest words.now (length words.now) }
 {
-    let mut h: u64 = 0;
-    let mut k: usize = 0;
-    while k < words.len() {
-        h = (h * 31 + words[k] as u64) % 4294967296;
-        k += 1;
+    let mut h: u32 = 0;
+    for word in words {
+        h = h.wrapping_mul(31).wrapping_add(u32::from(*word));
     }
-    h as u32
+    h
 }
 
 // M, J or D.
+#[tactic(auto, unfolding(crate::specs::Calls::whole_answer, crate::specs::Calls::whole_room, crate::specs::Calls::whole_list))]
 pub(crate) fn call_whole(s: State, room: &mut [u16], list: &mut [u16], call: Call) -> Done
     ensures { WholeDone s room.old list.old call result room.new list.new }
 {
-    if call.letter == b'D' {
-        return answer(s, 0, digest_of(room), digest_of(list));
+    match call.letter {
+        b'D' => answer(s, 0, digest_of(room), digest_of(list)),
+        b'M' => {
+            fill(room, call.a, call.b);
+            answer(s, 0, 0, 0)
+        }
+        _ => {
+            fill(list, call.a, call.b);
+            answer(s, 0, 0, 0)
+        }
     }
-    if call.letter == b'M' {
-        fill(room, call.a, call.b);
-        return answer(s, 0, 0, 0);
-    }
-    fill(list, call.a, call.b);
-    answer(s, 0, 0, 0)
 }

@@ -5,10 +5,10 @@ use Rattle.in_place_runs.proofs.step.Goals as goal
 
 pub returns-then-access-eq0 : goal.returns-then-access-eq0
 unfolding access_in
-returns-then-access-eq0 c =
+returns-then-access-eq0 g c =
     rw (eq-eqb _ _ c.if-access-eq0.true) c.read.ensures
 
 pub returns : goal.returns
 unfolding access_in
-returns c =
+returns g c =
     rw (ne_eqb _ _ c.if-access-eq0.false) c.write.ensures

@@ -1,10 +1,6 @@
--- `measured::run_fields` stays inside its script.
-use Rattle.std.proofs.Common.{◌-◌}
-use Rattle.measured.proofs.Within.{Within}
+-- `measured::run_fields` goes over the records of its script, each of 16 bytes, and the lent memory keeps its length.
+use Rattle.std.proofs.Common.{◌≡◌, length}
 use Rattle.measured.proofs.run_fields.Given as goal
 
-abbrev pub invariant-loop-i : goal.invariant-loop-i
-invariant-loop-i l = Within l.fn.script l.fn.memory l.memory l.records l.i
-
-abbrev pub decreases-loop-i : goal.decreases-loop-i
-decreases-loop-i l = l.records - l.i
+abbrev pub invariant-loop-bytes : goal.invariant-loop-bytes
+invariant-loop-bytes l = (l.bytes-iterator.size ≡ 16) × (length l.memory ≡ length l.fn.memory)

@@ -1,4 +1,4 @@
--- `sheet_trial::turns::run` meets its contract: after each turn some records are carried out. Its count of turns falls.
+-- `sheet_trial::turns::run` meets its contract: after each turn some records are carried out.
 use Prim.Native.Nat.{ℕ}
 use mathlib.Core.Path.{◌≡◌}
 use mathlib.Core.List.{List}
@@ -12,8 +12,5 @@ pub record Going (room₀ : List ℕ) (list₀ : List Float) (room : List ℕ) (
   pub lists : length list ≡ length list₀
   pub ran : Ran room₀ list₀ room list
 
-abbrev pub invariant-loop-turns : goal.invariant-loop-turns
-invariant-loop-turns l = Going l.fn.room l.fn.list l.room l.list
-
-abbrev pub decreases-loop-turns : goal.decreases-loop-turns
-decreases-loop-turns l = l.turns
+abbrev pub invariant-loop-bytes : goal.invariant-loop-bytes
+invariant-loop-bytes l = Going l.fn.room l.fn.list l.room l.list

@@ -1,8 +1,7 @@
 -- `trial::calls::carry_out` meets its contract, by its tests of the letter; the lent parts of the room and of the list come back.
-use mathlib.Core.Path.{sym, ap, ◌∙◌}
+use Rattle.std.proofs.Common.{◌≡◌, ℕ, ◌++◌, take, drop, sym, ap, ◌∙◌}
 use Rattle.trial.specs.Calls.{answer_to, room_after, list_after, lent_answer, lent_memory, lent_list}
-use Rattle.words.specs.Lent.{given_back}
-use Rattle.words.proofs.Lent.{lent_is, back_is}
+use Rattle.words.specs.Lent.{lent, given_back}
 use Rattle.trial.proofs.calls.carry_out.Goals as goal
 
 pub returns-then-is_plain_letter : goal.returns-then-is_plain_letter
@@ -28,12 +27,12 @@ returns c =
     let room = a.room.now in
     let list = a.list.now in
     let d = c.call_lent.ensures in
-    let m = lent_is a.s.length c.least-end.result room c.least-end.ensures in
-    let l = lent_is a.s.size c.least-last.result list c.least-last.ensures in
+    let m : take c.min-length.result room ≡ lent a.s.length room = ap (λ (n : ℕ). take n room) c.min-length.ensures in
+    let l : take c.min-size.result list ≡ lent a.s.size list = ap (λ (n : ℕ). take n list) c.min-size.ensures in
     record {
       answer = rw (e1, e2) (d.answer ∙ (λ i. lent_answer a.s (m i) (l i) a.call));
-      left = rw (e1, e2) (back_is a.s.length c.least-end.result room c.least-end.ensures c.call_lent.new.memory
+      left = rw (e1, e2) (ap (λ (n : ℕ). c.call_lent.new.memory ++ drop n room) c.min-length.ensures
           ∙ ap (given_back a.s.length room) (d.memory ∙ (λ i. lent_memory a.s (m i) (l i) a.call)));
-      list_left = rw (e1, e2) (back_is a.s.size c.least-last.result list c.least-last.ensures c.call_lent.new.list
+      list_left = rw (e1, e2) (ap (λ (n : ℕ). c.call_lent.new.list ++ drop n list) c.min-size.ensures
           ∙ ap (given_back a.s.size list) (d.list ∙ (λ i. lent_list a.s (m i) (l i) a.call)));
     }

@@ -21,9 +21,9 @@ carried-out s m call made e said =
 
 pub returns-then-is_in_place_letter : goal.returns-then-is_in_place_letter
 returns-then-is_in_place_letter c =
-    carried-out _ _ _ c.access_of.ensures
+    carried-out _ _ _ c.access_of-access.ensures
     c.host_access_by_lending.ensures c.host_done.ensures
 
 pub returns : goal.returns
 returns c =
-    carried-out _ _ _ c.access_of-2.ensures c.host_access.ensures c.host_done-2.ensures
+    carried-out _ _ _ c.access_of-access.ensures c.host_access.ensures c.host_done-2.ensures

@@ -1,5 +1,8 @@
--- What the loop of `trial::turns::run_lines` keeps: after i turns the world and the output are those of the first i lines.
-use Rattle.std.proofs.Common.{◌≡◌, ℕ, ◌+◌, ◌*◌, ◌-◌, ◌/◌, ◌≤◌, ◌<◌, true, List, ◌++◌, length, take, sym, ◌∙◌, add-one, arith}
+-- What the loop of `trial::turns::run_lines` keeps: after i turns the world and the output are those of the first i lines, and the rest of
+-- the input lies behind these.
+use Rattle.std.proofs.Common.{◌≡◌, ℕ, ◌+◌, ◌*◌, ◌-◌, ◌/◌, ◌≤◌, ◌<◌, true, List, ◌++◌, length, take, drop, sym, ap, ◌∙◌, add-one, arith, length-drop, length-append}
+use Rattle.std.proofs.lemmas.List.{take_at, drop_at}
+use lib.Seq.{drop-drop}
 use borrow.Rule.Slice.PartMut.{put_mid, same_len_mid}
 use Rattle.block_spec.proofs.Lent.{part_length}
 use Rattle.script.proofs.Laying.{pushed}
@@ -52,9 +55,31 @@ module _ {w : World} {input output₀ : List ℕ} {state : State} {room list out
             ∙ (λ t. printed w input i ++ line_of (call t).letter (answer t)));
       }
 
-abbrev pub invariant-loop-i : goal.invariant-loop-i
-invariant-loop-i l =
-    Running (world l.initial.state l.initial.room l.initial.list) l.input l.initial.output l.state l.room l.list l.output l.i
+-- the lines that are left, each of 38 bytes: what of the input lies behind the first i
+pub record Left (input rest : List ℕ) (size i : ℕ) : Type 0 where
+  pub each : size ≡ 38
+  pub behind : rest ≡ drop (38 * i) input
 
-abbrev pub decreases-loop-i : goal.decreases-loop-i
-decreases-loop-i l = length l.input / 38 - l.i
+-- A line that comes off the front of the rest is line i of the input, which has so many, and what is left lies behind it.
+pub line_off : {input rest line rest' : List ℕ} {size i : ℕ} → Left input rest size i → rest ≡ line ++ rest' → length line ≡ size →
+    (i < length input / 38) × (line_at input i ≡ line) × (rest' ≡ drop (38 * (i + 1)) input)
+line_off {input} {rest} {line} {rest'} {size} {i} k is long =
+    let n : length line ≡ 38 = long ∙ k.each in
+    let front : drop (38 * i) input ≡ line ++ rest' = sym k.behind ∙ is in
+    let many = ap length front ∙ length-append line rest' in
+    let next : 38 * i + 38 ≡ 38 * (i + 1) = omega arith in (
+      omega (arith, n, many, length-drop (38 * i) input),
+      ap (take 38) front ∙ take_at line rest' 38 n,
+      sym (drop_at line rest' 38 n) ∙ ap (drop 38) (sym front) ∙ drop-drop 38 (38 * i) input ∙ ap (λ (j : ℕ). drop j input) next,
+    )
+
+-- Where no whole line is left, the lines before are all that the input has.
+pub none_left : {input rest : List ℕ} {size i : ℕ} → Left input rest size i → length rest < size → length input / 38 ≤ i
+none_left {input} {rest} {size} {i} k short =
+    let many = ap length k.behind in
+    omega (arith, k.each, short, many, length-drop (38 * i) input)
+
+abbrev pub invariant-loop-line : goal.invariant-loop-line
+invariant-loop-line l =
+    Running (world l.initial.state l.initial.room l.initial.list) l.input l.initial.output l.state l.room l.list l.output l.calls
+    × Left l.input l.line-iterator.rest.now l.line-iterator.size l.calls

@@ -1,27 +1,17 @@
--- `trial::whole_calls::digest_of` meets its contract: after k turns h is the digest of the first k words.
-use Rattle.std.proofs.Common.{◌≡◌, length, refl, sym, add-one, arith}
+-- `trial::whole_calls::digest_of` meets its contract: h is the digest of the words that it has been over.
+use Rattle.std.proofs.Common.{◌≡◌, length, refl, add-one, arith}
 use Rattle.trial.specs.Calls.{digest}
-use Rattle.trial.proofs.whole_calls.digest_of.Invariants.{small}
 use Rattle.trial.proofs.whole_calls.digest_of.Goals as goal
 
-pub loop-k-init : goal.loop-k-init
+pub loop-word-init : goal.loop-word-init
 unfolding digest
-loop-k-init c = (omega arith, refl)
+loop-word-init c = refl
 
-pub overflow_mul-h : goal.overflow_mul-h
-overflow_mul-h c = omega (arith, small c.args.words.now c.loop-k.k, c.loop-k.invariant.1)
-
-pub overflow_add-h : goal.overflow_add-h
-overflow_add-h c = omega (arith, small c.args.words.now c.loop-k.k, c.loop-k.invariant.1, c.type_inv.words c.loop-k.k)
-
-pub loop-k-preserved : goal.loop-k-preserved
+pub loop-word-preserved : goal.loop-word-preserved
 unfolding digest
-loop-k-preserved c = (omega arith, rw (add-one, ← c.loop-k.invariant.1))
-
-pub overflow_cast-result : goal.overflow_cast-result
-overflow_cast-result c = omega (arith, small c.args.words.now c.loop-k.k, c.loop-k.invariant.1)
+loop-word-preserved c = rw (add-one, ← c.loop-word.invariant) (omega arith)
 
 pub returns : goal.returns
 returns c =
-    let all : c.loop-k.k ≡ length c.args.words.now = omega arith in
-    rw (sym all) c.loop-k.invariant.1
+    let all : c.loop-word.word-index ≡ length c.args.words.now = omega arith in
+    rw all at c.loop-word.invariant

@@ -4,12 +4,12 @@ use Rattle.trial.specs.Calls.{filled}
 use Rattle.trial.proofs.whole_calls.fill.Invariants.{turned, ended}
 use Rattle.trial.proofs.whole_calls.fill.Goals as goal
 
-pub loop-k-init : goal.loop-k-init
+pub loop-place-init : goal.loop-place-init
 unfolding filled
-loop-k-init c = record { most = omega arith; room = refl; laid = refl; next = omega arith; steps = refl }
+loop-place-init c = record { most = omega arith; room = refl; laid = refl; next = omega arith; steps = refl }
 
-pub loop-k-preserved : goal.loop-k-preserved
-loop-k-preserved c = turned c.loop-k.invariant (omega arith)
+pub loop-place-preserved : goal.loop-place-preserved
+loop-place-preserved c = turned c.loop-place.invariant c.loop-place-test.true
 
 pub returns : goal.returns
-returns c = ended c.loop-k.invariant (omega arith)
+returns c = ended c.loop-place.invariant (omega arith)

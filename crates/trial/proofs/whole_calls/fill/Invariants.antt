@@ -1,5 +1,5 @@
 -- What the loop of `trial::whole_calls::fill` keeps: after k turns the first k words are filled, and the next word to lay down is known.
-use Rattle.std.proofs.Common.{◌≡◌, ℕ, ◌+◌, ◌*◌, ◌-◌, ◌%◌, ◌≤◌, ◌<◌, List, [], ◌∷◌, ◌++◌, length, take, set, sym, ◌∙◌, add-one, arith, length-set, take-suc-set}
+use Rattle.std.proofs.Common.{◌≡◌, ℕ, ◌+◌, ◌*◌, ◌%◌, ◌≤◌, ◌<◌, List, [], ◌∷◌, ◌++◌, length, take, set, sym, ◌∙◌, add-one, arith, length-set, take-suc-set}
 use native.Mathlib.Nat.{suc-mul}
 use lib.Seq.{take-length}
 use Rattle.trial.specs.Calls.{filled}
@@ -37,8 +37,5 @@ module _ {first step : ℕ} {words₀ words : List ℕ} {word by k : ℕ} (f : F
       let places : take k words ≡ words = rw (e ∙ sym f.room) (take-length words) in
       rw e at (sym places ∙ f.laid)
 
-abbrev pub invariant-loop-k : goal.invariant-loop-k
-invariant-loop-k l = Filling l.first l.step l.initial.words l.words l.word l.by l.k
-
-abbrev pub decreases-loop-k : goal.decreases-loop-k
-decreases-loop-k l = length l.initial.words - l.k
+abbrev pub invariant-loop-place : goal.invariant-loop-place
+invariant-loop-place l = Filling l.first l.step l.initial.words l.words l.word l.by l.place-index
