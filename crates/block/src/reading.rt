@@ -11,6 +11,7 @@ use crate::judging::judge;
 use block_spec::{BlockRead, Run};
 use control::steps_reading;
 use port::{settle_fetch, step_if};
+use port_spec::Fetched;
 use registers::Registers;
 use words::{WordNumber, fetch_word, word_of};
 
@@ -19,7 +20,7 @@ use words::{WordNumber, fetch_word, word_of};
 pub(crate) fn fetch_here(r: Registers, memory: &[u16]) -> Registers
     ensures { result ≡ standing memory.now r.control r.pointer }
 {
-    settle_fetch(r, fetch_word(memory, word_of(r.pointer))).registers
+    settle_fetch(r, Fetched::from(fetch_word(memory, word_of(r.pointer)))).registers
 }
 
 // Reads one by one: each hands out the word already held; then the pointer steps where INCR is set, and the fetch follows.

@@ -7,7 +7,7 @@ ghost use Rattle.door_spec.specs.Bytes.{words_of};
 ghost use Rattle.door.specs.Parts.{is_store, StoredBytes, CycledBytes};
 
 use port::{settle_fetch, settle_store, step_if};
-use port_spec::{Carried, Cycle, Due};
+use port_spec::{Carried, Cycle, Due, Fetched};
 use registers::Registers;
 use words::{WordNumber, high_byte, join_bytes, low_byte, word_of};
 
@@ -46,7 +46,7 @@ pub(crate) fn fetch_if_due(r: Registers, due: Due, memory: &[u8]) -> Carried
 {
     if let Due::Fetch { with_step } = due {
         let q = step_if(with_step, r);
-        return settle_fetch(q, fetch_bytes(memory, word_of(q.pointer)));
+        return settle_fetch(q, Fetched::from(fetch_bytes(memory, word_of(q.pointer))));
     }
     Carried {
         registers: r,

@@ -2,7 +2,7 @@
 ghost use Rattle.std.specs.Prelude.{◌≡◌};
 ghost use Rattle.port_spec.specs.Cycle.{stepped, cycle_of, after_fetch, after_store, Cycled};
 
-use port_spec::{Carried, Cycle, Due};
+use port_spec::{Carried, Cycle, Due, Fetched};
 use registers::{Registers, set_latch, set_pointer};
 use words::{fetch_word, step_address, store_word, word_of};
 
@@ -25,14 +25,14 @@ fn cycle_of(inside: bool) -> Cycle
     if inside { Cycle::Inside } else { Cycle::Empty }
 }
 
-// What a fetch leaves: its word in HSTDATA, or the filler FFFFh, hollow, where it missed.
+// What a fetch leaves: its word in HSTDATA, hollow where it missed.
 #[tactic(auto, unfolding(port_spec::specs::Cycle::after_fetch))]
-pub fn settle_fetch(r: Registers, f: Option<u16>) -> Carried
+pub fn settle_fetch(r: Registers, f: Fetched) -> Carried
     ensures { result ≡ after_fetch r f }
 {
     Carried {
-        registers: set_latch(r, f.unwrap_or(0xffff), f.is_none()),
-        cycle: cycle_of(f.is_some()),
+        registers: set_latch(r, f.word, !f.inside),
+        cycle: cycle_of(f.inside),
     }
 }
 
@@ -59,7 +59,7 @@ pub fn carry(r: Registers, due: Due, memory: &mut [u16]) -> Carried
         },
         Due::Fetch { with_step } => {
             let q = step_if(with_step, r);
-            settle_fetch(q, fetch_word(memory, word_of(q.pointer)))
+            settle_fetch(q, Fetched::from(fetch_word(memory, word_of(q.pointer))))
         }
         Due::Store { with_step } => {
             let inside = store_word(memory, word_of(r.pointer), r.latch);

@@ -9,7 +9,7 @@ use Rattle.words.specs.declared.WordNumber.{WordNumber}
 use Rattle.words.proofs.MemoryWords.{fetched_some, fetched_beyond}
 use Rattle.registers.specs.Registers.{with_latch}
 use Rattle.registers.specs.declared.Registers.{Registers}
-use Rattle.port_spec.specs.Cycle.{stepped, cycle_of, after_fetch, after_store, carried, shows, standing}
+use Rattle.port_spec.specs.Cycle.{stepped, cycle_of, brought, after_fetch, after_store, carried, shows, standing}
 use Rattle.port_spec.specs.Host.{begin_access, done, access}
 use Rattle.port_spec.specs.declared.Access.{Access}
 use Rattle.port_spec.specs.declared.Cycle.TheVariants.{Empty}
@@ -23,7 +23,7 @@ after_storing r w s = record { pointer = stepped_from s r.pointer; latch = w; co
 
 -- A fetch at the pointer leaves the registers standing there.
 pub fetched_here : (r : Registers) (m : List ℕ) →
-    (after_fetch r (fetch_at m (word_at r.pointer))).registers ≡ standing m r.control r.pointer
+    (after_fetch r (brought (fetch_at m (word_at r.pointer)))).registers ≡ standing m r.control r.pointer
 unfolding after_fetch standing
 fetched_here r m = ap (λ (there : Bool). with_latch r (shows m r.pointer) (not there)) (fetched_some m (word_at r.pointer))
 
@@ -35,7 +35,7 @@ fetch_leaves r m s = fetched_here (stepped s r) m
 
 -- A fetch beyond memory leaves FFFFh in HSTDATA, hollow, and is marked empty.
 pub missed_leaves : (r : Registers) (m : List ℕ) (n : WordNumber) → in_memory m n ≡ false →
-    after_fetch r (fetch_at m n) ≡ record { registers = with_latch r 0xffff true; cycle = Empty }
+    after_fetch r (brought (fetch_at m n)) ≡ record { registers = with_latch r 0xffff true; cycle = Empty }
 unfolding after_fetch cycle_of
 missed_leaves r m n e = rw (fetched_beyond m n e) refl
 

@@ -8,6 +8,7 @@ pub mod One
 pub mod HostTold
 pub mod Unselected
 pub mod OpenByte
+pub mod Brought
 pub mod Leaves
 pub mod DataRegister
 pub mod OtherRegisters

@@ -2,10 +2,10 @@
 -- The step is by whole words, so it keeps the low bits, and from two addresses of one word it goes to one word.
 use Prim.Native.Nat.{ℕ, ◌%◌}
 use mathlib.Core.Path.{◌≡◌, refl, sym, ap, ◌∙◌}
-use mathlib.Core.Bool.{Bool, true, false, cond}
+use mathlib.Core.Bool.{Bool, true, false, cond, not}
 use mathlib.Core.List.{List}
 use lib.Dec.{eqb}
-use Rattle.std.specs.Option.{is_some, is_none}
+use Rattle.std.specs.Option.{is_some}
 use Rattle.words.specs.Addresses.{word_at, stepped_from}
 use Rattle.words.specs.Memory.{in_memory, fetch_at}
 use Rattle.words.specs.declared.BitAddress.{BitAddress}
@@ -13,7 +13,7 @@ use Rattle.words.specs.declared.WordNumber.{WordNumber}
 use Rattle.words.proofs.Addresses.{step_keeps_low_bits, step_of_word}
 use Rattle.registers.specs.Registers.{with_pointer, register_word, written}
 use Rattle.registers.specs.declared.Registers.{Registers}
-use Rattle.port_spec.specs.Cycle.{stepped, cycle_of, word_or_filler, after_fetch, after_store, carried, memory_after}
+use Rattle.port_spec.specs.Cycle.{stepped, cycle_of, brought, after_fetch, after_store, carried, memory_after}
 use Rattle.port_spec.specs.Host.{begin_access, number_for, refused, done, access, access_memory}
 use Rattle.port_spec.specs.Deeds.{Content, content}
 use Rattle.port_spec.specs.declared.Access.{Access}
@@ -62,7 +62,7 @@ module _ (m : List ℕ) (q r : Registers) (e : word_at q.pointer ≡ word_at r.p
       let w = one_word s q.pointer r.pointer e in
       record {
         cycle = ap (λ (n : WordNumber). cycle_of (is_some (fetch_at m n))) w;
-        data_left = ap (λ (n : WordNumber). record { word = word_or_filler (fetch_at m n); hollow = is_none (fetch_at m n) }) w;
+        data_left = ap (λ (n : WordNumber). record { word = (brought (fetch_at m n)).word; hollow = not (is_some (fetch_at m n)) }) w;
         next = w;
       }
   cycle_by_word (Store s) =

@@ -20,7 +20,7 @@ use Rattle.registers.specs.Registers.{written}
 use Rattle.registers.specs.Processor.{processor_written, processor_writes}
 use Rattle.registers.specs.declared.Registers.{Registers}
 use Rattle.registers.specs.declared.ProcessorWrite.{ProcessorWrite}
-use Rattle.port_spec.specs.Cycle.{stepped, cycle_of, word_or_filler, after_fetch, after_store, carried}
+use Rattle.port_spec.specs.Cycle.{stepped, cycle_of, brought, after_fetch, after_store, carried}
 use Rattle.port_spec.specs.Host.{read_due, write_due, begin_access, done}
 use Rattle.port_spec.specs.Sequences.{Machine, answer_of, after}
 use Rattle.port_spec.specs.Deeds.{Deed, host, processor, reset, elsewhere, does, Content, content, reads_data, writes_data, has_cycle}
@@ -37,7 +37,7 @@ use Rattle.port_spec.proofs.Taken.{either_done}
 
 -- HSTDATA after a fetch of word n: hollow where memory does not have it
 abbrev pub found : List ℕ → WordNumber → Content
-found m n = record { word = word_or_filler (fetch_at m n); hollow = not (in_memory m n) }
+found m n = record { word = (brought (fetch_at m n)).word; hollow = not (in_memory m n) }
 
 -- HSTDATA after a store: the word that it has, held
 abbrev pub kept : Registers → Content

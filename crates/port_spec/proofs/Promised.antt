@@ -16,7 +16,7 @@ use Rattle.words.proofs.MemoryWords.{fetched_some}
 use Rattle.control.specs.Control.{incw, closes, fetches, host_low, control_laid}
 use Rattle.registers.specs.Registers.{with_latch, with_control, register_word, written}
 use Rattle.registers.specs.declared.Registers.{Registers}
-use Rattle.port_spec.specs.Cycle.{cycle_number, stepped, cycle_of, after_fetch, after_store, carried, memory_after, Cycled, standing}
+use Rattle.port_spec.specs.Cycle.{cycle_number, brought, stepped, cycle_of, after_fetch, after_store, carried, memory_after, Cycled, standing}
 use Rattle.port_spec.specs.Host.{register_of, lanes_of, access, Accessed}
 use Rattle.port_spec.specs.Deeds.{content, Says, writes_data, has_cycle, ahead, word_used}
 use Rattle.port_spec.specs.declared.Access.{Access}
@@ -31,6 +31,8 @@ use Rattle.port_spec.proofs.OpenByte.{open_has_no_cycle, open_keeps_memory}
 use Rattle.port_spec.proofs.Leaves.{after_storing, fetch_leaves, store_leaves}
 use Rattle.port_spec.proofs.DataRegister.{read_fetches, read_open, write_stores, write_steps, write_open, read_keeps_memory}
 use Rattle.port_spec.proofs.OtherRegisters.{read_changes_nothing, load_fetches, load_open, load_keeps_memory, control_written}
+use Rattle.port_spec.proofs.FetchedFromOptionU16.from.Kinds as fetched_kinds
+use Rattle.port_spec.proofs.FetchedFromOptionU16.from.Reads as fetched
 use Rattle.port_spec.proofs.U32FromCycle.from.Kinds as from_kinds
 use Rattle.port_spec.proofs.U32FromCycle.from.Reads as from
 use Rattle.port_spec.proofs.NoMiss.{TrueMark, true_mark, rule, hollow_filler, miss_leaves}
@@ -181,6 +183,14 @@ module _ {r : Registers} {m : List ℕ} {c : Carried} {m' : List ℕ} where
   unfolding carried memory_after after_store cycle_of
   store_done {s} k =
       (ap (λ (x : Carried). x.registers) k.outcome ∙ store_leaves r m s, ap (λ (x : Carried). x.cycle) k.outcome, k.memory)
+
+-- ---- what a fetch brings
+-- `Fetched::from` takes any found, a word or none, and all that its contract allows is `brought` of it.
+pub fetched_contract : Contract fetched_kinds.ps fetched_kinds.r fetched.Pre fetched.Post
+    (λ κs args f left.
+    let found = args.0 in
+    f ≡ brought found)
+fetched_contract = record { takes_any = λ κs args. tt; says = λ κs args f left p. p }
 
 -- ---- the number of a cycle
 -- `u32::from` takes any c, a cycle, and all that its contract allows is `cycle_number` of it, at most 2.

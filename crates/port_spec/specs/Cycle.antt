@@ -3,18 +3,20 @@
 --   stepped s r         the registers with the pointer stepped, where s says so
 --   cycle_of inside     what the answer says of a cycle that was called for
 --   word_or_filler f    the word that a fetch found, or the filler where it found none
---   after_fetch r f     the registers and the cycle after a fetch that found f
+--   brought f           what a fetch brings that found f
+--   after_fetch r f     the registers and the cycle after a fetch that brought f
 --   after_store r s i   the registers and the cycle after a store
 --   carried, memory_after   the cycle that is due, done on a memory
 --   shows m a           the word that a fetch at bit address a brings, or the filler
 --   standing m c a      the registers after a fetch at a
 use Rattle.std.specs.Prelude.{ℕ, Bool, false, cond, not, Option, List, ◌≡◌}
-use Rattle.std.specs.Option.{is_some, is_none, unwrap_or}
+use Rattle.std.specs.Option.{is_some, unwrap_or}
 use Rattle.words.specs.Addresses.{word_at, stepped_from}
 use Rattle.words.specs.Memory.{in_memory, fetch_at, store_at}
 use Rattle.words.specs.declared.BitAddress.{BitAddress}
 use Rattle.registers.specs.Registers.{with_pointer, with_latch}
 use Rattle.registers.specs.declared.Registers.{Registers}
+use Rattle.port_spec.specs.declared.Fetched.{Fetched}
 use Rattle.port_spec.specs.declared.Due.{Due}
 use Rattle.port_spec.specs.declared.Due.TheVariants.{Nothing, Fetch, Store}
 use Rattle.port_spec.specs.declared.Cycle.{Cycle}
@@ -35,12 +37,16 @@ stepped s r = with_pointer r (stepped_from s r.pointer)
 unfoldable pub cycle_of : Bool → Cycle
 cycle_of inside = cond inside Inside Empty
 
--- "An empty fetch puts FFFFh in HSTDATA and makes it hollow" (house); "A fetch inside memory clears the hollow mark"
+-- "An empty fetch puts FFFFh in HSTDATA" (house)
 abbrev pub word_or_filler : Option ℕ → ℕ
 word_or_filler f = unwrap_or f 0xffff
 
-unfoldable pub after_fetch : Registers → Option ℕ → Carried
-after_fetch r f = record { registers = with_latch r (word_or_filler f) (is_none f); cycle = cycle_of (is_some f) }
+abbrev pub brought : Option ℕ → Fetched
+brought f = record { word = word_or_filler f; inside = is_some f }
+
+-- "An empty fetch .. makes it hollow" (house); "A fetch inside memory clears the hollow mark"
+unfoldable pub after_fetch : Registers → Fetched → Carried
+after_fetch r f = record { registers = with_latch r f.word (not f.inside); cycle = cycle_of f.inside }
 
 -- "the hollow mark clears, then with INCW 1 the pointer gains 16", also where the store was dropped
 unfoldable pub after_store : Registers → Bool → Bool → Carried
@@ -49,7 +55,7 @@ after_store r s inside = record { registers = stepped s (with_latch r r.latch fa
 -- a fetch: "the pointer gains 16; then a fetch"; a store: "the whole of HSTDATA is stored at the pointer"
 unfoldable pub carried : Registers → Due → List ℕ → Carried
 carried r Nothing m = record { registers = r; cycle = None }
-carried r (Fetch s) m = after_fetch (stepped s r) (fetch_at m (word_at (stepped s r).pointer))
+carried r (Fetch s) m = after_fetch (stepped s r) (brought (fetch_at m (word_at (stepped s r).pointer)))
 carried r (Store s) m = after_store r s (in_memory m (word_at r.pointer))
 
 unfoldable pub memory_after : Registers → Due → List ℕ → List ℕ
@@ -64,7 +70,7 @@ pub record Cycled (r : Registers) (due : Due) (m : List ℕ) (c : Carried) (m' :
 
 -- ---- what a fetch at bit address a brings, and the registers that it leaves with control word c: hollow exactly if it missed
 abbrev pub shows : List ℕ → BitAddress → ℕ
-shows m a = word_or_filler (fetch_at m (word_at a))
+shows m a = (brought (fetch_at m (word_at a))).word
 
 unfoldable pub standing : List ℕ → ℕ → BitAddress → Registers
 standing m c a = record { pointer = a; latch = shows m a; control = c; hollow = not (in_memory m (word_at a)) }

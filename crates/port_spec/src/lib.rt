@@ -4,7 +4,7 @@
 #![tactic(auto)]
 
 ghost use Rattle.std.specs.Prelude.{◌≡◌, ◌≤◌};
-ghost use Rattle.port_spec.specs.Cycle.{cycle_number};
+ghost use Rattle.port_spec.specs.Cycle.{cycle_number, brought};
 
 use registers::Registers;
 
@@ -44,6 +44,25 @@ impl From<Cycle> for u32 {
         ensures { (result ≡ cycle_number c) × (result ≤ 2) }
     {
         c as u32
+    }
+}
+
+// What a fetch brings to HSTDATA: a word, and whether memory has it.
+#[derive(Clone, Copy, Debug, PartialEq, Eq)]
+pub struct Fetched {
+    pub word: u16,
+    pub inside: bool,
+}
+
+// What a fetch found, as it brings it: the filler FFFFh where memory has no such word.
+impl From<Option<u16>> for Fetched {
+    fn from(found: Option<u16>) -> Fetched
+        ensures { result ≡ brought found }
+    {
+        Fetched {
+            word: found.unwrap_or(0xffff),
+            inside: found.is_some(),
+        }
     }
 }
 

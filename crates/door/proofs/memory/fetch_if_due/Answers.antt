@@ -9,7 +9,7 @@ unfolding carried bytes_after
 returns-in-Fetch c =
     let d = c.in-Fetch.is in
     record {
-      outcome = rw (d, c.settle_fetch.ensures, c.fetch_bytes.ensures, c.word_of.ensures, c.step_if-q.ensures);
+      outcome = rw (d, c.settle_fetch.ensures, c.from.ensures, c.fetch_bytes.ensures, c.word_of.ensures, c.step_if-q.ensures);
       memory = rw d;
     }
 
