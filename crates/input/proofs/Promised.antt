@@ -26,6 +26,8 @@ use Rattle.input.proofs.whole.fill_whole.Kinds as fill_whole_kinds
 use Rattle.input.proofs.whole.fill_whole.Reads as fill_whole
 use Rattle.input.proofs.records.read_record.Kinds as read_record_kinds
 use Rattle.input.proofs.records.read_record.Reads as read_record
+use Rattle.input.proofs.records.read_record_from.Kinds as read_record_from_kinds
+use Rattle.input.proofs.records.read_record_from.Reads as read_record_from
 use Rattle.input.proofs.records.all_records.Kinds as all_records_kinds
 use Rattle.input.proofs.records.all_records.Reads as all_records
 use Rattle.input.proofs.records.places_lent.Kinds as places_lent_kinds
@@ -106,6 +108,14 @@ pub read_record_contract : Contract read_record_kinds.ps read_record_kinds.r rea
     let bytes' = left.0 in
     length bytes'.now ≡ length bytes.now)
 read_record_contract = record { takes_any = λ κs args. tt; says = λ κs args r left p. p }
+
+-- `read_record_from` takes any bytes and handles, and all that its contract allows is the same.
+pub read_record_from_contract : Contract read_record_from_kinds.ps read_record_from_kinds.r read_record_from.Pre read_record_from.Post
+    (λ κs args r left.
+    let bytes = args.0 in
+    let bytes' = left.0 in
+    length bytes'.now ≡ length bytes.now)
+read_record_from_contract = record { takes_any = λ κs args. tt; says = λ κs args r left p. p }
 
 -- `all_records` makes the records of a script of any length, and all that its contract allows is that they count down from 2^64 - 1.
 pub all_records_contract : (n : ℕ) (fits : Fits w64 n) →

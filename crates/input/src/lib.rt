@@ -7,7 +7,7 @@ mod records;
 mod whole;
 
 pub use filling::fill;
-pub use records::{Records, all_records, places_lent, read_record};
+pub use records::{Records, all_records, places_lent, read_record, read_record_from};
 use std::error::Error;
 use std::fmt;
 pub use whole::fill_whole;

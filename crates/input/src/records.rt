@@ -6,9 +6,23 @@ use crate::{Unread, fill_whole};
 use std::io::{Stdin, Stdout};
 
 // Reads the next record of a script, as many bytes as are lent, and answers whether it came whole. Bytes that are no whole record end a
-// script too, and are told of. (It lends the bytes and answers no array, so that it takes a record of any length; `Records` has the array.)
-// (A bool and no Option: what came stands in the bytes that are lent, and `read_record_contract` speaks of their length alone.)
-pub fn read_record(bytes: &mut [u8], from: Stdin, to: Stdout) -> bool
+// script too, and are told of. For a caller without handles: it reads standard input and writes standard output by the kit's `io`.
+pub fn read_record(bytes: &mut [u8]) -> bool
+    ensures { length bytes.new ≡ length bytes.old }
+{
+    let got = io::read_full(0, bytes);
+    if got == bytes.len() {
+        return true;
+    }
+    if 0 < got {
+        io::write_all(1, b"bad script\n");
+    }
+    false
+}
+
+// The same by handles. (It lends the bytes and answers no array, so that it takes a record of any length; `Records` has the array.)
+// (A bool and no Option: what came stands in the bytes that are lent, and `read_record_from_contract` speaks of their length alone.)
+pub fn read_record_from(bytes: &mut [u8], from: Stdin, to: Stdout) -> bool
     ensures { length bytes.new ≡ length bytes.old }
 {
     let (Ok(got) | Err(Unread { all: got })) = fill_whole(bytes, from);
@@ -42,7 +56,7 @@ impl<const N: usize> Iterator for Records<N> {
         }
         self.turns -= 1;
         let mut bytes = [0u8; N];
-        if read_record(&mut bytes, self.from, self.to) {
+        if read_record_from(&mut bytes, self.from, self.to) {
             Some(bytes)
         } else {
             None
