@@ -6,11 +6,15 @@ use mathlib.Core.Path.{◌≡◌, refl, sym, ap, ◌∙◌}
 use mathlib.Core.List.{List, [], ◌∷◌, ◌++◌}
 use lib.ListN.{length}
 use lib.Seq.{length-take-le}
+use Rattle.std.specs.Prelude.{Result}
+use Rattle.input.specs.Filling.{FilledBehind}
+use Rattle.input.specs.declared.Unread.{Unread}
 use Rattle.salvage_spec.specs.Pieces.{beginning, piece_taken, pieces_taken, Progress as SalvageProgress}
 use Rattle.salvage_spec.proofs.InPieces.{taken_on}
 use Rattle.salvage_command.specs.Turning.{Room, SalvagedTurn, SoFar, Tells}
 use Rattle.salvage_command.specs.declared.Turn.{Turn}
 use Rattle.salvage_command.specs.declared.pieces.Progress.{Progress}
+use Rattle.salvage_command.proofs.OnePiece.{by_parts}
 
 -- between two turns, when so many have been: 65,540 bytes a turn, and 2^46 turns in all
 pub record Going (piece sound : List ℕ) (p : Progress) (turns : ℕ) : Type 0 where
@@ -25,6 +29,23 @@ pub record Going (piece sound : List ℕ) (p : Progress) (turns : ℕ) : Type 0 
 pub nothing_yet : (piece : List ℕ) → SoFar (record { kept = 0; gone = 0; held = 0; stop = 0 }) piece
 unfolding pieces_taken
 nothing_yet piece = record { pieces = []; made = refl }
+
+-- A read behind the bytes that are held leaves all that stands between two turns.
+pub filled_on : {piece sound piece' : List ℕ} {p : Progress} {turns : ℕ} {r : Result ℕ Unread} →
+    Going piece sound p turns → FilledBehind piece p.held r piece' → Going piece' sound p turns
+filled_on {p = p} g f =
+    record {
+      so_far =
+          record {
+            pieces = g.so_far.pieces;
+            made = ap (λ (l : List ℕ). by_parts p.kept l p.gone p.stop) f.first ∙ g.so_far.made;
+          };
+      few = g.few;
+      piece_long = f.as_long ∙ g.piece_long;
+      sound_long = g.sound_long;
+      kept = g.kept;
+      gone = g.gone;
+    }
 
 module _ {piece sound : List ℕ} {p : Progress} {turns : ℕ} (g : Going piece sound p turns) (more : turns < 70368744177664) where
   -- As long as turns are left, one can be taken.

@@ -6,10 +6,12 @@
 --   Ready                  the same, when so many bytes are at hand: those that are held, and those that came behind them
 --   Took                   what is made of the bytes at hand
 --   SalvagedTurn           a whole turn: some bytes came behind those that are held
+--   UnreadTurn             a turn that gives up: its read failed, the bytes stay, and nothing is laid out
 --   SoFar                  between two turns: some pieces came one after another, and the progress is theirs
 --   Tells                  a report of an input that came in pieces, what is held at the end being left too: `in_pieces` of crate
 --                          `salvage_spec` says that it is that of the whole
-use Rattle.std.specs.Prelude.{ℕ, ◌+◌, ◌-◌, ◌<◌, ◌≤◌, min, cond, List, ◌≡◌, ltb, length, take, drop}
+use Rattle.std.specs.Prelude.{ℕ, ◌+◌, ◌-◌, ◌<◌, ◌≤◌, min, cond, List, ◌≡◌, ltb, length, take, drop, Result, Err}
+use Rattle.input.specs.declared.Unread.{Unread}
 use Rattle.salvage_spec.specs.Pieces.{beginning, may_go_on, piece_taken, piece_written, pieces_taken, Progress as SalvageProgress}
 use Rattle.salvage_command.specs.declared.Turn.{Turn}
 use Rattle.salvage_command.specs.declared.pieces.Progress.{Progress}
@@ -56,6 +58,11 @@ pub record SalvagedTurn (p : Progress) (piece : List ℕ) (t : Turn) (piece' sou
   pub few : t.taken.progress.held ≤ 4
   pub kept : t.taken.progress.kept ≤ p.kept + length piece
   pub gone : t.taken.progress.gone ≤ p.gone + length piece
+
+pub record UnreadTurn (read : Result ℕ Unread) (piece sound : List ℕ) (u : Unread) (piece' sound' : List ℕ) : Type 0 where
+  pub failed : read ≡ Err u
+  pub stays : piece' ≡ piece
+  pub nothing_laid : sound' ≡ sound
 
 pub record SoFar (p : Progress) (piece : List ℕ) : Type 0 where
   pub pieces : List (List ℕ)

@@ -8,8 +8,9 @@
 mod pieces;
 mod report;
 
-ghost use Rattle.std.specs.Prelude.{◌≡◌, length, IfOk, IfSome};
-ghost use Rattle.salvage_command.specs.Turning.{Room, SalvagedTurn, Tells};
+ghost use Rattle.std.specs.Prelude.{◌≡◌, ◌≤◌, length, IfOk, IfErr, IfSome};
+ghost use Rattle.input.specs.Filling.{there};
+ghost use Rattle.salvage_command.specs.Turning.{Room, SalvagedTurn, UnreadTurn, Tells};
 
 use input::{Unread, fill};
 use output::write_all;
@@ -25,13 +26,20 @@ struct Turn {
     more: bool,
 }
 
-// One turn: a piece comes, and what is kept of it is laid out to be written. Where the read fails nothing came, and nothing is left to be
-// written: the bytes that are held are no whole record.
-fn take_turn(p: Progress, piece: &mut [u8], sound: &mut [u8], from: Stdin) -> Result<Turn, Unread>
-    requires { Room p piece.old sound.old }
-    ensures { IfOk result (λ t. SalvagedTurn p piece.old t piece.new sound.new) }
+// One turn: a piece came, as the read behind the bytes that are held answers, and what is kept of it is laid out to be written. Where the
+// read failed nothing came, and nothing is left to be written: the bytes that are held are no whole record.
+fn take_turn(
+    p: Progress,
+    piece: &mut [u8],
+    sound: &mut [u8],
+    read: Result<usize, Unread>,
+) -> Result<Turn, Unread>
+    requires room { Room p piece.old sound.old }
+    requires came { (p.held ≤ there read) × (there read ≤ length piece.old) }
+    ensures taken { IfOk result (λ t. SalvagedTurn p piece.old t piece.new sound.new) }
+    ensures unread { IfErr result (λ u. UnreadTurn read piece.old sound.old u piece.new sound.new) }
 {
-    let all = fill(piece, p.held, from)?;
+    let all = read?;
     let came = all - p.held;
     let taken = take_piece(p, piece, sound, all);
     Ok(Turn {
@@ -58,7 +66,8 @@ fn salvage(
         stop: 0,
     };
     for _ in 0..70368744177664u64 {
-        let turn = take_turn(progress, piece, sound, from)?;
+        let read = fill(piece, progress.held, from);
+        let turn = take_turn(progress, piece, sound, read)?;
         progress = turn.taken.progress;
         write_all(&sound[..turn.taken.wrote], &mut to)?;
         if !turn.more {

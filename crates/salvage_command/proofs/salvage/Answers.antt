@@ -1,6 +1,6 @@
 -- `salvage_command::salvage` meets its contract: at each turn what stands between two turns holds (`Going`).
 use native.Mathlib.Omega.{arith}
-use Rattle.salvage_command.proofs.Going.{nothing_yet, goes_on, tells}
+use Rattle.salvage_command.proofs.Going.{nothing_yet, filled_on, goes_on, tells}
 use Rattle.salvage_command.proofs.salvage.Goals as goal
 
 pub loop-init : goal.loop-init
@@ -17,9 +17,9 @@ loop-init c =
 
 pub returns-then-not-turn : goal.returns-then-not-turn
 returns-then-not-turn c =
-    tells c.loop.invariant c.loop-test.true c.in_ok-turn.ensures c.take_turn.auto.piece
+    tells (filled_on c.loop.invariant c.fill-read.ensures) c.loop-test.true c.in_ok-turn.ensures.taken c.take_turn.auto.piece
 
 pub loop-preserved : goal.loop-preserved
 loop-preserved c =
     let turn = c.take_turn in
-    goes_on c.loop.invariant c.loop-test.true c.in_ok-turn.ensures turn.auto.piece turn.auto.sound
+    goes_on (filled_on c.loop.invariant c.fill-read.ensures) c.loop-test.true c.in_ok-turn.ensures.taken turn.auto.piece turn.auto.sound
