@@ -45,5 +45,5 @@ mod turns;
 fn main(rt: HostRuntime) {
     let mut room = [0u16; 32769];
     let mut list = [0.0; 36];
-    turns::run(rt.stdin(), rt.stdout(), &mut room, &mut list);
+    turns::run(&mut room, &mut list, rt.stdin(), rt.stdout());
 }
