@@ -3,16 +3,16 @@ ghost use Rattle.std.specs.Prelude.{◌≡◌, ◌<◌};
 ghost use Rattle.bank_trial.specs.Record.{number_at, word_from, number_in, word_in, address_in, control_in, bank_in, port_in};
 
 use bank_spec::{Bank, BankPort, Banks};
-use words::BitAddress;
+use words::{BitAddress, join_four};
 
-// ---- numbers, low byte first (place by place: a slice of four would have to be made an array of four, and be no shorter)
+// ---- numbers, low byte first
 
 // The number whose first byte is byte k.
 fn number_at(bytes: &[u8; 40], k: usize) -> u32
     requires { k < 37 }
     ensures { result ≡ number_at bytes.now k }
 {
-    u32::from_le_bytes([bytes[k], bytes[k + 1], bytes[k + 2], bytes[k + 3]])
+    join_four(bytes[k], bytes[k + 1], bytes[k + 2], bytes[k + 3])
 }
 
 // The word whose first byte is byte k.

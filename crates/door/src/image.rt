@@ -3,7 +3,7 @@ ghost use Rattle.std.specs.Prelude.{◌≡◌};
 ghost use Rattle.door_spec.specs.Image.{registers_of, image_of};
 
 use registers::Registers;
-use words::BitAddress;
+use words::{BitAddress, join_four};
 
 // The registers that an image stands for.
 #[tactic(auto, unfolding(door_spec::specs::Image::registers_of))]
@@ -11,7 +11,7 @@ pub(crate) fn load(image: &[u8; 9]) -> Registers
     ensures { result ≡ registers_of image.now }
 {
     Registers {
-        pointer: BitAddress(u32::from_le_bytes([image[0], image[1], image[2], image[3]])),
+        pointer: BitAddress(join_four(image[0], image[1], image[2], image[3])),
         latch: u16::from_le_bytes([image[4], image[5]]),
         control: u16::from_le_bytes([image[6], image[7]]),
         hollow: image[8] == 1,

@@ -6,16 +6,15 @@ ghost use Rattle.measured.specs.Script.{number_in, record_in, access_in, begun_a
 use crate::Record;
 use port_spec::Access;
 use registers::Registers;
-use words::BitAddress;
+use words::{BitAddress, join_four};
 
 // The number at a place of a record.
-// (Place by place: a slice of four would have to be made an array of four, and be no shorter.)
 #[tactic(auto, unfolding(crate::specs::Script::number_in))]
 fn number_at(bytes: &[u8], at: usize) -> u32
     requires { at + 4 ≤ length bytes.now }
     ensures { result ≡ number_in bytes.now at }
 {
-    u32::from_le_bytes([bytes[at], bytes[at + 1], bytes[at + 2], bytes[at + 3]])
+    join_four(bytes[at], bytes[at + 1], bytes[at + 2], bytes[at + 3])
 }
 
 // The record that 16 bytes are.

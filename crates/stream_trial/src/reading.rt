@@ -3,12 +3,13 @@ ghost use Rattle.std.specs.Prelude.{◌≡◌};
 ghost use Rattle.stream_trial.specs.Record.{number, string_lent};
 
 use input::places_lent;
+use words::join_four;
 
 // How many bytes the stream had already.
 pub(crate) fn number_in(bytes: &[u8; 36]) -> u32
     ensures { result ≡ number bytes.now }
 {
-    u32::from_le_bytes([bytes[8], bytes[9], bytes[10], bytes[11]])
+    join_four(bytes[8], bytes[9], bytes[10], bytes[11])
 }
 
 // What is delivered of the string. (All bytes are made a slice first: a part of an array behind a reference has no rule in the logic.)
