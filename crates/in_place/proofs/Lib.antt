@@ -7,3 +7,5 @@ pub mod ByValue
 pub mod WholeDay
 -- ---- demand 3
 pub mod ByBytes
+-- ---- for a proof by hand: the port's types in a walk of the code
+pub mod PlainData
