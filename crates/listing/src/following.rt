@@ -14,6 +14,7 @@ impl<'a> Iterator for Accesses<'a> {
 
     ghost remaining = { λ s. at_most (length s.left.now) };
 
+    #[inline(always)]
     fn next(&mut self) -> Option<Access> {
         let Front::Good(access, size) = front_line(self.left) else {
             return None;

@@ -11,8 +11,10 @@ use crate::Front;
 use digits::{decimal_value, hex_value};
 use port_spec::Access;
 
-// The word that four hexadecimal digits say, the highest first.
+// The word that four hexadecimal digits say, the highest first. (The hints to inline here, at `front_line` and at `next` of `Accesses`:
+// what has several callers is not inlined without them, and a line costs a quarter more.)
 #[tactic(auto, unfolding(digits::specs::Digits::hex_value))]
+#[inline(always)]
 fn word_of(a: u8, b: u8, c: u8, d: u8) -> Option<u16>
     ensures { result ≡ word_said a b c d }
 {
@@ -80,6 +82,7 @@ fn judge_other(s: &[u8]) -> Front
 
 // The line that a text begins with.
 #[tactic(auto, using(crate::proofs::FrontLine::reads_front, crate::proofs::FrontLine::writes_front, crate::proofs::FrontLine::none_front))]
+#[inline(always)]
 pub fn front_line(s: &[u8]) -> Front
     ensures { result ≡ front_line s.now }
 {

@@ -6,7 +6,9 @@ use crate::Call;
 use crate::letters::is_letter;
 use digits::hex_value;
 
-// The number that stands at a place of a line: a space and eight digits.
+// The number that stands at a place of a line: a space and eight digits. (The hint to inline: its four calls have fixed
+// places, and a script of fields takes a fourteenth less.)
+#[inline(always)]
 fn number_at(line: &[u8], at: usize) -> Option<u32>
     requires { at + 9 ≤ length line.now }
     ensures { result ≡ number_said line.now at }
